@@ -17,7 +17,17 @@ use Rattle.tn_c.specs.contracts.unboxed.Unboxed as Unboxed
 use Rattle.tn_c.specs.contracts.handle.Handle as Handle
 
 abbrev pub E : Bx
-E = record { row = State.the_row; laws = inner.the_row_laws; al = record { row = Heap.the_row; laws = heap.the_row_laws; g = ghosts; d = dict; drops = impl [] tnil dnil } }
+E = record {
+  row = State.the_row;
+  laws = inner.the_row_laws;
+  al = record {
+    row = Heap.the_row;
+    laws = heap.the_row_laws;
+    g = ghosts;
+    d = dict;
+    drops = impl [] tnil dnil;
+  };
+}
 
 abbrev pub FromUnboxed : Slot 0
 FromUnboxed = plain (λ _. Unboxed.the_row State.the_row Heap.the_row ghosts)

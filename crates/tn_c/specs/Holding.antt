@@ -6,7 +6,8 @@ use Rattle.tn_c.specs.declared.held.Held.{Held}
 use Rattle.tn_c.specs.declared.held.Held.TheVariants as held
 use Rattle.tn_c_parts.specs.Items.{ReadStream}
 use Rattle.tn_c_parts.specs.declared.codes.Code.{Code}
-use Rattle.tn_c_parts.specs.declared.codes.Code.TheVariants.{Done, Memory, NotStarted, Started, OtherKind, NoLimit}
+use Rattle.tn_c_parts.specs.declared.codes.Code.TheVariants.{Done, Memory, NotStarted, Started, OtherKind}
+use Rattle.tn_c_parts.specs.declared.codes.Code.TheVariants.{NoLimit}
 use Rattle.tn_c_parts.specs.declared.client.HeldClient.{HeldClient}
 use Rattle.tn_c_parts.specs.declared.line.HeldLine.{HeldLine}
 use Rattle.tn_c_parts.specs.declared.server.HeldServer.{HeldServer}

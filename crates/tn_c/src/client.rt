@@ -3,7 +3,9 @@
 ghost use Rattle.std.specs.Prelude.{◌≡◌, None, length};
 ghost use Rattle.tn_discipline.specs.Limits.{is_limit};
 ghost use Rattle.tn_c_parts.specs.Calling.{Looks, Does, OfFunction, GivesChar};
-ghost use Rattle.tn_c_parts.specs.ClientCalls.{IsOpened, KeyCall, FeedCall, ResizeCall, ProposeCall, SendNumberCall, ReadCall, ScreenCall, GivesMode, GivesHalf, GivesAhead, GivesCounts, GivesOption, IsClientChar};
+ghost use Rattle.tn_c_parts.specs.ClientCalls.{IsOpened, KeyCall, FeedCall, ResizeCall, ProposeCall};
+ghost use Rattle.tn_c_parts.specs.ClientCalls.{SendNumberCall, ReadCall, ScreenCall, GivesMode, GivesHalf};
+ghost use Rattle.tn_c_parts.specs.ClientCalls.{GivesAhead, GivesCounts, GivesOption, IsClientChar};
 ghost use Rattle.tn_c_parts.specs.Readings.{char_given};
 ghost use Rattle.tn_c.specs.Holding.{HoldsClient, CallsClient, Starts, NoPointer};
 

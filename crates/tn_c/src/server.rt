@@ -14,7 +14,9 @@ ghost use Rattle.tn_c_parts.specs.Bytes.{Gives};
 ghost use Rattle.tn_c_parts.specs.Calling.{Looks, Does, OfFunction, GivesChar};
 ghost use Rattle.tn_c_parts.specs.Entries.{kind_number, signal_number, text_of};
 ghost use Rattle.tn_c_parts.specs.Readings.{char_given, editing_given, side_given, state_number};
-ghost use Rattle.tn_c_parts.specs.ServerCalls.{IsOpened, Acts, FeedCall, TakeCall, ForgetCall, WriteCall, PullCall, WishCall, SetCharCall, SetMaskCall, SetOctetsCall, ReadCall, IsServerChar};
+ghost use Rattle.tn_c_parts.specs.ServerCalls.{IsOpened, Acts, FeedCall, TakeCall, ForgetCall, WriteCall};
+ghost use Rattle.tn_c_parts.specs.ServerCalls.{PullCall, WishCall, SetCharCall, SetMaskCall, SetOctetsCall};
+ghost use Rattle.tn_c_parts.specs.ServerCalls.{ReadCall, IsServerChar};
 ghost use Rattle.tn_c_parts.specs.Terminals.{flags_given};
 ghost use Rattle.tn_c.specs.Holding.{HoldsServer, CallsServer, Starts, NoPointer};
 

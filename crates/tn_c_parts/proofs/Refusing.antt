@@ -25,7 +25,8 @@ client_told None f g e h = ap client_code (sym e ∙ h)
 client_told (Some cause) f g e h = ap client_code (sym e ∙ h)
 
 -- no character is refused by the pair
-pub never_pty : (failed : Bool) (o : Option CharFault) (f : ServerFault) (p : PtyFault) → f ≡ fault.Pty p → server.IsFault (if failed then Some fault.Failed else option_map fault.Char o) f → ⊥
+pub never_pty : (failed : Bool) (o : Option CharFault) (f : ServerFault) (p : PtyFault) → f ≡ fault.Pty p
+    → server.IsFault (if failed then Some fault.Failed else option_map fault.Char o) f → ⊥
 never_pty true o f p e h = cc
 never_pty false None f p e h = cc
 never_pty false (Some g) f p e h = cc
@@ -39,7 +40,8 @@ unfolding octets_mask
 same_mask m n e = ap octets_mask e
 
 -- what a call says of a mask it says of its octets
-pub octets_told : {answer : Code} {before after : HeldServer} (m n : Mask) → m.0 ≡ n.0 → SetMaskCall (Some m) answer before after → SetMaskCall (Some n) answer before after
+pub octets_told : {answer : Code} {before after : HeldServer} (m n : Mask) → m.0 ≡ n.0 → SetMaskCall (Some m) answer before after
+    → SetMaskCall (Some n) answer before after
 octets_told {answer} {before} {after} m n e told = subst (λ (mask : Mask). SetMaskCall (Some mask) answer before after) (same_mask m n e) told
 
 -- of two codes it is the first

@@ -3,7 +3,8 @@ use Rattle.std.specs.Prelude.{◌≡◌, ◌≢◌, ◌↔◌, ◌⊎◌, ℕ, B
 use Rattle.tn_codes.specs.declared.codes.Func.{Func}
 use Rattle.tn_discipline.specs.Characters.{slot}
 use Rattle.tn_option.specs.Options.{state_of}
-use Rattle.tn_client.specs.Calls.{End, LeadsTo, Advances, Sends, Shows, ReadsNothing, SaysOrShows, Feeds, StopsWithin, LacksRoomFor, LacksMemoryFor, call_fault, propose_fault}
+use Rattle.tn_client.specs.Calls.{End, LeadsTo, Advances, Sends, Shows, ReadsNothing, SaysOrShows, Feeds}
+use Rattle.tn_client.specs.Calls.{StopsWithin, LacksRoomFor, LacksMemoryFor, call_fault, propose_fault}
 use Rattle.tn_nvt.specs.Feeding as nvt
 use Rattle.tn_client.specs.Events.{History, Event, begun, typed, resized, proposed, sent}
 use Rattle.tn_client.specs.Lines.{ahead, count_under, held_bytes}

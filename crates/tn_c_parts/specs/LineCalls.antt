@@ -4,7 +4,8 @@ use Rattle.tn_codes.specs.declared.codes.Func.{Func}
 use Rattle.tn_discipline.specs.Advancing.{Advances, DropsExactly}
 use Rattle.tn_discipline.specs.Characters.{AreAllowed, standard_characters, slot, with_slot, char_fault}
 use Rattle.tn_discipline.specs.Echo.{echo_at, no_echo}
-use Rattle.tn_discipline.specs.HalfLine.{empty_line, line_length, line_after, effect_of, effect_entries, GivesText}
+use Rattle.tn_discipline.specs.HalfLine.{empty_line, line_length, line_after, effect_of, effect_entries}
+use Rattle.tn_discipline.specs.HalfLine.{GivesText}
 use Rattle.tn_discipline.specs.Keys.{role_of_key, roles_of}
 use Rattle.tn_discipline.specs.declared.termios.Flags.{Flags}
 use Rattle.tn_c_parts.specs.Bytes.{Gives}

@@ -1,5 +1,6 @@
 -- What each call of a held server end does.
-use Rattle.std.specs.Prelude.{◌≡◌, ◌≢◌, ◌↔◌, ◌⊎◌, ◌*◌, ◌<◌, ◌≤◌, ℕ, Bool, true, false, List, [], ◌∷◌, length, min, drop, Option, Some, None, MatchOption}
+use Rattle.std.specs.Prelude.{◌≡◌, ◌≢◌, ◌↔◌, ◌⊎◌, ◌*◌, ◌<◌, ◌≤◌, ℕ, Bool, true, false, List, [], ◌∷◌, length}
+use Rattle.std.specs.Prelude.{min, drop, Option, Some, None, MatchOption}
 use Rattle.tn_codes.specs.Masks.{filled_octets}
 use Rattle.tn_codes.specs.declared.codes.Func.{Func}
 use Rattle.tn_codes.specs.declared.masks.Mask.{Mask}
@@ -9,8 +10,10 @@ use Rattle.tn_nvt.specs.Feeding as nvt
 use Rattle.tn_nvt.specs.Spelling.{spells}
 use Rattle.tn_nvt.specs.Room.{LacksRoom}
 use Rattle.tn_pty.specs.Terminal.{fitting_count}
-use Rattle.tn_server.specs.Calls.{End, LeadsTo, Advances, ReadsNothing, Feeds, StopsWithin, LacksRoomFor, call_fault, char_fault_at, mask_fault}
-use Rattle.tn_server.specs.Events.{History, Event, begun, next, took, wrote, pulled, wished, char_set, mask_set}
+use Rattle.tn_server.specs.Calls.{End, LeadsTo, Advances, ReadsNothing, Feeds, StopsWithin, LacksRoomFor}
+use Rattle.tn_server.specs.Calls.{call_fault, char_fault_at, mask_fault}
+use Rattle.tn_server.specs.Events.{History, Event, begun, next, took, wrote, pulled, wished, char_set}
+use Rattle.tn_server.specs.Events.{mask_set}
 use Rattle.tn_server.specs.Faults.{SaysSomething}
 use Rattle.tn_server.specs.Lines.{waiting}
 use Rattle.tn_server.specs.Replies.{opening}

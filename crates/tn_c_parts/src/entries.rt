@@ -1,7 +1,8 @@
 //! The numbers of entries, and of what keys do.
 
 ghost use Rattle.std.specs.Prelude.{◌≡◌, Some};
-ghost use Rattle.tn_c_parts.specs.Entries.{sig_number, entry_number, kind_number, effect_number, entry_given, text_of, wiped_entry};
+ghost use Rattle.tn_c_parts.specs.Entries.{sig_number, entry_number, kind_number, effect_number, entry_given};
+ghost use Rattle.tn_c_parts.specs.Entries.{text_of, wiped_entry};
 
 use tn_discipline::{Effect, Entry, Sig};
 

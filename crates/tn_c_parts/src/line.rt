@@ -5,7 +5,8 @@ ghost use Rattle.tn_c_parts.specs.Bytes.{Gives};
 ghost use Rattle.tn_c_parts.specs.Calling.{OfFunction, GivesChar};
 ghost use Rattle.tn_c_parts.specs.Echoes.{GivesEcho};
 ghost use Rattle.tn_c_parts.specs.Entries.{text_of};
-ghost use Rattle.tn_c_parts.specs.LineCalls.{KeyCall, HalfGiven, SetFlagsCall, SetCharCall, IsLineChar, IsEmpty};
+ghost use Rattle.tn_c_parts.specs.LineCalls.{KeyCall, HalfGiven, SetFlagsCall, SetCharCall, IsLineChar};
+ghost use Rattle.tn_c_parts.specs.LineCalls.{IsEmpty};
 ghost use Rattle.tn_c_parts.specs.Readings.{char_given};
 ghost use Rattle.tn_c_parts.specs.declared.codes.Code.TheVariants as code;
 

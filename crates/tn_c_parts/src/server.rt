@@ -13,7 +13,9 @@ ghost use Rattle.tn_c_parts.specs.Bytes.{Gives};
 ghost use Rattle.tn_c_parts.specs.Calling.{OfFunction, GivesChar};
 ghost use Rattle.tn_c_parts.specs.Entries.{kind_number, signal_number, text_of};
 ghost use Rattle.tn_c_parts.specs.Readings.{char_given, editing_given, side_given, state_number};
-ghost use Rattle.tn_c_parts.specs.ServerCalls.{Acts, WishCall, SetCharCall, SetMaskCall, SetOctetsCall, FeedCall, TakeCall, ForgetCall, WriteCall, PullCall, ReadCall, IsServerChar, IsOpened};
+ghost use Rattle.tn_c_parts.specs.ServerCalls.{Acts, WishCall, SetCharCall, SetMaskCall, SetOctetsCall};
+ghost use Rattle.tn_c_parts.specs.ServerCalls.{FeedCall, TakeCall, ForgetCall, WriteCall, PullCall, ReadCall};
+ghost use Rattle.tn_c_parts.specs.ServerCalls.{IsServerChar, IsOpened};
 ghost use Rattle.tn_c_parts.specs.declared.codes.Code.TheVariants as code;
 
 use crate::bytes::{give, move_front};

@@ -1,5 +1,6 @@
 -- What is printed of a stream that is handed on piece by piece to a printer of lines.
-use Rattle.std.proofs.Common.{◌≡◌, ℕ, List, [], ◌++◌, map, length, take, drop, Option, Some, None, Result, Ok, Err, OnErr, refl, sym, ap, ◌∙◌, subst, append-nil, append_assoc, arith}
+use Rattle.std.proofs.Common.{◌≡◌, ℕ, List, [], ◌++◌, map, length, take, drop, Option, Some, None, Result, Ok, Err, OnErr, refl, sym, ap, ◌∙◌, subst}
+use Rattle.std.proofs.Common.{append-nil, append_assoc, arith}
 use Rattle.std.proofs.lemmas.List.{take_all, take_at, take-append-drop}
 use Rattle.std.specs.Io.KnownBytes.{Appends, Consumes, IsAtEnd}
 use Rattle.tn_nvt.specs.declared.items.Item.{Item}
@@ -14,7 +15,8 @@ use Rattle.tn_decode.specs.declared.printer.Prefix.{Prefix}
 use Rattle.tn_decode.specs.declared.printer.Prefix.TheVariants.{Empty}
 use Rattle.tn_cli.proofs.Inputs.{consumes_both, consumes_none}
 use Rattle.tn_cli.proofs.Outputs.{whole_input}
-use Rattle.tn_cli.specs.Decode.{IsDecodeOf, Decodes, DecodesRead, DecodesSome, HasPrinted, Decoded, PrintsPiece, PrintsLast, StopsWriting, StopsPiece, WritesLast, WritesPiece, nothing_printed}
+use Rattle.tn_cli.specs.Decode.{IsDecodeOf, Decodes, DecodesRead, DecodesSome, HasPrinted, Decoded, PrintsPiece, PrintsLast, StopsWriting, StopsPiece}
+use Rattle.tn_cli.specs.Decode.{WritesLast, WritesPiece, nothing_printed}
 use Rattle.tn_cli.specs.Ends.{EndsDecode}
 use Rattle.tn_cli.specs.Streams.{AppendsPrefix, IsPrintFault}
 use Rattle.tn_cli.specs.Unprinted.{LeavesUnprinted, Watches, WatchesOn}
@@ -41,7 +43,8 @@ abbrev with_text : Printing → List ℕ → Printing
 with_text p text = record p { text = text }
 
 -- what a printer takes that has no lines, it takes behind others
-takes_behind : (old new : Printing) (items : List Item) (written : List ℕ) → old.text ≡ [] → Takes old items new → Takes (with_text old written) items (with_text new (written ++ new.text))
+takes_behind : (old new : Printing) (items : List Item) (written : List ℕ) → old.text ≡ [] → Takes old items new
+    → Takes (with_text old written) items (with_text new (written ++ new.text))
 takes_behind old new items written none t = record {
   prefix = t.prefix;
   front = t.front;
@@ -59,7 +62,8 @@ printing_is p prefix text held =
     ap (λ x. printing x p.text p.held) prefix ∙ ap (λ (xs : List ℕ). printing Empty xs p.held) text ∙ ap (printing Empty []) held
 
 -- of a new decoder nothing is printed
-pub printed_none : (decoding : Decoding) → nvt.LeadsTo [] [] decoding.decoder → decoding.lines ≡ nothing_printed → Watches [] decoding.watch → HasPrinted [] [] decoding
+pub printed_none : (decoding : Decoding) → nvt.LeadsTo [] [] decoding.decoder → decoding.lines ≡ nothing_printed → Watches [] decoding.watch
+    → HasPrinted [] [] decoding
 printed_none decoding begins none watched = record {
   items = [];
   read = begins;
@@ -69,22 +73,26 @@ printed_none decoding begins none watched = record {
 }
 
 -- a piece more: what it completes is taken from the printer
-pub printed_piece : (old new : Decoding) (piece text : List ℕ) (taken : Printing) → FeedsTo Takes old.decoder piece old.lines taken new.decoder → text ≡ taken.text → new.lines ≡ with_text taken [] → WatchesOn old.watch piece new.watch → PrintsPiece old piece text new
+pub printed_piece : (old new : Decoding) (piece text : List ℕ) (taken : Printing) → FeedsTo Takes old.decoder piece old.lines taken new.decoder
+    → text ≡ taken.text → new.lines ≡ with_text taken [] → WatchesOn old.watch piece new.watch → PrintsPiece old piece text new
 printed_piece old new piece text taken hands is left watched stream written had =
     let more = all_of (calls_of hands.parts) in
     let takes : Takes old.lines more taken = taken_by_all old.lines taken (calls_of hands.parts) hands.taken in
     let behind = takes_behind old.lines taken more written had.none takes in
-    let both : Takes nothing_printed (had.items ++ more) (with_text taken (written ++ taken.text)) = takes_both nothing_printed (with_text old.lines written) (with_text taken (written ++ taken.text)) had.items more had.takes behind in
+    let both : Takes nothing_printed (had.items ++ more) (with_text taken (written ++ taken.text)) =
+    takes_both nothing_printed (with_text old.lines written) (with_text taken (written ++ taken.text)) had.items more had.takes behind in
     record {
       items = had.items ++ more;
       read = hands.adds stream had.items had.read;
-      takes = subst (λ (p : Printing). Takes nothing_printed (had.items ++ more) (with_text p (written ++ text))) (sym left) (subst (λ (xs : List ℕ). Takes nothing_printed (had.items ++ more) (with_text taken (written ++ xs))) (sym is) both);
+      takes = subst (λ (p : Printing). Takes nothing_printed (had.items ++ more) (with_text p (written ++ text))) (sym left)
+          (subst (λ (xs : List ℕ). Takes nothing_printed (had.items ++ more) (with_text taken (written ++ xs))) (sym is) both);
       none = ap (λ (p : Printing). p.text) left;
       watched = watched stream had.watched;
     }
 
 -- the data that are held are all that is left to print
-pub printed_whole : (stream written : List ℕ) (decoding : Decoding) → HasPrinted stream written decoding → IsDecodeOf stream (written ++ decoded [] (map Byte decoding.lines.held))
+pub printed_whole : (stream written : List ℕ) (decoding : Decoding) → HasPrinted stream written decoding
+    → IsDecodeOf stream (written ++ decoded [] (map Byte decoding.lines.held))
 printed_whole stream written decoding had = record {
   items = had.items;
   rest = had.read.rest;
@@ -111,7 +119,8 @@ stops_before decoding piece here stream written had = record {
   whole = refl;
   gained = [];
   left = decoded [] (map Byte decoding.lines.held);
-  decodes = subst (λ (xs : List ℕ). IsDecodeOf stream (xs ++ decoded [] (map Byte decoding.lines.held))) (sym (append-nil written)) (printed_whole stream written decoding had);
+  decodes = subst (λ (xs : List ℕ). IsDecodeOf stream (xs ++ decoded [] (map Byte decoding.lines.held))) (sym (append-nil written))
+      (printed_whole stream written decoding had);
   appended = appends_none here;
 }
 
@@ -122,7 +131,8 @@ front_of written text others count =
     ∙ ap (λ (xs : List ℕ). written ++ xs) (append_assoc (take count text) (drop count text) others)
     ∙ sym (append_assoc written (take count text) (drop count text ++ others))
 
-pub stops_within : (old new : Decoding) (piece text : List ℕ) (before after : Option (List ℕ)) → PrintsPiece old piece text new → AppendsPrefix before after text → StopsPiece old piece before after
+pub stops_within : (old new : Decoding) (piece text : List ℕ) (before after : Option (List ℕ)) → PrintsPiece old piece text new
+    → AppendsPrefix before after text → StopsPiece old piece before after
 stops_within old new piece text before after prints (count, appended) stream written had =
     let whole = printed_whole (stream ++ piece) (written ++ text) new (prints stream written had) in
     let others = decoded [] (map Byte new.lines.held) in
@@ -136,19 +146,22 @@ stops_within old new piece text before after prints (count, appended) stream wri
       appended = appended;
     }
 
-pub stops_last : (decoding : Decoding) (text : List ℕ) (before after : Option (List ℕ)) → PrintsLast decoding text → AppendsPrefix before after text → StopsPiece decoding [] before after
+pub stops_last : (decoding : Decoding) (text : List ℕ) (before after : Option (List ℕ)) → PrintsLast decoding text → AppendsPrefix before after text
+    → StopsPiece decoding [] before after
 stops_last decoding text before after prints (count, appended) stream written had = record {
   front = stream;
   back = [];
   whole = refl;
   gained = take count text;
   left = drop count text ++ [];
-  decodes = subst (IsDecodeOf stream) (ap (λ (xs : List ℕ). written ++ xs) (sym (append-nil text)) ∙ front_of written text [] count) (prints stream written had);
+  decodes = subst (IsDecodeOf stream) (ap (λ (xs : List ℕ). written ++ xs) (sym (append-nil text)) ∙ front_of written text [] count)
+      (prints stream written had);
   appended = appended;
 }
 
 -- of all that was read, a beginning was written
-pub decodes_some : (input mid rest old here new : Option (List ℕ)) (piece : List ℕ) (decoding : Decoding) → Decoded input mid old here decoding → Consumes mid rest piece → StopsPiece decoding piece here new → DecodesSome input rest old new
+pub decodes_some : (input mid rest old here new : Option (List ℕ)) (piece : List ℕ) (decoding : Decoding) → Decoded input mid old here decoding
+    → Consumes mid rest piece → StopsPiece decoding piece here new → DecodesSome input rest old new
 decodes_some input mid rest old here new piece decoding had read stops =
     let s = stops had.stream had.written had.printed in
     let all = had.written ++ s.gained in
@@ -156,7 +169,15 @@ decodes_some input mid rest old here new piece decoding had read stops =
       stream = s.front;
       more = s.back;
       read = subst (Consumes input rest) s.whole (consumes_both input mid rest had.stream piece had.read read);
-      decodes = (all ++ s.left, s.decodes, (length all, subst (Appends old new) (sym (take_at all s.left (length all) refl)) (appends_both old here new had.written s.gained had.appended s.appended)));
+      decodes = (
+        all ++ s.left,
+        s.decodes,
+        (
+          length all,
+          subst (Appends old new) (sym (take_at all s.left (length all) refl))
+              (appends_both old here new had.written s.gained had.appended s.appended),
+        ),
+      );
     }
 
 -- WHAT WAS READ AND WRITTEN SO FAR
@@ -164,7 +185,8 @@ decodes_some input mid rest old here new piece decoding had read stops =
 pub decoded_none : (input old : Option (List ℕ)) (decoding : Decoding) → HasPrinted [] [] decoding → Decoded input input old old decoding
 decoded_none input old decoding printed = record { stream = []; written = []; read = consumes_none input; appended = appends_none old; printed = printed }
 
-pub decoded_more : (input mid rest old here new : Option (List ℕ)) (piece : List ℕ) (before after : Decoding) → Decoded input mid old here before → Consumes mid rest piece → WritesPiece before piece after here new
+pub decoded_more : (input mid rest old here new : Option (List ℕ)) (piece : List ℕ) (before after : Decoding) → Decoded input mid old here before
+    → Consumes mid rest piece → WritesPiece before piece after here new
     → Decoded input rest old new after
 decoded_more input mid rest old here new piece before after had read (text, prints, appended) = record {
   stream = had.stream ++ piece;
@@ -181,7 +203,8 @@ on_err (Err e) p = p
 -- HOW IT ENDS
 
 -- all that was read is printed
-pub decodes_read : (input rest old here new : Option (List ℕ)) (decoding : Decoding) → Decoded input rest old here decoding → WritesLast decoding here new → DecodesRead input rest old new
+pub decodes_read : (input rest old here new : Option (List ℕ)) (decoding : Decoding) → Decoded input rest old here decoding → WritesLast decoding here new
+    → DecodesRead input rest old new
 decodes_read input rest old here new decoding had (text, prints, appended) = record {
   stream = had.stream;
   read = had.read;
@@ -198,7 +221,8 @@ all_is_some input rest old new all =
       decodes = (output, all.decodes.1, (length output, subst (Appends old new) (sym (take_all (length output) output (omega arith))) all.decodes.2));
     }
 
-pub ends_whole : (unprinted : Unprinted) (input rest old here new : Option (List ℕ)) (decoding : Decoding) → Decoded input rest old here decoding → WritesLast decoding here new → IsAtEnd rest
+pub ends_whole : (unprinted : Unprinted) (input rest old here new : Option (List ℕ)) (decoding : Decoding) → Decoded input rest old here decoding
+    → WritesLast decoding here new → IsAtEnd rest
     → ((stream : List ℕ) → Watches stream decoding.watch → LeavesUnprinted stream unprinted) → EndsDecode (Ok unprinted) input rest old new
 ends_whole unprinted input rest old here new decoding had writes end leaves =
     let all = decodes_read input rest old here new decoding had writes in
@@ -221,5 +245,6 @@ ends_with fault.TooLong input rest old new is some = absurd is
 ends_with (fault.Script line) input rest old new is some = absurd is
 ends_with (fault.World line) input rest old new is some = absurd is
 
-pub ends_early : (ended : Result Unprinted CliFault) (f : CliFault) (input rest old new : Option (List ℕ)) → ended ≡ Err f → IsPrintFault f → DecodesSome input rest old new → EndsDecode ended input rest old new
+pub ends_early : (ended : Result Unprinted CliFault) (f : CliFault) (input rest old new : Option (List ℕ)) → ended ≡ Err f → IsPrintFault f
+    → DecodesSome input rest old new → EndsDecode ended input rest old new
 ends_early ended f input rest old new e is some = subst (λ r. EndsDecode r input rest old new) (sym e) (ends_with f input rest old new is some)

@@ -1,5 +1,6 @@
 -- Bytes in hexadecimal, one after another.
-use Rattle.std.proofs.Common.{◌≡◌, ◌<◌, ℕ, ◌+◌, ◌/◌, ◌%◌, List, [], ◌∷◌, ◌++◌, codes, Result, Ok, Err, IsOk, is_ok, if◌then◌else◌, length, take, get_or, slice_index, refl, sym, ap, ◌∙◌, append-nil, append_assoc}
+use Rattle.std.proofs.Common.{◌≡◌, ◌<◌, ℕ, ◌+◌, ◌/◌, ◌%◌, List, [], ◌∷◌, ◌++◌, codes, Result, Ok, Err, IsOk, is_ok, if◌then◌else◌, length, take, get_or}
+use Rattle.std.proofs.Common.{slice_index, refl, sym, ap, ◌∙◌, append-nil, append_assoc}
 use Rattle.std.proofs.lemmas.List.{take_more}
 use Rattle.hex.specs.Hex.{encode_with}
 
@@ -22,7 +23,9 @@ where_ok (Ok u) x there other ok is = is
 where_ok (Err e) x there other ok is = cc
 
 -- the line of a text, digit by digit
-pub text_line : (t bytes start begun middle high low whole : List ℕ) (x : ℕ) → begun ≡ start ++ codes "text " → middle ≡ begun ++ encode_with t bytes → high ≡ middle ++ slice_index t (x / 16) ∷ [] → low ≡ high ++ slice_index t (x % 16) ∷ [] → whole ≡ low ++ codes "\n" → whole ≡ start ++ (codes "text " ++ (encode_with t (bytes ++ x ∷ []) ++ codes "\n"))
+pub text_line : (t bytes start begun middle high low whole : List ℕ) (x : ℕ) → begun ≡ start ++ codes "text " → middle ≡ begun ++ encode_with t bytes
+    → high ≡ middle ++ slice_index t (x / 16) ∷ [] → low ≡ high ++ slice_index t (x % 16) ∷ [] → whole ≡ low ++ codes "\n"
+    → whole ≡ start ++ (codes "text " ++ (encode_with t (bytes ++ x ∷ []) ++ codes "\n"))
 text_line t bytes start begun middle high low whole x a b c d e =
     let h = slice_index t (x / 16) in
     let l = slice_index t (x % 16) in
@@ -42,11 +45,14 @@ unfolding encode_with
 digits_none t start = sym (append-nil start)
 
 -- a step of a loop over bytes
-pub digits_more : (t bytes start before mid after : List ℕ) (i : ℕ) → i < length bytes → before ≡ start ++ encode_with t (take i bytes) → mid ≡ before ++ slice_index t (get_or bytes i 0 / 16) ∷ [] → after ≡ mid ++ slice_index t (get_or bytes i 0 % 16) ∷ [] → after ≡ start ++ encode_with t (take (i + 1) bytes)
+pub digits_more : (t bytes start before mid after : List ℕ) (i : ℕ) → i < length bytes → before ≡ start ++ encode_with t (take i bytes)
+    → mid ≡ before ++ slice_index t (get_or bytes i 0 / 16) ∷ [] → after ≡ mid ++ slice_index t (get_or bytes i 0 % 16) ∷ []
+    → after ≡ start ++ encode_with t (take (i + 1) bytes)
 digits_more t bytes start before mid after i within so high low =
     let x = get_or bytes i 0 in
     let more : encode_with t (take (i + 1) bytes) ≡ encode_with t (take i bytes) ++ slice_index t (x / 16) ∷ slice_index t (x % 16) ∷ [] =
-    ap (encode_with t) (take_more bytes i 0 within) ∙ encode-append t (take i bytes) (x ∷ []) ∙ ap (λ zs. encode_with t (take i bytes) ++ zs) (encode-one t x) in
+    ap (encode_with t) (take_more bytes i 0 within) ∙ encode-append t (take i bytes) (x ∷ []) ∙ ap (λ zs. encode_with t (take i bytes) ++ zs) (encode-one t x)
+    in
     low
     ∙ ap (λ zs. zs ++ slice_index t (x % 16) ∷ []) (high ∙ ap (λ zs. zs ++ slice_index t (x / 16) ∷ []) so)
     ∙ append_assoc (start ++ encode_with t (take i bytes)) (slice_index t (x / 16) ∷ []) (slice_index t (x % 16) ∷ [])

@@ -42,7 +42,8 @@ ends_by_write ended had rest input old new is consumed end fits printed =
     })
 
 -- at a line: what the lines before it print was written
-pub ends_at_line : (f : CliFault) (had rest : Option (List ℕ)) (input : List ℕ) (old new : Option (List ℕ)) → Consumes had rest input → IsAtEnd rest → length input ≤ max_input
+pub ends_at_line : (f : CliFault) (had rest : Option (List ℕ)) (input : List ℕ) (old new : Option (List ℕ)) → Consumes had rest input → IsAtEnd rest
+    → length input ≤ max_input
     → AppendsText (EndsWith (lines_of input) (Some f)) old new → EndsWorld (Err f) had old new
 ends_at_line (fault.Script number) had rest input old new consumed end fits printed = record {
   run = record {
@@ -51,7 +52,9 @@ ends_at_line (fault.Script number) had rest input old new consumed end fits prin
     short = λ a b. whole_input (λ text. length text ≤ max_input) had rest input consumed end fits;
     too_long = λ e. absurd (cc);
   };
-  script = λ line e. let same : number ≡ line = cc in whole_input (λ text. AppendsText (StopsAtBadLine (lines_of text) line) old new) had rest input consumed end (subst (λ n. AppendsText (StopsAtBadLine (lines_of input) n) old new) same printed);
+  script = λ line e. let same : number ≡ line = cc in whole_input
+      (λ text. AppendsText (StopsAtBadLine (lines_of text) line) old new) had rest input consumed end
+      (subst (λ n. AppendsText (StopsAtBadLine (lines_of input) n) old new) same printed);
   world = λ line e. absurd (cc);
   unwritten = λ a b c. absurd (b number refl);
 }
@@ -63,7 +66,9 @@ ends_at_line (fault.World number) had rest input old new consumed end fits print
     too_long = λ e. absurd (cc);
   };
   script = λ line e. absurd (cc);
-  world = λ line e. let same : number ≡ line = cc in whole_input (λ text. AppendsText (StopsAtRefusedLine (lines_of text) line) old new) had rest input consumed end (subst (λ n. AppendsText (StopsAtRefusedLine (lines_of input) n) old new) same printed);
+  world = λ line e. let same : number ≡ line = cc in whole_input
+      (λ text. AppendsText (StopsAtRefusedLine (lines_of text) line) old new) had rest input consumed end
+      (subst (λ n. AppendsText (StopsAtRefusedLine (lines_of input) n) old new) same printed);
   unwritten = λ a b c. absurd (c number refl);
 }
 ends_at_line fault.Read had rest input old new consumed end fits (text, never, added) = absurd never

@@ -1,5 +1,6 @@
 -- More keys that are typed at one line.
-use Rattle.std.proofs.Common.{◌≡◌, ◌<◌, ℕ, ◌+◌, ◌-◌, Some, Result, Ok, Err, OnOk, All, List, [], ◌∷◌, ◌++◌, length, take, drop, get_or, refl, sym, ap, ◌∙◌, subst, arith, append-nil}
+use Rattle.std.proofs.Common.{◌≡◌, ◌<◌, ℕ, ◌+◌, ◌-◌, Some, Result, Ok, Err, OnOk, All, List, [], ◌∷◌, ◌++◌, length, take, drop, get_or, refl, sym, ap, ◌∙◌}
+use Rattle.std.proofs.Common.{subst, arith, append-nil}
 use Rattle.std.proofs.Math.Seq.{take-add}
 use Rattle.std.proofs.lemmas.List.{take_all, take_more, length-drop}
 use Rattle.std.proofs.lemmas.Grind.{flat_map-append}
@@ -33,7 +34,8 @@ typed_more old new more gain same moves shown keys had =
     let advances = rw had.settings at moves in
     let roles = roles_of-append standard.settings keys more in
     let before = roles_of standard.settings keys in
-    let entries = subst (λ limit. entries_of limit (before ++ roles_of standard.settings more) ≡ entries_of limit before ++ gain) had.limit (advances.entries before had.line had.ahead) in
+    let entries = subst (λ limit. entries_of limit (before ++ roles_of standard.settings more) ≡ entries_of limit before ++ gain) had.limit
+    (advances.entries before had.line had.ahead) in
     record {
       settings = same ∙ had.settings;
       limit = advances.limit ∙ had.limit;
@@ -68,7 +70,8 @@ text_of : (held : List ℕ) (byte : ℕ) → line_of (held ++ byte ∷ []) ≡ e
 text_of [] byte = refl
 text_of (b ∷ bs) byte = refl
 
-closing_gives : (line : HalfLine) (r : Role) (byte : ℕ) → closing_byte r ≡ Some byte → Advances line (roles_from r) (entry.Text (line.held ++ byte ∷ []) ∷ []) (empty_line line.limit)
+closing_gives : (line : HalfLine) (r : Role) (byte : ℕ) → closing_byte r ≡ Some byte
+    → Advances line (roles_from r) (entry.Text (line.held ++ byte ∷ []) ∷ []) (empty_line line.limit)
 closing_gives line r byte closes =
     let is = is_closing r byte closes in
     let gives : effect_of line r ≡ effect.Gives (entry.Text (line.held ++ byte ∷ [])) =
@@ -97,17 +100,20 @@ pub typed_run : (old new : Typing) (keys : List ℕ) → new.roles ≡ old.roles
 typed_run old new keys same moves shown = typed_more old new keys [] same moves (shown ∙ sym (append-nil old.printed.items))
 
 -- keys that join the line as they are
-pub plain_advance : (settings : Settings) (keys : List ℕ) (old new : HalfLine) → All (IsPlain settings) keys → new ≡ line_after_all old (ordinary_roles keys) → Advances old (roles_of settings keys) [] new
+pub plain_advance : (settings : Settings) (keys : List ℕ) (old new : HalfLine) → All (IsPlain settings) keys → new ≡ line_after_all old (ordinary_roles keys)
+    → Advances old (roles_of settings keys) [] new
 plain_advance settings keys old new plain is =
     quiet_advance settings keys old new (plain_quiet settings keys plain) (is ∙ ap (line_after_all old) (sym (plain_each settings keys plain)))
 
 -- some of the keys, and the next one
-pub types_next : (old mid new : Typing) (keys : List ℕ) (i : ℕ) → i < length keys → Types (take i keys) old mid → Types (get_or keys i 0 ∷ []) mid new → Types (take (i + 1) keys) old new
+pub types_next : (old mid new : Typing) (keys : List ℕ) (i : ℕ) → i < length keys → Types (take i keys) old mid → Types (get_or keys i 0 ∷ []) mid new
+    → Types (take (i + 1) keys) old new
 types_next old mid new keys i within a b =
     subst (λ xs. Types xs old new) (sym (take_more keys i 0 within)) (types_both old mid new (take i keys) (get_or keys i 0 ∷ []) a b)
 
 -- some more of the keys that are left
-pub types_front : (old mid new : Typing) (keys : List ℕ) (i n : ℕ) → Types (take i keys) old mid → Types (take n (take (length keys - i) (drop i keys))) mid new → Types (take (i + n) keys) old new
+pub types_front : (old mid new : Typing) (keys : List ℕ) (i n : ℕ) → Types (take i keys) old mid → Types (take n (take (length keys - i) (drop i keys))) mid new
+    → Types (take (i + n) keys) old new
 types_front old mid new keys i n a b =
     let left : take (length keys - i) (drop i keys) ≡ drop i keys = take_all (length keys - i) (drop i keys) (omega (arith, length-drop i keys)) in
     let front : Types (take n (drop i keys)) mid new = subst (λ xs. Types (take n xs) mid new) left b in

@@ -1,5 +1,6 @@
 -- Each byte from each stand of a watch completes the segments that the definition has.
-use Rattle.std.proofs.Common.{◌≡◌, ◌≢◌, ℕ, ◌+◌, ◌<◌, ◌≤◌, ◌⊎◌, inl, inr, List, [], ◌∷◌, ◌++◌, length, refl, sym, ◌∙◌, ap, subst, arith, append_assoc, append-nil, length-append}
+use Rattle.std.proofs.Common.{◌≡◌, ◌≢◌, ℕ, ◌+◌, ◌<◌, ◌≤◌, ◌⊎◌, inl, inr, List, [], ◌∷◌, ◌++◌, length, refl, sym, ◌∙◌, ap, subst, arith, append_assoc}
+use Rattle.std.proofs.Common.{append-nil, length-append}
 use Rattle.std.specs.Prelude.{min, flat_map}
 use Rattle.std.proofs.lemmas.Bool.{ne_eqb}
 use Rattle.std.proofs.lemmas.Bool.Decides.{eqb_tells}
@@ -12,7 +13,8 @@ use Rattle.tn_nvt.specs.declared.items.Item.{Item}
 use Rattle.tn_nvt.specs.declared.items.Item.TheVariants.{Byte, Newline, Cmd, Neg, Sub}
 use Rattle.tn_nvt.specs.Spelling.{doubled_byte, doubled_bytes, subnegotiation, spelling}
 use Rattle.tn_nvt.specs.Stream.{Segment, spelled, lone_cr, escaped, unread, cut, IsSegment, IsPartial, text, look_ahead, gives, Splits}
-use Rattle.tn_cli.specs.Unprinted.{IsCount, IsLeft, Leads, LeavesUnprinted, Reaches, StandsAt, Watches, WatchesOn, counted, dropped_escape, dropped_subnegotiation, none, total}
+use Rattle.tn_cli.specs.Unprinted.{IsCount, IsLeft, Leads, LeavesUnprinted, Reaches, StandsAt, Watches, WatchesOn, counted, dropped_escape}
+use Rattle.tn_cli.specs.Unprinted.{dropped_subnegotiation, none, total}
 use Rattle.tn_cli.specs.declared.unprinted.Dropped.{Dropped}
 use Rattle.tn_cli.specs.declared.unprinted.Left.{Left}
 use Rattle.tn_cli.specs.declared.unprinted.Stand.{Stand}
@@ -40,7 +42,8 @@ unfolding doubled_bytes
 doubled_none = refl
 
 -- a splitting goes on where its rest goes on
-splits_both : (ss ts : List Segment) (rest new stream more : List ℕ) → Splits ss rest stream → Splits ts new (rest ++ more) → Splits (ss ++ ts) new (stream ++ more)
+splits_both : (ss ts : List Segment) (rest new stream more : List ℕ) → Splits ss rest stream → Splits ts new (rest ++ more)
+    → Splits (ss ++ ts) new (stream ++ more)
 splits_both [] ts rest new stream more p q = rw p q
 splits_both (s ∷ ss) ts rest new stream more p q =
     let again : Splits (ss ++ ts) new ((look_ahead s ++ p.0) ++ more) = splits_both ss ts rest new (look_ahead s ++ p.0) more p.3 q in
@@ -53,7 +56,8 @@ total_both count (x ∷ xs) ys = omega (arith, total_both count xs ys)
 -- ONE BYTE
 
 -- one segment was completed
-one : (s : Segment) (here next : Stand) (b : ℕ) → IsSegment s → StandsAt next (look_ahead s) → ((rest : List ℕ) → StandsAt here rest → rest ++ b ∷ [] ≡ text s ++ look_ahead s)
+one : (s : Segment) (here next : Stand) (b : ℕ) → IsSegment s → StandsAt next (look_ahead s)
+    → ((rest : List ℕ) → StandsAt here rest → rest ++ b ∷ [] ≡ text s ++ look_ahead s)
     → Leads here b (record { escapes = dropped_escape s; subnegotiations = dropped_subnegotiation s }) next
 one s here next b is st whole rest h = record {
   segments = s ∷ [];
@@ -131,7 +135,8 @@ no_meaning b fits h k v c =
     let c12 = c command.Ga in
     elim (eqb_tells b 240) [ inl e ↦ inr e.1 | inr e ↦ inl (omega arith) ]
 
-pub iac_other : (b : ℕ) → b < 256 → b ≢ 255 → b ≢ 250 → ((v : Verb) → verb_code v ≢ b) → ((k : Command) → command_code k ≢ b) → Leads AfterIac b (record { escapes = 1; subnegotiations = 0 }) Between
+pub iac_other : (b : ℕ) → b < 256 → b ≢ 255 → b ≢ 250 → ((v : Verb) → verb_code v ≢ b) → ((k : Command) → command_code k ≢ b)
+    → Leads AfterIac b (record { escapes = 1; subnegotiations = 0 }) Between
 iac_other b fits h k v c = one (escaped b) AfterIac Between b (no_meaning b fits h k v c) refl (λ rest r. rw r refl)
 
 pub verb_option : (b : ℕ) → Leads AfterVerb b none Between
@@ -153,10 +158,17 @@ pub inside_iac : (count b : ℕ) → b ≡ 255 → Leads (Inside count) b none (
 inside_iac count b h = no_segment (Inside count) (InsideIac count) b (λ rest r. (r.0, r.1, rw (r.2, h) refl))
 
 pub inside_plain : (count longer b : ℕ) → b ≢ 255 → IsLonger count longer → Leads (Inside count) b none (Inside longer)
-inside_plain count longer b h p = no_segment (Inside count) (Inside longer) b (λ rest r. (r.0 ++ b ∷ [], p r.0 b r.1, rw (r.2, doubled-append, doubled_plain b h) refl))
+inside_plain count longer b h p = no_segment (Inside count) (Inside longer) b
+    (λ rest r. (r.0 ++ b ∷ [], p r.0 b r.1, rw (r.2, doubled-append, doubled_plain b h) refl))
 
 pub inside_iac_iac : (count longer b : ℕ) → b ≡ 255 → IsLonger count longer → Leads (InsideIac count) b none (Inside longer)
-inside_iac_iac count longer b h p = no_segment (InsideIac count) (Inside longer) b (λ rest r. (r.0 ++ 255 ∷ [], p r.0 255 r.1, rw (r.2, h, doubled-append, doubled_iac) (ap (λ x. 255 ∷ 250 ∷ x) (append_assoc (doubled_bytes r.0) (255 ∷ []) (255 ∷ [])))))
+inside_iac_iac count longer b h p = no_segment (InsideIac count) (Inside longer) b
+    (λ rest r. (
+      r.0 ++ 255 ∷ [],
+      p r.0 255 r.1,
+      rw (r.2, h, doubled-append, doubled_iac)
+          (ap (λ x. 255 ∷ 250 ∷ x) (append_assoc (doubled_bytes r.0) (255 ∷ []) (255 ∷ []))),
+    ))
 
 closing : (bytes : List ℕ) → (255 ∷ 250 ∷ doubled_bytes bytes ++ 255 ∷ []) ++ 240 ∷ [] ≡ subnegotiation bytes
 closing bytes = ap (λ x. 255 ∷ 250 ∷ x) (append_assoc (doubled_bytes bytes) (255 ∷ []) (240 ∷ []))
@@ -166,7 +178,8 @@ empty_of [] e = refl
 empty_of (b ∷ bs) e = absurd (omega arith)
 
 -- none of its bytes, or too many
-pub ends_unread : (count : ℕ) → ((bytes : List ℕ) → IsCount count bytes → (bytes ≡ []) ⊎ (513 < length bytes)) → Leads (InsideIac count) 240 (record { escapes = 0; subnegotiations = 1 }) Between
+pub ends_unread : (count : ℕ) → ((bytes : List ℕ) → IsCount count bytes → (bytes ≡ []) ⊎ (513 < length bytes))
+    → Leads (InsideIac count) 240 (record { escapes = 0; subnegotiations = 1 }) Between
 ends_unread count f rest r = record {
   segments = unread r.0 ∷ [];
   left = [];
@@ -213,7 +226,8 @@ cut_off count b dropped next h k none_of a rest r =
 counts_both : (a b n m : ℕ) → a ≡ counted n → b ≡ m → min (a + b) 18446744073709551615 ≡ counted (n + m)
 counts_both a b n m is same = rw (is, same) (omega arith)
 
-pub watches_byte : (old new : Watch) (byte : ℕ) (dropped : Dropped) → Leads old.stand byte dropped new.stand → new.dropped.escapes ≡ min (old.dropped.escapes + dropped.escapes) 18446744073709551615
+pub watches_byte : (old new : Watch) (byte : ℕ) (dropped : Dropped) → Leads old.stand byte dropped new.stand
+    → new.dropped.escapes ≡ min (old.dropped.escapes + dropped.escapes) 18446744073709551615
     → new.dropped.subnegotiations ≡ min (old.dropped.subnegotiations + dropped.subnegotiations) 18446744073709551615 → WatchesOn old (byte ∷ []) new
 watches_byte old new byte dropped leads escapes subs stream had =
     let r = leads had.rest had.stands in
@@ -223,14 +237,16 @@ watches_byte old new byte dropped leads escapes subs stream had =
       splits = splits_both had.segments r.segments had.rest r.left stream (byte ∷ []) had.splits r.splits;
       stands = r.stands;
       escapes = escapes ∙ counts_both _ _ _ _ had.escapes r.escapes ∙ ap counted (sym (total_both dropped_escape had.segments r.segments));
-      subnegotiations = subs ∙ counts_both _ _ _ _ had.subnegotiations r.subnegotiations ∙ ap counted (sym (total_both dropped_subnegotiation had.segments r.segments));
+      subnegotiations = subs ∙ counts_both _ _ _ _ had.subnegotiations r.subnegotiations
+          ∙ ap counted (sym (total_both dropped_subnegotiation had.segments r.segments));
     }
 
 pub watches_none : (here : Watch) → WatchesOn here [] here
 watches_none here stream had = subst (λ (xs : List ℕ). Watches xs here) (sym (append-nil stream)) had
 
 pub watches_both : (old mid new : Watch) (xs ys : List ℕ) → WatchesOn old xs mid → WatchesOn mid ys new → WatchesOn old (xs ++ ys) new
-watches_both old mid new xs ys first then stream had = subst (λ (zs : List ℕ). Watches zs new) (append_assoc stream xs ys) (then (stream ++ xs) (first stream had))
+watches_both old mid new xs ys first then stream had = subst (λ (zs : List ℕ). Watches zs new) (append_assoc stream xs ys)
+    (then (stream ++ xs) (first stream had))
 
 -- THE END
 
@@ -255,7 +271,8 @@ partial_at (InsideIac count) rest is = record {
   begins = rw is.2 (ap (λ x. 255 ∷ 250 ∷ x) (append_assoc (doubled_bytes is.0) (255 ∷ []) (0 ∷ [])));
 }
 
-pub leaves : (watch : Watch) (unprinted : Unprinted) → unprinted.dropped ≡ watch.dropped → ((rest : List ℕ) → StandsAt watch.stand rest → IsLeft unprinted.left rest)
+pub leaves : (watch : Watch) (unprinted : Unprinted) → unprinted.dropped ≡ watch.dropped
+    → ((rest : List ℕ) → StandsAt watch.stand rest → IsLeft unprinted.left rest)
     → (stream : List ℕ) → Watches stream watch → LeavesUnprinted stream unprinted
 leaves watch unprinted same left stream had = record {
   items = flat_map gives had.segments;

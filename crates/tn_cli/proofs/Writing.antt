@@ -4,7 +4,8 @@ use Rattle.std.proofs.Math.Seq.{take-add}
 use Rattle.std.proofs.lemmas.List.{take_all}
 use Rattle.std.specs.Io.KnownBytes.{Appends}
 
-pub wrote_more : (old mid new : Option (List ℕ)) (output : List ℕ) (n m : ℕ) → Appends old mid (take n output) → Appends mid new (take m (drop n output)) → Appends old new (take (n + m) output)
+pub wrote_more : (old mid new : Option (List ℕ)) (output : List ℕ) (n m : ℕ) → Appends old mid (take n output) → Appends mid new (take m (drop n output))
+    → Appends old new (take (n + m) output)
 wrote_more None mid new output n m a b = tt
 wrote_more (Some o) None new output n m a b = absurd a
 wrote_more (Some o) (Some x) None output n m a b = absurd b

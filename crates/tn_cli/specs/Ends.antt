@@ -1,7 +1,9 @@
 -- How a run of a subcommand ends: its outcome, its input, its output, and the calls that failed.
-use Rattle.std.specs.Prelude.{◌≡◌, ◌≢◌, ⊤, ℕ, ◌<◌, ◌≤◌, List, length, Option, IfSome, Result, Err, IfOk, OnOk, OnErr, IfErr, IsErrOf}
+use Rattle.std.specs.Prelude.{◌≡◌, ◌≢◌, ⊤, ℕ, ◌<◌, ◌≤◌, List, length, Option, IfSome, Result, Err, IfOk, OnOk}
+use Rattle.std.specs.Prelude.{OnErr, IfErr, IsErrOf}
 use Rattle.tn_cli.specs.Decode.{Decodes, DecodesRead, DecodesSome}
-use Rattle.tn_cli.specs.Playing.{AppendsText, PlaysScript, PlaysScriptPrefix, StopsAtBadLine, StopsAtRefusedLine}
+use Rattle.tn_cli.specs.Playing.{AppendsText, PlaysScript, PlaysScriptPrefix, StopsAtBadLine}
+use Rattle.tn_cli.specs.Playing.{StopsAtRefusedLine}
 use Rattle.tn_cli.specs.Replay.{Replays, ReplaysPrefix}
 use Rattle.tn_cli.specs.Scripts.{lines_of}
 use Rattle.tn_cli.specs.Streams.{max_input, max_pieces, max_reads, max_writes}
@@ -58,7 +60,8 @@ IsDecodeFault (fault.World line) = ⊥
 
 -- How decoding a stream ends, of whatever length, which is printed as it comes. All of it is printed, or
 -- after a read that failed, all that was read; after a write that failed, or out of memory, a beginning.
-pub record EndsDecode (ended : Result Unprinted CliFault) (input rest old new : Option (List ℕ)) : Type 0 where
+pub record EndsDecode (ended : Result Unprinted CliFault)
+    (input rest old new : Option (List ℕ)) : Type 0 where
   pub ok : OnOk ended (IfSome input (λ stream. Decodes stream old new))
   pub left : IfOk ended (λ unprinted. IfSome input (λ stream. LeavesUnprinted stream unprinted))
   pub read : IsErrOf ended fault.Read → DecodesRead input rest old new
@@ -67,7 +70,8 @@ pub record EndsDecode (ended : Result Unprinted CliFault) (input rest old new : 
 
 -- `Read`: a read failed, or 2^64 - 1 were made. `Write`: some write failed, or took none of its bytes, or
 -- 2^64 - 1 were made.
-pub record EndsDecodeByCalls (ended : Result Unprinted CliFault) (reads reads_after writes writes_after : Option Calls)
+pub record EndsDecodeByCalls (ended : Result Unprinted CliFault)
+    (reads reads_after writes writes_after : Option Calls)
     : Type 0 where
   pub read_failed : IsErrOf ended fault.Read → HasFailed max_pieces reads reads_after
   pub write_failed : IsErrOf ended fault.Write → SomeFailed max_writes writes writes_after

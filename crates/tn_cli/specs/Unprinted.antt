@@ -9,7 +9,8 @@ use Rattle.tn_cli.specs.declared.unprinted.Dropped.{Dropped}
 use Rattle.tn_cli.specs.declared.unprinted.Left.{Left}
 use Rattle.tn_cli.specs.declared.unprinted.Left.TheVariants as left
 use Rattle.tn_cli.specs.declared.unprinted.Stand.{Stand}
-use Rattle.tn_cli.specs.declared.unprinted.Stand.TheVariants.{Between, AfterCr, AfterIac, AfterVerb, Inside, InsideIac}
+use Rattle.tn_cli.specs.declared.unprinted.Stand.TheVariants.{Between, AfterCr, AfterIac, AfterVerb, Inside}
+use Rattle.tn_cli.specs.declared.unprinted.Stand.TheVariants.{InsideIac}
 use Rattle.tn_cli.specs.declared.unprinted.Unprinted.{Unprinted}
 use Rattle.tn_cli.specs.declared.unprinted.Watch.{Watch}
 

@@ -2,7 +2,8 @@
 
 ghost use Rattle.std.specs.Prelude.{◌≡◌, [], true, false, IfOk, IfErr, OnOk, OnErr, IsErrOf};
 ghost use Rattle.std.specs.Io.KnownBytes.{IsAtEnd};
-ghost use Rattle.tn_cli.specs.Decode.{Decoded, DecodesSome, HasPrinted, PrintsLast, PrintsPiece, StopsPiece, WritesLast, WritesPiece};
+ghost use Rattle.tn_cli.specs.Decode.{Decoded, DecodesSome, HasPrinted, PrintsLast, PrintsPiece, StopsPiece};
+ghost use Rattle.tn_cli.specs.Decode.{WritesLast, WritesPiece};
 ghost use Rattle.tn_cli.specs.Ends.{EndsDecode, EndsDecodeByCalls};
 ghost use Rattle.tn_cli.specs.Streams.{IsPrintFault, max_pieces, max_writes};
 ghost use Rattle.tn_streams.specs.Telling.{AccountsFor, HasFailed};

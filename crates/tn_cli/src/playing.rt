@@ -1,6 +1,7 @@
 //! Runs the commands of a script in a world.
 
-ghost use Rattle.std.specs.Prelude.{◌≡◌, ◌≢◌, ◌++◌, [], ◌∷◌, ◌↔◌, IfOk, OnOk, OnErr, IfErr, IsErrOf, Err, map, IsTrue};
+ghost use Rattle.std.specs.Prelude.{◌≡◌, ◌≢◌, ◌++◌, [], ◌∷◌, ◌↔◌, IfOk, OnOk, OnErr, IfErr, IsErrOf, Err};
+ghost use Rattle.std.specs.Prelude.{map, IsTrue};
 ghost use Rattle.tn_world.specs.Headline.{NothingInFlight};
 ghost use Rattle.tn_world.specs.Worlds.{Runs};
 ghost use Rattle.tn_world.specs.declared.events.Event.TheVariants as event;

@@ -1,9 +1,11 @@
 //! Reads an input to its end, and writes all of an output.
 
-ghost use Rattle.std.specs.Prelude.{◌≡◌, ◌+◌, ◌-◌, ◌<◌, ◌≤◌, ◌≢◌, ℕ, List, length, vec_len, is_ok, IfOk, IfErr, IfSome, OnOk, OnErr, IsErrOf, Ok, Err, take, drop};
+ghost use Rattle.std.specs.Prelude.{◌≡◌, ◌+◌, ◌-◌, ◌<◌, ◌≤◌, ◌≢◌, ℕ, List, length, vec_len, is_ok, IfOk};
+ghost use Rattle.std.specs.Prelude.{IfErr, IfSome, OnOk, OnErr, IsErrOf, Ok, Err, take, drop};
 ghost use Rattle.std.specs.Io.KnownBytes.{Consumes, IsAtEnd, Appends, Keeps};
 ghost use Rattle.tn_streams.specs.Telling.{AccountsFor, HasFailed};
-ghost use Rattle.tn_cli.specs.Streams.{AppendsPrefix, IsReadFault, KeepsPiece, max_input, max_reads, max_writes};
+ghost use Rattle.tn_cli.specs.Streams.{AppendsPrefix, IsReadFault, KeepsPiece, max_input, max_reads};
+ghost use Rattle.tn_cli.specs.Streams.{max_writes};
 
 use crate::fault::CliFault;
 use std::alloc::Global;

@@ -1,7 +1,8 @@
 //! What a stream has that is no item: what is dropped of it, and what is left unread at its end.
 
 ghost use Rattle.std.specs.Prelude.{◌≡◌, [], ◌∷◌, ◌++◌, List, ℕ};
-ghost use Rattle.tn_cli.specs.Unprinted.{IsCount, IsLeft, Leads, LeavesUnprinted, StandsAt, Watches, WatchesOn, none};
+ghost use Rattle.tn_cli.specs.Unprinted.{IsCount, IsLeft, Leads, LeavesUnprinted, StandsAt, Watches};
+ghost use Rattle.tn_cli.specs.Unprinted.{WatchesOn, none};
 ghost use Rattle.tn_cli.specs.declared.unprinted.Stand.TheVariants as stand;
 
 use tn_codes::{Command, IAC, Verb};

@@ -1,5 +1,6 @@
 -- How much a client end sends at most.
-use Rattle.std.proofs.Common.{◌≡◌, ◌≢◌, ℕ, ◌+◌, ◌-◌, ◌*◌, ◌≤◌, ◌==◌, Bool, true, false, not, ◌&&◌, ◌||◌, Option, Some, None, List, [], ◌∷◌, ◌++◌, length, take, drop, take-append-drop, refl, ap, arith, if◌then◌else◌}
+use Rattle.std.proofs.Common.{◌≡◌, ◌≢◌, ℕ, ◌+◌, ◌-◌, ◌*◌, ◌≤◌, ◌==◌, Bool, true, false, not, ◌&&◌, ◌||◌, Option, Some, None, List, [], ◌∷◌, ◌++◌, length, take}
+use Rattle.std.proofs.Common.{drop, take-append-drop, refl, ap, arith, if◌then◌else◌}
 use Rattle.std.specs.Prelude.{bit_or}
 use Rattle.std.specs.Int.{w16, to_be_bytes}
 use Rattle.std.specs.Int.Bits.{or_add_and}
@@ -23,11 +24,14 @@ use Rattle.tn_nvt.proofs.lemmas.Sizes.{doubled_within, total, total-append, weig
 use Rattle.tn_option.specs.Options.{Options, options_after_word, reply_to}
 use Rattle.tn_wire.specs.Prefixes.{IsRead}
 use Rattle.tn_wire.specs.Words.{word_items, payload_items, mode_items, payload_under}
-use Rattle.tn_wire.proofs.lemmas.Sizes.{size, size-append, size-one, size-word, size-mode, size-list, size-triple, answers-size, says_under, size-came, size-least, size-params}
+use Rattle.tn_wire.proofs.lemmas.Sizes.{size, size-append, size-one, size-word, size-mode, size-list, size-triple, answers-size, says_under, size-came}
+use Rattle.tn_wire.proofs.lemmas.Sizes.{size-least, size-params}
 use Rattle.tn_client.specs.Bounds.{held_sent, max_answered, max_of_calls, bytes_due}
 use Rattle.tn_client.specs.Events.{History, typed, got, resized, proposed, sent, begun, next, items}
 use Rattle.tn_client.specs.Lines.{role_at, held_bytes, count_under, line}
-use Rattle.tn_client.specs.Replies.{byte_items, command_of, command_items, raw_key_items, edited_key_items, sent_ahead_items, key_items, size_items, new_size_items, payload_answers, answer_items, end_of_edit_items, is_same_size, resize_items, command_sent, replies, items_said}
+use Rattle.tn_client.specs.Replies.{byte_items, command_of, command_items, raw_key_items, edited_key_items, sent_ahead_items, key_items, size_items}
+use Rattle.tn_client.specs.Replies.{new_size_items, payload_answers, answer_items, end_of_edit_items, is_same_size, resize_items, command_sent, replies}
+use Rattle.tn_client.specs.Replies.{items_said}
 use Rattle.tn_client.specs.Steps.{is_sent_now, line_sent, line_left, count_told}
 use Rattle.tn_client.specs.Terms.{options, mode, forward, chars, size as window, linemode, tells_size, options_after, payload_at}
 use Rattle.tn_client.proofs.lemmas.Histories.{unedited-held}
@@ -113,7 +117,8 @@ module _ (names : (c : Characters) (t a : Triple) → client_answer c t ≡ Some
       omega (arith, size-append (held_sent h item) answers, size-answer (options h) (mode h) (chars h) (window h) item)
 
 -- WHAT IS HELD OF A LINE is sent once
-size-held_left : (before after : Bool) (n : ℕ) (l : HalfLine) → size (end_of_edit_items before after l.held) + size (byte_items (line_left before after n l).held) ≤ size (byte_items l.held)
+size-held_left : (before after : Bool) (n : ℕ) (l : HalfLine) → size (end_of_edit_items before after l.held)
+    + size (byte_items (line_left before after n l).held) ≤ size (byte_items l.held)
 size-held_left true false n l = omega arith
 size-held_left true true n l = omega arith
 size-held_left false true n l = omega arith
@@ -161,7 +166,8 @@ size-bytes-push bytes byte =
       size-byte byte,
     )
 
-size-kept : (full : Bool) (l : HalfLine) (byte : ℕ) → size (byte_items (if full then l else record l { held = l.held ++ byte ∷ [] }).held) ≤ size (byte_items l.held) + 2
+size-kept : (full : Bool) (l : HalfLine) (byte : ℕ) → size (byte_items (if full then l else record l { held = l.held ++ byte ∷ [] }).held) ≤ size
+    (byte_items l.held) + 2
 size-kept true l byte = omega arith
 size-kept false l byte = size-bytes-push l.held byte
 
@@ -179,7 +185,8 @@ size-front bytes =
       ap (λ (xs : List ℕ). size (byte_items xs)) (take-append-drop n bytes),
     )
 
-size-erased : (some : Bool) (l : HalfLine) → size (byte_items (if some then record l { held = front l.held } else record l { held = []; ahead = l.ahead - 1 }).held) ≤ size (byte_items l.held)
+size-erased : (some : Bool) (l : HalfLine) → size (byte_items (if some then record l { held = front l.held }
+    else record l { held = []; ahead = l.ahead - 1 }).held) ≤ size (byte_items l.held)
 size-erased true l = size-front l.held
 size-erased false l = omega arith
 
@@ -199,7 +206,8 @@ ahead_pays : (sends : Bool) (l : HalfLine) → size (sent_ahead_items sends l) +
 ahead_pays true l = omega arith
 ahead_pays false l = omega arith
 
-typed_pays : (h : History) (key : ℕ) (edit : Bool) → edits (mode h) ≡ edit → size (replies h (typed key)) + size (byte_items (held_bytes (next h (typed key)))) ≤ size (byte_items (held_bytes h)) + 2
+typed_pays : (h : History) (key : ℕ) (edit : Bool) → edits (mode h) ≡ edit
+    → size (replies h (typed key)) + size (byte_items (held_bytes (next h (typed key)))) ≤ size (byte_items (held_bytes h)) + 2
 typed_pays h key true e =
     let r : Role = role_at h key in
     let l : HalfLine = line h in
@@ -237,7 +245,8 @@ size-new_window false false z = omega arith
 size-new_window false true z = omega (arith, size-window z)
 
 module _ (names : (c : Characters) (t a : Triple) → client_answer c t ≡ Some a → Answers t a) where
-  answer_pays : (h : History) (item : Item) → size (answer_items (options h) (mode h) (chars h) (window h) item) + credit (tells_size (options (next h (got item)))) ≤ weight item + credit (tells_size (options h))
+  answer_pays : (h : History) (item : Item) → size (answer_items (options h) (mode h) (chars h) (window h) item)
+      + credit (tells_size (options (next h (got item)))) ≤ weight item + credit (tells_size (options h))
   answer_pays h (Byte b) = omega arith
   answer_pays h Newline = omega arith
   answer_pays h (Cmd command) = omega arith
@@ -251,7 +260,8 @@ module _ (names : (c : Characters) (t a : Triple) → client_answer c t ≡ Some
       )
   answer_pays h (Sub option params) = omega (arith, size-answer names (options h) (mode h) (chars h) (window h) (Sub option params))
 
-  item_pays : (h : History) (item : Item) → size (replies h (got item)) + size (byte_items (held_bytes (next h (got item)))) + credit (tells_size (options (next h (got item)))) ≤ size (byte_items (held_bytes h)) + weight item + credit (tells_size (options h))
+  item_pays : (h : History) (item : Item) → size (replies h (got item)) + size (byte_items (held_bytes (next h (got item))))
+      + credit (tells_size (options (next h (got item)))) ≤ size (byte_items (held_bytes h)) + weight item + credit (tells_size (options h))
   item_pays h item =
       let answers : List Item = answer_items (options h) (mode h) (chars h) (window h) item in
       omega (arith, size-append (held_sent h item) answers, answer_pays h item, held_pays h item)
@@ -270,7 +280,11 @@ credit_most false = omega arith
 
 bounded : ((c : Characters) (t a : Triple) → client_answer c t ≡ Some a → Answers t a) → (h : History) → Bounded h
 bounded names (begun width height limit) =
-    omega (arith, credit_most (tells_size (options (begun width height limit))), ap (λ (xs : List ℕ). size (byte_items xs)) (unedited-held (begun width height limit) refl))
+    omega (
+      arith,
+      credit_most (tells_size (options (begun width height limit))),
+      ap (λ (xs : List ℕ). size (byte_items xs)) (unedited-held (begun width height limit) refl),
+    )
 bounded names (next h (got item)) =
     omega (arith, bounded names h, total-append weight (items h) (item ∷ []), size-append (items_said h) (replies h (got item)), item_pays names h item)
 bounded names (next h (typed key)) =
@@ -291,6 +305,7 @@ weight-most (Neg verb option) fits = omega arith
 weight-most (Sub option params) fits = omega arith
 
 -- what is sent, or held, for the bytes of a stream
-pub sent_at_most : ((c : Characters) (t a : Triple) → client_answer c t ≡ Some a → Answers t a) → (h : History) (bytes : List ℕ) → IsRead bytes (items h) → bytes_due h ≤ 4 * length bytes + max_of_calls h + 4
+pub sent_at_most : ((c : Characters) (t a : Triple) → client_answer c t ≡ Some a → Answers t a) → (h : History) (bytes : List ℕ) → IsRead bytes (items h)
+    → bytes_due h ≤ 4 * length bytes + max_of_calls h + 4
 sent_at_most names h bytes (rest, reading) =
     omega (arith, bounded names h, weighs_at_most weight 4 (record { spelled = weight-most; alone = omega arith }) bytes rest (items h) reading)

@@ -17,12 +17,15 @@ wants : (h : History) (left part : List Item) (here : DecoderState) (back : List
 wants h [] part here back none cause = cause.1
 wants h (item ∷ left) part here back none cause = absurd (cc)
 
-never_wants : (old here : DecoderState) (piece front back : List ℕ) (xs : List Item) → piece ≡ front ++ back → IsLetGo old piece → nvt.Advances old front xs here → WantsMemory here back → ⊥
+never_wants : (old here : DecoderState) (piece front back : List ℕ) (xs : List Item) → piece ≡ front ++ back → IsLetGo old piece
+    → nvt.Advances old front xs here → WantsMemory here back → ⊥
 never_wants old here piece front [] xs whole g adds wanted = wanted
 never_wants old here piece front (byte ∷ back) xs whole g adds wanted = keeps_nothing old here piece front back byte xs whole g adds wanted
 
-pub dropping_goes_on : (c : Course) (old : End) (piece before after seen now : List ℕ) → CourseLeadsTo c old → IsLetGo old.decoder piece → StopsWithin old piece before after seen now → ⊥
+pub dropping_goes_on : (c : Course) (old : End) (piece before after seen now : List ℕ) → CourseLeadsTo c old → IsLetGo old.decoder piece
+    → StopsWithin old piece before after seen now → ⊥
 dropping_goes_on c old piece before after seen now at g s =
     let none = gives_nothing old.decoder s.here piece s.front s.back (s.done ++ s.left) s.whole g s.reads in
     never_wants old.decoder s.here piece s.front s.back (s.done ++ s.left) s.whole g s.reads
-    (wants (gets at.history s.done) s.left s.part s.here s.back (none_left s.done s.left none) (s.cause at.history (stream c) (items at.history) at.leads at.reads))
+    (wants (gets at.history s.done) s.left s.part s.here s.back (none_left s.done s.left none)
+    (s.cause at.history (stream c) (items at.history) at.leads at.reads))

@@ -34,7 +34,8 @@ gets_none old before seen = record {
 }
 
 -- an item
-pub gets_one : (old new : End) (item : Item) (before after seen now : List ℕ) → new ≡ end_after_item old item → after ≡ before ++ spells (says_got old item) → now ≡ seen ++ item_shown item → AdvancesAll old (item ∷ []) before after seen now new
+pub gets_one : (old new : End) (item : Item) (before after seen now : List ℕ) → new ≡ end_after_item old item → after ≡ before ++ spells (says_got old item)
+    → now ≡ seen ++ item_shown item → AdvancesAll old (item ∷ []) before after seen now new
 gets_one old new item before after seen now is appended displayed = record {
   said = says_got old item;
   text = item_shown item;
@@ -46,7 +47,8 @@ gets_one old new item before after seen now is appended displayed = record {
 }
 
 -- more items
-pub gets_both : (old mid new : End) (xs ys : List Item) (before between after seen then now : List ℕ) → AdvancesAll old xs before between seen then mid → AdvancesAll mid ys between after then now new → AdvancesAll old (xs ++ ys) before after seen now new
+pub gets_both : (old mid new : End) (xs ys : List Item) (before between after seen then now : List ℕ) → AdvancesAll old xs before between seen then mid
+    → AdvancesAll mid ys between after then now new → AdvancesAll old (xs ++ ys) before after seen now new
 gets_both old mid new xs ys before between after seen then now g k = record {
   said = g.said ++ k.said;
   text = g.text ++ k.text;
@@ -74,8 +76,14 @@ count_same false l n = refl
 
 after_byte : (old : End) (byte : ℕ) → end_after_item old (Byte byte) ≡ old
 after_byte old byte =
-    ap (λ (l : HalfLine). record old { line = l; trapped = count_left (edits old.mode) (edits old.mode) old.line old.trapped; plain = count_left (edits old.mode) (edits old.mode) old.line old.plain }) (line_same (edits old.mode) (count_told old.mode old.trapped old.plain) old.line)
-    ∙ ap (λ (n : ℕ). record old { trapped = n; plain = count_left (edits old.mode) (edits old.mode) old.line old.plain }) (count_same (edits old.mode) old.line old.trapped)
+    ap (λ (l : HalfLine). record old {
+      line = l;
+      trapped = count_left (edits old.mode) (edits old.mode) old.line old.trapped;
+      plain = count_left (edits old.mode) (edits old.mode) old.line old.plain;
+    })
+    (line_same (edits old.mode) (count_told old.mode old.trapped old.plain) old.line)
+    ∙ ap (λ (n : ℕ). record old { trapped = n; plain = count_left (edits old.mode) (edits old.mode) old.line old.plain })
+    (count_same (edits old.mode) old.line old.trapped)
     ∙ ap (λ (n : ℕ). record old { plain = n }) (count_same (edits old.mode) old.line old.plain)
 
 replies_byte : (h : History) (byte : ℕ) → replies h (got (Byte byte)) ≡ []

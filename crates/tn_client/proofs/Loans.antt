@@ -1,5 +1,6 @@
 -- What a client end did while it was lent to its decoder.
-use Rattle.std.proofs.Common.{◌≡◌, ◌≢◌, ◌↔◌, ◌⊎◌, inl, inr, ℕ, List, [], ◌∷◌, ◌++◌, map, Result, Err, OnOk, IsErrOf, refl, sym, ap, ◌∙◌, append-nil, arith, subst}
+use Rattle.std.proofs.Common.{◌≡◌, ◌≢◌, ◌↔◌, ◌⊎◌, inl, inr, ℕ, List, [], ◌∷◌, ◌++◌, map, Result, Err, OnOk, IsErrOf, refl, sym, ap, ◌∙◌, append-nil, arith}
+use Rattle.std.proofs.Common.{subst}
 use Rattle.tn_nvt.specs.Spelling.{spells}
 use Rattle.tn_nvt.specs.Sinks.{IsRun, TakesEach, FeedsTo, StopsAtSink as RefusesRest, StopsForMemory, all_of, calls_of, bytes_of}
 use Rattle.tn_nvt.specs.Feeding.{DecoderState, failed, Advances}
@@ -23,15 +24,18 @@ use Rattle.tn_client.proofs.Gathering.{keeps_same, keeps_both, gets_none, gets_o
 use Rattle.tn_client.proofs.Standings.{refuses_got}
 
 -- ONE CALL
-pub took_run : (a b : Lent) (bytes : List ℕ) → IsSameLoan a b → b.end.now ≡ a.end.now → b.out.now.items ≡ a.out.now.items → b.screen.now.items ≡ a.screen.now.items ++ bytes → TakesItems a (map Byte bytes) b
+pub took_run : (a b : Lent) (bytes : List ℕ) → IsSameLoan a b → b.end.now ≡ a.end.now → b.out.now.items ≡ a.out.now.items
+    → b.screen.now.items ≡ a.screen.now.items ++ bytes → TakesItems a (map Byte bytes) b
 took_run a b bytes same end out screen = record {
   same = same;
   keeps = subst (λ (e : End). ReadsNothing a.end.now e) (sym end) (keeps_same a.end.now);
   gets =
-      rw (out, screen) (subst (λ (e : End). AdvancesAll a.end.now (map Byte bytes) a.out.now.items a.out.now.items a.screen.now.items (a.screen.now.items ++ bytes) e) (sym end) (gets_plain a.end.now bytes a.out.now.items a.screen.now.items));
+      rw (out, screen) (subst (λ (e : End). AdvancesAll a.end.now (map Byte bytes) a.out.now.items a.out.now.items a.screen.now.items
+      (a.screen.now.items ++ bytes) e) (sym end) (gets_plain a.end.now bytes a.out.now.items a.screen.now.items));
 }
 
-pub refused_run : (a b : Lent) (bytes : List ℕ) → IsRun bytes → IsSameLoan a b → b.out.now.items ≡ a.out.now.items → b.screen.now.items ≡ a.screen.now.items → RefusesItems a (map Byte bytes) b
+pub refused_run : (a b : Lent) (bytes : List ℕ) → IsRun bytes → IsSameLoan a b → b.out.now.items ≡ a.out.now.items → b.screen.now.items ≡ a.screen.now.items
+    → RefusesItems a (map Byte bytes) b
 refused_run a b [] run same out screen = absurd (omega (arith, run.some))
 refused_run a b (byte ∷ bytes) run same out screen = record {
   same = same;
@@ -39,17 +43,22 @@ refused_run a b (byte ∷ bytes) run same out screen = record {
   later = map Byte bytes;
   whole = refl;
   refused =
-      refuses_got a.end.now (Byte byte) a.out.now.items b.out.now.items a.screen.now.items b.screen.now.items (record { part = []; rest = says_got a.end.now (Byte byte); whole_is = refl; appended = out ∙ sym (append-nil a.out.now.items) }) screen (inr (inl (cons_some byte [])));
+      refuses_got a.end.now (Byte byte) a.out.now.items b.out.now.items a.screen.now.items b.screen.now.items
+      (record { part = []; rest = says_got a.end.now (Byte byte); whole_is = refl; appended = out ∙ sym (append-nil a.out.now.items) }) screen
+      (inr (inl (cons_some byte [])));
 }
 
-pub took_item : (a b : Lent) (item : Item) → IsSameLoan a b → b.end.now ≡ end_after_item a.end.now item → b.out.now.items ≡ a.out.now.items ++ spells (says_got a.end.now item) → b.screen.now.items ≡ a.screen.now.items ++ item_shown item → TakesItems a (item ∷ []) b
+pub took_item : (a b : Lent) (item : Item) → IsSameLoan a b → b.end.now ≡ end_after_item a.end.now item
+    → b.out.now.items ≡ a.out.now.items ++ spells (says_got a.end.now item) → b.screen.now.items ≡ a.screen.now.items ++ item_shown item
+    → TakesItems a (item ∷ []) b
 took_item a b item same end out screen = record {
   same = same;
   keeps = record { decoder = ap (λ (e : End). e.decoder) end; failed = ap (λ (e : End). e.failed) end };
   gets = gets_one a.end.now b.end.now item a.out.now.items b.out.now.items a.screen.now.items b.screen.now.items end out screen;
 }
 
-pub refused_item : (a b : Lent) (item : Item) → IsSameLoan a b → AppendsPrefix (says_got a.end.now item) a.out.now.items b.out.now.items → b.screen.now.items ≡ a.screen.now.items → MayWantMemoryNow a.end.now item → RefusesItems a (item ∷ []) b
+pub refused_item : (a b : Lent) (item : Item) → IsSameLoan a b → AppendsPrefix (says_got a.end.now item) a.out.now.items b.out.now.items
+    → b.screen.now.items ≡ a.screen.now.items → MayWantMemoryNow a.end.now item → RefusesItems a (item ∷ []) b
 refused_item a b item same cut screen grows = record {
   same = same;
   item = item;
@@ -59,7 +68,8 @@ refused_item a b item same cut screen grows = record {
 }
 
 -- a subnegotiation shows nothing
-pub grows_sub : (old : End) (option : ℕ) (params : List ℕ) → (says_sub old (payload_at old.options (Sub option params)) ≢ []) ⊎ ReadsList old.options (Sub option params) → MayWantMemoryNow old (Sub option params)
+pub grows_sub : (old : End) (option : ℕ) (params : List ℕ) → (says_sub old (payload_at old.options (Sub option params)) ≢ [])
+    ⊎ ReadsList old.options (Sub option params) → MayWantMemoryNow old (Sub option params)
 grows_sub old option params (inl says) = inl says
 grows_sub old option params (inr reads) = inr (inr reads)
 
@@ -69,27 +79,45 @@ GetsBy a items b = AdvancesAll a.end.now items a.out.now.items b.out.now.items a
 
 gets_all : (a b : Lent) (calls : List (List Item)) → TakesEach TakesItems a calls b → GetsBy a (all_of calls) b
 gets_all a b calls t =
-    taken_all TakesItems RefusesItems GetsBy (λ x. gets_none x.end.now x.out.now.items x.screen.now.items) (λ x y z xs ys u g. gets_both _ _ _ xs ys _ _ _ _ _ _ u.gets g) a b calls t
+    taken_all TakesItems RefusesItems GetsBy (λ x. gets_none x.end.now x.out.now.items x.screen.now.items)
+    (λ x y z xs ys u g. gets_both _ _ _ xs ys _ _ _ _ _ _ u.gets g) a b calls t
 
 keeps_all : (a b : Lent) (calls : List (List Item)) → TakesEach TakesItems a calls b → ReadsNothing a.end.now b.end.now
 keeps_all a b calls t =
-    taken_all TakesItems RefusesItems (λ x _ y. ReadsNothing x.end.now y.end.now) (λ x. keeps_same x.end.now) (λ x y z xs ys u k. keeps_both x.end.now y.end.now z.end.now u.keeps k) a b calls t
+    taken_all TakesItems RefusesItems (λ x _ y. ReadsNothing x.end.now y.end.now) (λ x. keeps_same x.end.now)
+    (λ x y z xs ys u k. keeps_both x.end.now y.end.now z.end.now u.keeps k) a b calls t
 
 -- whatever the decoder answered
-pub same_loan : (r : Result (Unit {0}) NvtFault) (old new : DecoderState) (piece : List ℕ) (a b : Lent) → OnOk r (FeedsTo TakesItems old piece a b new) → (IsErrOf r Refused → RefusesRest TakesItems RefusesItems old piece a b) → (IsErrOf r Memory → StopsForMemory TakesItems old piece a b) → (IsErrOf r Failed → b ≡ a) → IsSameLoan a b
-same_loan = kept_by_all TakesItems RefusesItems IsSameLoan (λ x. record { end = refl; out = refl; screen = refl }) (λ x y z p q. record { end = q.end ∙ p.end; out = q.out ∙ p.out; screen = q.screen ∙ p.screen }) (λ x y xs t. t.same) (λ x y xs t. t.same)
+pub same_loan : (r : Result (Unit {0}) NvtFault) (old new : DecoderState) (piece : List ℕ) (a b : Lent) → OnOk r (FeedsTo TakesItems old piece a b new)
+    → (IsErrOf r Refused → RefusesRest TakesItems RefusesItems old piece a b) → (IsErrOf r Memory → StopsForMemory TakesItems old piece a b)
+    → (IsErrOf r Failed → b ≡ a) → IsSameLoan a b
+same_loan = kept_by_all TakesItems RefusesItems IsSameLoan (λ x. record { end = refl; out = refl; screen = refl })
+    (λ x y z p q. record { end = q.end ∙ p.end; out = q.out ∙ p.out; screen = q.screen ∙ p.screen }) (λ x y xs t. t.same) (λ x y xs t. t.same)
 
 -- the decoder alone changed
 stands_decoder : (h : History) (old : End) (d : DecoderState) → LeadsTo h old → LeadsTo h (record old { decoder = d })
 stands_decoder h old d s =
-    record { options = s.options; mode = s.mode; forward = s.forward; table = s.table; line = s.line; ahead = s.ahead; limit = s.limit; trapped = s.trapped; plain = s.plain; size = s.size }
+    record {
+      options = s.options;
+      mode = s.mode;
+      forward = s.forward;
+      table = s.table;
+      line = s.line;
+      ahead = s.ahead;
+      limit = s.limit;
+      trapped = s.trapped;
+      plain = s.plain;
+      size = s.size;
+    }
 
 -- the end was lent without its decoder
 lends : (h : History) (old : End) (held : DecoderState) (a : Lent) → a.end.now ≡ record old { decoder = held } → LeadsTo h old → LeadsTo h a.end.now
 lends h old held a began s = subst (LeadsTo h) (sym began) (stands_decoder h old held s)
 
 -- a piece that was read to its end
-pub feeds_of : (old new : End) (held d : DecoderState) (piece after now : List ℕ) (a b : Lent) → a.end.now ≡ record old { decoder = held } → FeedsTo TakesItems old.decoder piece a b d → new ≡ record b.end.now { decoder = d } → after ≡ b.out.now.items → now ≡ b.screen.now.items → Feeds old piece a.out.now.items after a.screen.now.items now new
+pub feeds_of : (old new : End) (held d : DecoderState) (piece after now : List ℕ) (a b : Lent) → a.end.now ≡ record old { decoder = held }
+    → FeedsTo TakesItems old.decoder piece a b d → new ≡ record b.end.now { decoder = d } → after ≡ b.out.now.items → now ≡ b.screen.now.items
+    → Feeds old piece a.out.now.items after a.screen.now.items now new
 feeds_of old new held d piece after now a b began hands is outs screens =
     let items = all_of (calls_of hands.parts) in
     let g = gets_all a b (calls_of hands.parts) hands.taken in
@@ -108,11 +136,14 @@ feeds_of old new held d piece after now a b began hands is outs screens =
     }
 
 -- where the first of some items was refused, all that is left gives up
-gives_up : (h : History) (left later more : List Item) (item : Item) (part : List Item) (here : DecoderState) (back : List ℕ) → left ≡ item ∷ later → IsStopCause h (item ∷ later ++ more) part here back → IsStopCause h (left ++ more) part here back
+gives_up : (h : History) (left later more : List Item) (item : Item) (part : List Item) (here : DecoderState) (back : List ℕ) → left ≡ item ∷ later
+    → IsStopCause h (item ∷ later ++ more) part here back → IsStopCause h (left ++ more) part here back
 gives_up h left later more item part here back is g =
     subst (λ (xs : List Item). IsStopCause h (xs ++ more) part here back) (sym is) g
 
-breaks_at : (old : End) (held : DecoderState) (piece after now : List ℕ) (a b : Lent) → a.end.now ≡ record old { decoder = held } → RefusesRest TakesItems RefusesItems old.decoder piece a b → after ≡ b.out.now.items → now ≡ b.screen.now.items → StopsWithin old piece a.out.now.items after a.screen.now.items now
+breaks_at : (old : End) (held : DecoderState) (piece after now : List ℕ) (a b : Lent) → a.end.now ≡ record old { decoder = held }
+    → RefusesRest TakesItems RefusesItems old.decoder piece a b → after ≡ b.out.now.items → now ≡ b.screen.now.items
+    → StopsWithin old piece a.out.now.items after a.screen.now.items now
 breaks_at old held piece after now a b began r outs screens =
     let g = gets_all a r.middle r.done r.taken in
     let f = r.given_up in
@@ -123,7 +154,8 @@ breaks_at old held piece after now a b began r outs screens =
       done = all_of r.done;
       left = r.left ++ all_of r.unseen;
       here = r.here;
-      reads = subst (λ (xs : List Item). Advances old.decoder (bytes_of r.parts) xs r.here) (refused_items TakesItems RefusesItems old.decoder piece a b r) r.adds;
+      reads = subst (λ (xs : List Item). Advances old.decoder (bytes_of r.parts) xs r.here)
+          (refused_items TakesItems RefusesItems old.decoder piece a b r) r.adds;
       said = g.said;
       part = f.refused.part;
       text = g.text;
@@ -132,10 +164,13 @@ breaks_at old held piece after now a b began r outs screens =
       sends = λ h s. g.sends h (lends h old held a began s);
       shows = λ h s. g.shows h (lends h old held a began s);
       cause = λ h stream had s reads.
-          gives_up (gets h (all_of r.done)) r.left f.later (all_of r.unseen) f.item f.refused.part r.here r.back f.whole (f.refused.refused (gets h (all_of r.done)) (g.leads h (lends h old held a began s)));
+          gives_up (gets h (all_of r.done)) r.left f.later (all_of r.unseen) f.item f.refused.part r.here r.back f.whole
+          (f.refused.refused (gets h (all_of r.done)) (g.leads h (lends h old held a began s)));
     }
 
-breaks_after : (old : End) (held : DecoderState) (piece after now : List ℕ) (a b : Lent) → a.end.now ≡ record old { decoder = held } → StopsForMemory TakesItems old.decoder piece a b → after ≡ b.out.now.items → now ≡ b.screen.now.items → StopsWithin old piece a.out.now.items after a.screen.now.items now
+breaks_after : (old : End) (held : DecoderState) (piece after now : List ℕ) (a b : Lent) → a.end.now ≡ record old { decoder = held }
+    → StopsForMemory TakesItems old.decoder piece a b → after ≡ b.out.now.items → now ≡ b.screen.now.items
+    → StopsWithin old piece a.out.now.items after a.screen.now.items now
 breaks_after old held piece after now a b began w outs screens =
     let items = all_of (calls_of w.parts) in
     let g = gets_all a b (calls_of w.parts) w.taken in
@@ -158,7 +193,8 @@ breaks_after old held piece after now a b began w outs screens =
     }
 
 -- a decoder that has failed reads nothing
-breaks_unread : (old : End) (piece : List ℕ) (a b : Lent) (after now : List ℕ) → old.decoder ≡ failed → b ≡ a → after ≡ b.out.now.items → now ≡ b.screen.now.items → StopsWithin old piece a.out.now.items after a.screen.now.items now
+breaks_unread : (old : End) (piece : List ℕ) (a b : Lent) (after now : List ℕ) → old.decoder ≡ failed → b ≡ a → after ≡ b.out.now.items
+    → now ≡ b.screen.now.items → StopsWithin old piece a.out.now.items after a.screen.now.items now
 breaks_unread old piece a b after now dead same outs screens =
     let never : (stream : List ℕ) (had : List Item) → nvt.LeadsTo stream had old.decoder → ⊥ =
     λ stream had reads. let r : nvt.LeadsTo stream had failed = subst (λ (d : DecoderState). nvt.LeadsTo stream had d) dead reads in r.stands in
@@ -180,7 +216,13 @@ breaks_unread old piece a b after now dead same outs screens =
       cause = λ h stream had s reads. absurd (never stream had reads);
     }
 
-pub breaks_of : (r : Result (Unit {0}) NvtFault) (fault : NvtFault) → r ≡ Err fault → (old : End) (held : DecoderState) (piece after now : List ℕ) (a b : Lent) → a.end.now ≡ record old { decoder = held } → (IsErrOf r Refused → RefusesRest TakesItems RefusesItems old.decoder piece a b) → (IsErrOf r Memory → StopsForMemory TakesItems old.decoder piece a b) → (IsErrOf r Failed ↔ (old.decoder ≡ failed)) → (IsErrOf r Failed → b ≡ a) → after ≡ b.out.now.items → now ≡ b.screen.now.items → StopsWithin old piece a.out.now.items after a.screen.now.items now
-breaks_of r Refused is old held piece after now a b began refused memory dead same outs screens = breaks_at old held piece after now a b began (refused is) outs screens
-breaks_of r Memory is old held piece after now a b began refused memory dead same outs screens = breaks_after old held piece after now a b began (memory is) outs screens
-breaks_of r Failed is old held piece after now a b began refused memory dead same outs screens = breaks_unread old piece a b after now (dead.0 is) (same is) outs screens
+pub breaks_of : (r : Result (Unit {0}) NvtFault) (fault : NvtFault) → r ≡ Err fault → (old : End) (held : DecoderState) (piece after now : List ℕ) (a b : Lent)
+    → a.end.now ≡ record old { decoder = held } → (IsErrOf r Refused → RefusesRest TakesItems RefusesItems old.decoder piece a b)
+    → (IsErrOf r Memory → StopsForMemory TakesItems old.decoder piece a b) → (IsErrOf r Failed ↔ (old.decoder ≡ failed)) → (IsErrOf r Failed → b ≡ a)
+    → after ≡ b.out.now.items → now ≡ b.screen.now.items → StopsWithin old piece a.out.now.items after a.screen.now.items now
+breaks_of r Refused is old held piece after now a b began refused memory dead same outs screens =
+    breaks_at old held piece after now a b began (refused is) outs screens
+breaks_of r Memory is old held piece after now a b began refused memory dead same outs screens =
+    breaks_after old held piece after now a b began (memory is) outs screens
+breaks_of r Failed is old held piece after now a b began refused memory dead same outs screens =
+    breaks_unread old piece a b after now (dead.0 is) (same is) outs screens

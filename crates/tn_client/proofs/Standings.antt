@@ -16,13 +16,16 @@ use Rattle.tn_nvt.specs.declared.items.Item.{Item}
 use Rattle.tn_option.specs.Options.{Options}
 use Rattle.tn_client.specs.Events.{History, next, typed, got}
 use Rattle.tn_client.specs.Terms.{options, mode, forward, chars, size, options_after, mode_at, forward_at, chars_by, payload_at, is_echoed}
-use Rattle.tn_client.specs.Lines.{settings_by, key_settings, role_of_typed, role_at, roles_under, edited_roles, line_limit, half_line, sends_ahead, is_sent_ahead, ahead, count_under, line}
+use Rattle.tn_client.specs.Lines.{settings_by, key_settings, role_of_typed, role_at, roles_under, edited_roles, line_limit, half_line, sends_ahead}
+use Rattle.tn_client.specs.Lines.{is_sent_ahead, ahead, count_under, line}
 use Rattle.tn_client.specs.Replies.{replies, key_items, item_replies}
 use Rattle.tn_client.specs.Screen.{shows, key_shown}
 use Rattle.tn_client.specs.Calls.{End, LeadsTo, ReadsNothing, Advances, Sends, LacksMemoryFor, Shows, SaysOrShows, ReadsList, MayWantMemory, RefusesItem}
-use Rattle.tn_client.specs.Steps.{role_now, is_sent_now, line_sent, line_typed, count_typed, end_after_key, says_key, shows_key, LacksMemoryNow, line_left, count_left, count_told, end_after_item, says_got, MayWantMemoryNow}
+use Rattle.tn_client.specs.Steps.{role_now, is_sent_now, line_sent, line_typed, count_typed, end_after_key, says_key, shows_key, LacksMemoryNow, line_left}
+use Rattle.tn_client.specs.Steps.{count_left, count_told, end_after_item, says_got, MayWantMemoryNow}
 use Rattle.tn_wire.specs.Prefixes.{AppendsPrefix}
-use Rattle.tn_client.proofs.lemmas.Histories.{unedited, unedited-ahead, edited-typed, edited-stays, edited-begins, under-typed, under-ends, under-stays, count-none, count-is, ahead-typed, ahead-stays, ahead-begins}
+use Rattle.tn_client.proofs.lemmas.Histories.{unedited, unedited-ahead, edited-typed, edited-stays, edited-begins, under-typed, under-ends, under-stays}
+use Rattle.tn_client.proofs.lemmas.Histories.{count-none, count-is, ahead-typed, ahead-stays, ahead-begins}
 use Rattle.tn_client.proofs.lemmas.Ends.{line_is}
 
 -- no role leaves an empty line
@@ -41,16 +44,19 @@ sent_leaves : (sends : Bool) (roles : List Role) (l : HalfLine) → discipline.L
 sent_leaves true roles l leads = released_keeps l roles leads
 sent_leaves false roles l leads = leads
 
-typed_leaves : (h : History) (old : End) (key : ℕ) (b : Bool) → edits (mode h) ≡ b → LeadsTo h old → discipline.LeadsTo (edited_roles (next h (typed key))) (line_typed b old.forward old.line (role_now old key))
+typed_leaves : (h : History) (old : End) (key : ℕ) (b : Bool) → edits (mode h) ≡ b → LeadsTo h old
+    → discipline.LeadsTo (edited_roles (next h (typed key))) (line_typed b old.forward old.line (role_now old key))
 typed_leaves h old key true e s =
     let l = old.line in
     let r = role_now old key in
-    subst (λ (rs : List Role). discipline.LeadsTo rs (line_typed true old.forward l r)) (ap (λ (x : Role). edited_roles h ++ roles_from x) (role_is h old key s) ∙ sym (edited-typed h key e))
+    subst (λ (rs : List Role). discipline.LeadsTo rs (line_typed true old.forward l r))
+    (ap (λ (x : Role). edited_roles h ++ roles_from x) (role_is h old key s) ∙ sym (edited-typed h key e))
     (sent_leaves (is_sent_now old.forward l r) (edited_roles h ++ roles_from r) (line_after l r) ((advances l r).half (edited_roles h) s.line))
 typed_leaves h old key false e s = subst (λ (rs : List Role). discipline.LeadsTo rs old.line) (unedited h e ∙ sym (unedited (next h (typed key)) e)) s.line
 
 -- the count of a half line that the server edits
-typed_count : (isig : Bool) (h : History) (old : End) (key count : ℕ) (b : Bool) → edits (mode h) ≡ b → LeadsTo h old → count ≡ count_under isig h → count_typed b isig old count key ≡ count_under isig (next h (typed key))
+typed_count : (isig : Bool) (h : History) (old : End) (key count : ℕ) (b : Bool) → edits (mode h) ≡ b → LeadsTo h old → count ≡ count_under isig h
+    → count_typed b isig old count key ≡ count_under isig (next h (typed key))
 typed_count isig h old key count true e s is = is ∙ count-none isig h e ∙ sym (count-none isig (next h (typed key)) e)
 typed_count isig h old key count false e s is =
     let n = length (half_of (line_limit h) (roles_under isig h)) in
@@ -62,12 +68,14 @@ typed_count isig h old key count false e s is =
     ∙ ap (λ (rs : List Role). length (half_of (line_limit h) rs)) (sym (under-typed isig h key e))
     ∙ sym (count-is isig (next h (typed key)) e)
 
-sent_least : (sends : Bool) (l : HalfLine) (r : Role) → (line_sent sends (line_after l r)).ahead ≡ (if sends then line_length (line_after l r) else min (line_length (line_after l r)) l.ahead)
+sent_least : (sends : Bool) (l : HalfLine) (r : Role) → (line_sent sends (line_after l r)).ahead
+    ≡ (if sends then line_length (line_after l r) else min (line_length (line_after l r)) l.ahead)
 sent_least true l r = refl
 sent_least false l r = after_least l r
 
 -- the line is as long as the half line of the history
-long_typed : (h : History) (old : End) (key : ℕ) → edits (mode h) ≡ true → LeadsTo h old → line_length (line_after old.line (role_now old key)) ≡ length (half_line (next h (typed key)))
+long_typed : (h : History) (old : End) (key : ℕ) → edits (mode h) ≡ true → LeadsTo h old
+    → line_length (line_after old.line (role_now old key)) ≡ length (half_line (next h (typed key)))
 long_typed h old key e s =
     let r = role_now old key in
     let roles = edited_roles h ++ roles_from r in
@@ -86,7 +94,8 @@ sent_typed h old key s =
     ∙ ap (λ (f : Option Mask). sends_ahead f (line_limit h) (count_of (line_limit h) (edited_roles h)) (role_now old key)) s.forward
     ∙ ap (λ (r : Role). sends_ahead (forward h) (line_limit h) (count_of (line_limit h) (edited_roles h)) r) (role_is h old key s)
 
-typed_ahead : (h : History) (old : End) (key : ℕ) (b : Bool) → edits (mode h) ≡ b → LeadsTo h old → (line_typed b old.forward old.line (role_now old key)).ahead ≡ ahead (next h (typed key))
+typed_ahead : (h : History) (old : End) (key : ℕ) (b : Bool) → edits (mode h) ≡ b → LeadsTo h old
+    → (line_typed b old.forward old.line (role_now old key)).ahead ≡ ahead (next h (typed key))
 typed_ahead h old key true e s =
     let l = old.line in
     let r = role_now old key in
@@ -133,8 +142,10 @@ pub shows_typed : (h : History) (old : End) (key : ℕ) → LeadsTo h old → sh
 shows_typed h old key s =
     ap (λ (o : Options). key_shown (is_echoed o) (edits (mode h)) (key_settings (mode h) (chars h)) (role_at h key) (line h) key) (sym s.options)
     ∙ ap (λ (m : ℕ). key_shown (is_echoed old.options) (edits m) (key_settings m (chars h)) (role_of_typed m (chars h) key) (line h) key) (sym s.mode)
-    ∙ ap (λ (c : Characters). key_shown (is_echoed old.options) (edits old.mode) (key_settings old.mode c) (role_of_typed old.mode c key) (line h) key) (sym s.table)
-    ∙ ap (λ (l : HalfLine). key_shown (is_echoed old.options) (edits old.mode) (key_settings old.mode old.table) (role_now old key) l key) (sym (line_is h old s))
+    ∙ ap (λ (c : Characters). key_shown (is_echoed old.options) (edits old.mode) (key_settings old.mode c) (role_of_typed old.mode c key) (line h) key)
+    (sym s.table)
+    ∙ ap (λ (l : HalfLine). key_shown (is_echoed old.options) (edits old.mode) (key_settings old.mode old.table) (role_now old key) l key)
+    (sym (line_is h old s))
 
 pub goes_typed : (old new : End) (key : ℕ) → new ≡ end_after_key old key → Advances old (typed key) new
 goes_typed old new key is = record { leads = λ h s. subst (LeadsTo (next h (typed key))) (sym is) (stands_typed h old key s) }
@@ -154,9 +165,12 @@ grows_typed old key (inl some) h s = inl (λ e. some (sym (replies_typed h old k
 grows_typed old key (inr some) h s = inr (λ e. some (sym (shows_typed h old key s) ∙ e))
 
 -- and what wants memory by what the end knows wants it by the history
-pub lacks_typed : {Y Z : Type 0} (old : End) (key : ℕ) (out : Vec ℕ Y) (screen : Vec ℕ Z) → LacksMemoryNow old key out screen → LacksMemoryFor old key out screen
-lacks_typed old key out screen (inl lacks) h s = inl (subst (λ (said : List Item). LacksRoom out (length (spells said))) (sym (replies_typed h old key s)) lacks)
-lacks_typed old key out screen (inr (inl lacks)) h s = inr (inl (subst (λ (text : List ℕ). LacksRoom screen (length text)) (sym (shows_typed h old key s)) lacks))
+pub lacks_typed : {Y Z : Type 0} (old : End) (key : ℕ) (out : Vec ℕ Y) (screen : Vec ℕ Z) → LacksMemoryNow old key out screen
+    → LacksMemoryFor old key out screen
+lacks_typed old key out screen (inl lacks) h s = inl (subst (λ (said : List Item). LacksRoom out (length (spells said)))
+    (sym (replies_typed h old key s)) lacks)
+lacks_typed old key out screen (inr (inl lacks)) h s = inr (inl (subst (λ (text : List ℕ). LacksRoom screen (length text))
+    (sym (shows_typed h old key s)) lacks))
 lacks_typed old key out screen (inr (inr text)) h s =
     inr (inr (
       sym (ap edits s.mode) ∙ text.0,
@@ -165,31 +179,41 @@ lacks_typed old key out screen (inr (inr text)) h s =
 
 -- AN ITEM
 -- how many bytes are ahead where EDIT begins
-told_count : (h : History) (old : End) (isig : Bool) → edits (mode h) ≡ false → LeadsTo h old → (if isig then old.trapped else old.plain) ≡ length (half_of (line_limit h) (roles_under isig h))
+told_count : (h : History) (old : End) (isig : Bool) → edits (mode h) ≡ false → LeadsTo h old
+    → (if isig then old.trapped else old.plain) ≡ length (half_of (line_limit h) (roles_under isig h))
 told_count h old true e s = s.trapped ∙ count-is true h e
 told_count h old false e s = s.plain ∙ count-is false h e
 
-begun_count : (h : History) (old : End) (item : Item) (mask : ℕ) → mask ≡ mode (next h (got item)) → edits (mode h) ≡ false → edits (mode (next h (got item))) ≡ true → LeadsTo h old → count_told mask old.trapped old.plain ≡ length (half_line (next h (got item)))
+begun_count : (h : History) (old : End) (item : Item) (mask : ℕ) → mask ≡ mode (next h (got item)) → edits (mode h) ≡ false
+    → edits (mode (next h (got item))) ≡ true → LeadsTo h old → count_told mask old.trapped old.plain ≡ length (half_line (next h (got item)))
 begun_count h old item mask is e f s =
     ap (λ (m : ℕ). count_told m old.trapped old.plain) is
     ∙ told_count h old (traps (mode (next h (got item)))) e s
     ∙ ap (λ (rs : List Role). length (half_of (line_limit h) rs)) (sym (edited-begins h item e f))
 
-left_leaves : (h : History) (old : End) (item : Item) (mask : ℕ) (before after : Bool) → mask ≡ mode (next h (got item)) → edits (mode h) ≡ before → edits (mode (next h (got item))) ≡ after → LeadsTo h old → discipline.LeadsTo (edited_roles (next h (got item))) (line_left before after (count_told mask old.trapped old.plain) old.line)
+left_leaves : (h : History) (old : End) (item : Item) (mask : ℕ) (before after : Bool) → mask ≡ mode (next h (got item)) → edits (mode h) ≡ before
+    → edits (mode (next h (got item))) ≡ after → LeadsTo h old →
+    discipline.LeadsTo (edited_roles (next h (got item))) (line_left before after (count_told mask old.trapped old.plain) old.line)
 left_leaves h old item mask true true is e f s = subst (λ (rs : List Role). discipline.LeadsTo rs old.line) (sym (edited-stays h item e f)) s.line
-left_leaves h old item mask true false is e f s = subst (λ (rs : List Role). discipline.LeadsTo rs (empty_line old.line.limit)) (sym (unedited (next h (got item)) f)) (leaves_none old.line.limit)
+left_leaves h old item mask true false is e f s = subst (λ (rs : List Role). discipline.LeadsTo rs (empty_line old.line.limit))
+    (sym (unedited (next h (got item)) f)) (leaves_none old.line.limit)
 left_leaves h old item mask false true is e f s =
     resumed_leads old.line.limit (count_told mask old.trapped old.plain) (edited_roles (next h (got item)))
     (ap (λ (n : ℕ). length (half_of n (edited_roles (next h (got item))))) s.limit ∙ sym (begun_count h old item mask is e f s))
-left_leaves h old item mask false false is e f s = subst (λ (rs : List Role). discipline.LeadsTo rs old.line) (unedited h e ∙ sym (unedited (next h (got item)) f)) s.line
+left_leaves h old item mask false false is e f s = subst (λ (rs : List Role). discipline.LeadsTo rs old.line)
+    (unedited h e ∙ sym (unedited (next h (got item)) f)) s.line
 
-left_ahead : (h : History) (old : End) (item : Item) (mask : ℕ) (before after : Bool) → mask ≡ mode (next h (got item)) → edits (mode h) ≡ before → edits (mode (next h (got item))) ≡ after → LeadsTo h old → (line_left before after (count_told mask old.trapped old.plain) old.line).ahead ≡ ahead (next h (got item))
+left_ahead : (h : History) (old : End) (item : Item) (mask : ℕ) (before after : Bool) → mask ≡ mode (next h (got item)) → edits (mode h) ≡ before
+    → edits (mode (next h (got item))) ≡ after → LeadsTo h old →
+    (line_left before after (count_told mask old.trapped old.plain) old.line).ahead ≡ ahead (next h (got item))
 left_ahead h old item mask true true is e f s = s.ahead ∙ sym (ahead-stays h item e f)
 left_ahead h old item mask true false is e f s = sym (unedited-ahead (next h (got item)) f)
 left_ahead h old item mask false true is e f s = begun_count h old item mask is e f s ∙ sym (ahead-begins h item e f)
 left_ahead h old item mask false false is e f s = s.ahead ∙ unedited-ahead h e ∙ sym (unedited-ahead (next h (got item)) f)
 
-left_count : (isig : Bool) (h : History) (old : End) (item : Item) (count : ℕ) (before after : Bool) → edits (mode h) ≡ before → edits (mode (next h (got item))) ≡ after → LeadsTo h old → count ≡ count_under isig h → count_left before after old.line count ≡ count_under isig (next h (got item))
+left_count : (isig : Bool) (h : History) (old : End) (item : Item) (count : ℕ) (before after : Bool) → edits (mode h) ≡ before
+    → edits (mode (next h (got item))) ≡ after → LeadsTo h old → count ≡ count_under isig h
+    → count_left before after old.line count ≡ count_under isig (next h (got item))
 left_count isig h old item count true true e f s is = is ∙ count-none isig h e ∙ sym (count-none isig (next h (got item)) f)
 left_count isig h old item count true false e f s is =
     sym (length_at (edited_roles h) old.line s.line)
@@ -253,7 +277,8 @@ grows_got h old item s (inl says) = inl (λ e. says (sym (replies_got h old item
 grows_got h old item s (inr (inl shows')) = inr (inl shows')
 grows_got h old item s (inr (inr reads)) = inr (inr (subst (λ (o : Options). ReadsList o item) s.options reads))
 
-pub refuses_got : (old : End) (item : Item) (before after seen now : List ℕ) → AppendsPrefix (says_got old item) before after → now ≡ seen → MayWantMemoryNow old item → RefusesItem old item before after seen now
+pub refuses_got : (old : End) (item : Item) (before after seen now : List ℕ) → AppendsPrefix (says_got old item) before after → now ≡ seen
+    → MayWantMemoryNow old item → RefusesItem old item before after seen now
 refuses_got old item before after seen now cut same grows = record {
   part = cut.part;
   appended = cut.appended;

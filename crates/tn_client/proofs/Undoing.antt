@@ -15,7 +15,9 @@ use Rattle.tn_client.specs.Steps.{sends_where}
 use Rattle.tn_wire.proofs.lemmas.Cutting.{cons_some}
 
 -- a key that sends something ahead is an ordinary byte that was kept
-undone_by_test : (f : Option Mask) (l : HalfLine) (byte : ℕ) (full : Bool) → sends_where f (role.Ordinary byte) (if full then effect.Dropped else effect.Kept) ≡ true → line_erased (if full then l else record l { held = l.held ++ byte ∷ [] }) ≡ l
+undone_by_test : (f : Option Mask) (l : HalfLine) (byte : ℕ) (full : Bool)
+    → sends_where f (role.Ordinary byte) (if full then effect.Dropped else effect.Kept) ≡ true
+    → line_erased (if full then l else record l { held = l.held ++ byte ∷ [] }) ≡ l
 undone_by_test f l byte true sends = cc
 undone_by_test f l byte false sends = kept_erased l byte
 
@@ -23,7 +25,8 @@ undone_line : (f : Option Mask) (l : HalfLine) (r : Role) → sends_where f r (e
 undone_line f l (role.Ordinary byte) sends = undone_by_test f l byte (is_full l) sends
 undone_line f l _ sends = cc
 
-pub undone : (old mid new : End) (kept back : HalfLine) (r : Role) (e : Effect) → kept ≡ line_after old.line r → mid ≡ record old { line = kept } → back ≡ line_erased mid.line → new ≡ record mid { line = back } → e ≡ effect_of old.line r → sends_where old.forward r e ≡ true → new ≡ old
+pub undone : (old mid new : End) (kept back : HalfLine) (r : Role) (e : Effect) → kept ≡ line_after old.line r → mid ≡ record old { line = kept }
+    → back ≡ line_erased mid.line → new ≡ record mid { line = back } → e ≡ effect_of old.line r → sends_where old.forward r e ≡ true → new ≡ old
 undone old mid new kept back r e is_kept is_mid is_back is_new is_effect sends =
     is_new ∙ ap (λ (l : HalfLine). record mid { line = l }) is_back
     ∙ ap (λ (m : End). record m { line = line_erased m.line }) is_mid
@@ -35,7 +38,9 @@ bytes_some : (bytes : List ℕ) (byte : ℕ) → byte_items (bytes ++ byte ∷ [
 bytes_some [] byte = cons_some (Byte byte) []
 bytes_some (b ∷ bytes) byte = cons_some (Byte b) (byte_items (bytes ++ byte ∷ []))
 
-some_by_test : (f : Option Mask) (l : HalfLine) (byte : ℕ) (full forwards : Bool) → is_forward f byte ≡ forwards → sends_where f (role.Ordinary byte) (if full then effect.Dropped else effect.Kept) ≡ true → sent_ahead_items (not full && forwards) (if full then l else record l { held = l.held ++ byte ∷ [] }) ≢ []
+some_by_test : (f : Option Mask) (l : HalfLine) (byte : ℕ) (full forwards : Bool) → is_forward f byte ≡ forwards
+    → sends_where f (role.Ordinary byte) (if full then effect.Dropped else effect.Kept) ≡ true
+    → sent_ahead_items (not full && forwards) (if full then l else record l { held = l.held ++ byte ∷ [] }) ≢ []
 some_by_test f l byte true forwards is sends = cc
 some_by_test f l byte false true is sends = bytes_some l.held byte
 some_by_test f l byte false false is sends = cc
@@ -44,5 +49,6 @@ some_of : (f : Option Mask) (l : HalfLine) (r : Role) (key : ℕ) → sends_wher
 some_of f l (role.Ordinary byte) key sends = some_by_test f l byte (is_full l) (is_forward f byte) refl sends
 some_of f l _ key sends = cc
 
-pub sends_some : (f : Option Mask) (l : HalfLine) (r : Role) (e : Effect) (key : ℕ) → e ≡ effect_of l r → sends_where f r e ≡ true → key_items true f r l key ≢ []
+pub sends_some : (f : Option Mask) (l : HalfLine) (r : Role) (e : Effect) (key : ℕ) → e ≡ effect_of l r → sends_where f r e ≡ true
+    → key_items true f r l key ≢ []
 sends_some f l r e key is sends = some_of f l r key (ap (sends_where f r) (sym is) ∙ sends)

@@ -1,5 +1,6 @@
 -- The half line that is edited at a client end, and its two parts.
-use Rattle.std.specs.Prelude.{ℕ, min, Bool, true, false, not, ◌&&◌, Option, Some, None, List, [], ◌∷◌, ◌++◌, length, drop, if◌then◌else◌}
+use Rattle.std.specs.Prelude.{ℕ, min, Bool, true, false, not, ◌&&◌, Option, Some, None, List, [], ◌∷◌, ◌++◌}
+use Rattle.std.specs.Prelude.{length, drop, if◌then◌else◌}
 use Rattle.tn_codes.specs.Masks.{has_character}
 use Rattle.tn_codes.specs.declared.masks.Mask.{Mask}
 use Rattle.tn_discipline.specs.Admitted.{is_dropped, count_of}

@@ -1,12 +1,14 @@
 -- What a client end says: items, one after another.
-use Rattle.std.specs.Prelude.{ℕ, Bool, true, false, not, ◌&&◌, ◌==◌, Option, Some, None, List, [], ◌∷◌, ◌++◌, map, if◌then◌else◌}
+use Rattle.std.specs.Prelude.{ℕ, Bool, true, false, not, ◌&&◌, ◌==◌, Option, Some, None, List, [], ◌∷◌, ◌++◌}
+use Rattle.std.specs.Prelude.{map, if◌then◌else◌}
 use Rattle.tn_codes.specs.declared.codes.Command.{Command}
 use Rattle.tn_codes.specs.declared.codes.Command.TheVariants as command
 use Rattle.tn_codes.specs.declared.codes.Func.{Func}
 use Rattle.tn_codes.specs.declared.codes.Func.TheVariants as func
 use Rattle.tn_codes.specs.declared.masks.Mask.{Mask}
 use Rattle.tn_codes.specs.declared.payloads.Payload.{Payload}
-use Rattle.tn_codes.specs.declared.payloads.Payload.TheVariants.{Naws, Mode, ForwardOn, ForwardOff, ForwardYes, ForwardNo, Slc}
+use Rattle.tn_codes.specs.declared.payloads.Payload.TheVariants.{Naws, Mode, ForwardOn, ForwardOff}
+use Rattle.tn_codes.specs.declared.payloads.Payload.TheVariants.{ForwardYes, ForwardNo, Slc}
 use Rattle.tn_discipline.specs.Characters.{Characters}
 use Rattle.tn_discipline.specs.HalfLine.{HalfLine, line_length, has_held, has_ahead, line_after}
 use Rattle.tn_discipline.specs.declared.keys.Role.{Role}
@@ -20,7 +22,8 @@ use Rattle.tn_nvt.specs.declared.items.Item.TheVariants.{Byte, Newline, Cmd, Neg
 use Rattle.tn_option.specs.Options.{Options, reply_to}
 use Rattle.tn_wire.specs.Words.{word_items, payload_items, mode_items, list_items}
 use Rattle.tn_client.specs.Events.{Event, typed, got, resized, proposed, sent, History, begun, next}
-use Rattle.tn_client.specs.Terms.{options, mode, forward, chars, size, payload_at, options_after, mode_at, tells_size}
+use Rattle.tn_client.specs.Terms.{options, mode, forward, chars, size, payload_at, options_after, mode_at}
+use Rattle.tn_client.specs.Terms.{tells_size}
 use Rattle.tn_client.specs.Lines.{role_at, sends_ahead, line}
 use Rattle.tn_client.specs.declared.commands.UserCommand.{UserCommand}
 use Rattle.tn_client.specs.declared.commands.UserCommand.TheVariants as user

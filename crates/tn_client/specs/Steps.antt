@@ -1,10 +1,12 @@
 -- One event at a client end, as a step from what the end knows now. `Calls` ties these steps to histories.
-use Rattle.std.specs.Prelude.{◌≡◌, ◌≢◌, ◌⊎◌, ℕ, Bool, true, false, Option, List, [], ◌++◌, length, take, Vec, if◌then◌else◌}
+use Rattle.std.specs.Prelude.{◌≡◌, ◌≢◌, ◌⊎◌, ℕ, Bool, true, false, Option, List, [], ◌++◌, length, take, Vec}
+use Rattle.std.specs.Prelude.{if◌then◌else◌}
 use Rattle.tn_codes.specs.declared.masks.Mask.{Mask}
 use Rattle.tn_codes.specs.declared.payloads.Payload.{Payload}
 use Rattle.tn_discipline.specs.Admitted.{count_after}
 use Rattle.tn_discipline.specs.Keys.{role_of_key, roles_from}
-use Rattle.tn_discipline.specs.HalfLine.{HalfLine, empty_line, line_length, line_released, line_resumed, line_after, GivesText}
+use Rattle.tn_discipline.specs.HalfLine.{HalfLine, empty_line, line_length, line_released, line_resumed}
+use Rattle.tn_discipline.specs.HalfLine.{line_after, GivesText}
 use Rattle.tn_discipline.specs.declared.half_line.Effect.{Effect}
 use Rattle.tn_discipline.specs.declared.half_line.Effect.TheVariants as effect
 use Rattle.tn_discipline.specs.declared.keys.Role.{Role}
@@ -13,7 +15,8 @@ use Rattle.tn_linemode.specs.Modes.{edits, traps}
 use Rattle.tn_nvt.specs.Room.{LacksRoom}
 use Rattle.tn_nvt.specs.Spelling.{spells}
 use Rattle.tn_nvt.specs.declared.items.Item.{Item}
-use Rattle.tn_client.specs.Terms.{options_after, mode_at, mode_by, forward_by, forward_at, chars_by, payload_at, is_echoed, tells_size}
+use Rattle.tn_client.specs.Terms.{options_after, mode_at, mode_by, forward_by, forward_at, chars_by}
+use Rattle.tn_client.specs.Terms.{payload_at, is_echoed, tells_size}
 use Rattle.tn_client.specs.Lines.{settings_by, key_settings, role_of_typed, is_forward, sends_ahead}
 use Rattle.tn_client.specs.Replies.{key_items, item_replies, end_of_edit_items, payload_answers, resize_items}
 use Rattle.tn_client.specs.Screen.{key_shown, item_shown}

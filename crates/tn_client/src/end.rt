@@ -1,6 +1,7 @@
 //! The client end: the calls that its owner makes.
 
-ghost use Rattle.std.specs.Prelude.{◌≡◌, ◌≢◌, ◌++◌, ◌∷◌, ℕ, List, true, false, None, [], length, take, IfOk, IfErr, OnOk, OnErr, IsErrOf};
+ghost use Rattle.std.specs.Prelude.{◌≡◌, ◌≢◌, ◌++◌, ◌∷◌, ℕ, List, true, false, None, [], length, take, IfOk};
+ghost use Rattle.std.specs.Prelude.{IfErr, OnOk, OnErr, IsErrOf};
 ghost use Rattle.tn_linemode.specs.Triples.{triple_of};
 ghost use Rattle.tn_nvt.specs.Room.{LacksRoom};
 ghost use Rattle.tn_nvt.specs.Spelling.{spells};
@@ -10,7 +11,9 @@ ghost use Rattle.tn_client.specs.Events.{History, begun, next, typed, resized, p
 ghost use Rattle.tn_client.specs.Terms.{options, mode, chars};
 ghost use Rattle.tn_client.specs.Lines.{held_bytes, ahead, count_under};
 ghost use Rattle.tn_client.specs.Replies.{replies, size_items};
-ghost use Rattle.tn_client.specs.Calls.{LeadsTo, Advances, Sends, Shows, ReadsNothing, SaysOrShows, Feeds, StopsWithin, LacksRoomFor, LacksMemoryFor, call_fault, propose_fault, IsFault};
+ghost use Rattle.tn_client.specs.Calls.{LeadsTo, Advances, Sends, Shows, ReadsNothing, SaysOrShows, Feeds};
+ghost use Rattle.tn_client.specs.Calls.{StopsWithin, LacksRoomFor, LacksMemoryFor, call_fault, propose_fault};
+ghost use Rattle.tn_client.specs.Calls.{IsFault};
 ghost use Rattle.tn_client.specs.Steps.{end_after_resize, says_resize};
 
 use crate::commands::UserCommand;
@@ -106,8 +109,9 @@ impl ClientEnd {
         })
     }
 
-    /// Types a key. Its echo, where the server does not echo, is appended to `screen`. `Failed` after a refused
-    /// piece; `Memory` where what it says, shows or gives as a text finds none: it counts as not typed.
+    /// Types a key. Its echo, where the server does not echo, is appended to `screen`. `Failed` after a
+    /// refused piece; `Memory` where what it says, shows or gives as a text finds none: it counts as not
+    /// typed.
     pub fn key(
         &mut self,
         key: u8,
@@ -142,8 +146,8 @@ impl ClientEnd {
         }
     }
 
-    /// Takes bytes that came from the server, cut anywhere. After `Memory`, for what is said or shown, a list of
-    /// characters or a parameter, the end has failed.
+    /// Takes bytes that came from the server, cut anywhere. After `Memory`, for what is said or shown, a list
+    /// of characters or a parameter, the end has failed.
     pub fn feed(
         &mut self,
         piece: &[u8],
@@ -246,7 +250,8 @@ impl ClientEnd {
     }
 
     /// Proposes a special character to the server, or none by `None`. Nothing changes here until the
-    /// server agrees. `NotOn` where LINEMODE is not on, `Char` as `Chars::set` refuses it; `Failed`, `Memory`.
+    /// server agrees. `NotOn` where LINEMODE is not on, `Char` as `Chars::set` refuses it; `Failed`,
+    /// `Memory`.
     pub fn propose(
         &mut self,
         func: Func,
@@ -279,8 +284,8 @@ impl ClientEnd {
         }
     }
 
-    /// Sends a command at once, before what is held of a line, which stays as it is. Nothing is shown. `Failed`
-    /// after a refused piece, `Memory` for what it says.
+    /// Sends a command at once, before what is held of a line, which stays as it is. Nothing is shown.
+    /// `Failed` after a refused piece, `Memory` for what it says.
     pub fn send(&mut self, command: UserCommand, out: &mut Vec<u8>) -> Result<(), ClientFault>
         ensures goes { OnOk result (Advances self.old (sent command) self.new) }
         ensures sends { OnOk result (Sends self.old (sent command) out.old.items out.new.items) }
@@ -326,8 +331,8 @@ impl ClientEnd {
         self.line.ahead()
     }
 
-    /// How many bytes the half line has that the server edits, as counted here by the roles of a terminal with
-    /// ICRNL set and INLCR and IGNCR clear: with its ISIG set, and with it clear. Both are 0 with EDIT.
+    /// How many bytes the half line has that the server edits, as counted here by the roles of a terminal
+    /// with ICRNL set and INLCR and IGNCR clear: with its ISIG set, and with it clear. Both are 0 with EDIT.
     pub fn counts(&self) -> (u16, u16)
         ensures value { result ≡ (self.now.trapped, self.now.plain) }
         ensures stands { (h : History) → LeadsTo h self.now →

@@ -1,6 +1,7 @@
 //! What a client end does with an item that came.
 
-ghost use Rattle.std.specs.Prelude.{◌≡◌, ◌≢◌, ◌⊎◌, ◌≤◌, ◌++◌, ℕ, ◌==◌, ◌&&◌, Some, None, [], length, if◌then◌else◌, OnOk, OnErr};
+ghost use Rattle.std.specs.Prelude.{◌≡◌, ◌≢◌, ◌⊎◌, ◌≤◌, ◌++◌, ℕ, ◌==◌, ◌&&◌, Some, None, [], length};
+ghost use Rattle.std.specs.Prelude.{if◌then◌else◌, OnOk, OnErr};
 ghost use Rattle.tn_codes.specs.OptionCodes as option_code;
 ghost use Rattle.tn_codes.specs.declared.payloads.Payload.TheVariants as payload;
 ghost use Rattle.tn_nvt.specs.Spelling.{spells};
@@ -9,7 +10,8 @@ ghost use Rattle.tn_client.specs.Terms.{linemode, changes, tells_size, payload_a
 ghost use Rattle.tn_client.specs.Replies.{new_size_items};
 ghost use Rattle.tn_client.specs.Screen.{item_shown};
 ghost use Rattle.tn_client.specs.Calls.{ReadsList};
-ghost use Rattle.tn_client.specs.Steps.{MayWantMemoryNow, with_mode, end_handed_over, end_taken_over, says_mode, end_after_item, says_got, end_after_payload, says_sub};
+ghost use Rattle.tn_client.specs.Steps.{MayWantMemoryNow, with_mode, end_handed_over, end_taken_over};
+ghost use Rattle.tn_client.specs.Steps.{says_mode, end_after_item, says_got, end_after_payload, says_sub};
 ghost use Rattle.tn_wire.specs.Prefixes.{AppendsPrefix};
 ghost use Rattle.tn_wire.specs.Words.{payload_items};
 ghost use Rattle.tn_codes.specs.Payloads.{IsShort, max_triples};

@@ -1,6 +1,7 @@
 //! What a client end does with a key.
 
-ghost use Rattle.std.specs.Prelude.{◌≡◌, ◌≢◌, ◌⊎◌, ◌<◌, ◌≤◌, ◌++◌, ℕ, [], true, false, length, IfOk, OnOk, OnErr};
+ghost use Rattle.std.specs.Prelude.{◌≡◌, ◌≢◌, ◌⊎◌, ◌<◌, ◌≤◌, ◌++◌, ℕ, [], true, false, length, IfOk, OnOk};
+ghost use Rattle.std.specs.Prelude.{OnErr};
 ghost use Rattle.tn_nvt.specs.Room.{LacksRoom};
 ghost use Rattle.tn_nvt.specs.Spelling.{spells};
 ghost use Rattle.tn_client.specs.Lines.{settings_by, key_settings};
@@ -11,7 +12,8 @@ ghost use Rattle.tn_discipline.specs.Characters.{Characters};
 ghost use Rattle.tn_discipline.specs.HalfLine.{line_released, effect_of, GivesText};
 ghost use Rattle.tn_discipline.specs.Admitted.{count_after};
 ghost use Rattle.tn_discipline.specs.Keys.{roles_from};
-ghost use Rattle.tn_client.specs.Steps.{role_now, end_after_count, line_typed, sends_where, end_after_key, says_key, shows_key, LacksMemoryNow, Begins};
+ghost use Rattle.tn_client.specs.Steps.{role_now, end_after_count, line_typed, sends_where, end_after_key};
+ghost use Rattle.tn_client.specs.Steps.{says_key, shows_key, LacksMemoryNow, Begins};
 
 use crate::end::ClientEnd;
 use crate::screen::{echo_raw, show_all};

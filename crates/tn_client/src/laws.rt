@@ -1,6 +1,7 @@
 //! Laws of the definitions alone.
 
-ghost use Rattle.std.specs.Prelude.{◌≡◌, ◌↔◌, ◌<◌, ◌≤◌, ◌+◌, ◌*◌, ◌++◌, ℕ, Bool, true, List, All, false, None, [], length, take};
+ghost use Rattle.std.specs.Prelude.{◌≡◌, ◌↔◌, ◌<◌, ◌≤◌, ◌+◌, ◌*◌, ◌++◌, ℕ, Bool, true, List, All, false};
+ghost use Rattle.std.specs.Prelude.{None, [], length, take};
 ghost use Rattle.tn_discipline.specs.Limits.{max_counted};
 ghost use Rattle.tn_linemode.specs.Modes.{edits};
 ghost use Rattle.tn_nvt.specs.Feeding as nvt;
@@ -18,7 +19,8 @@ ghost use Rattle.tn_client.specs.Screen.{text_shown};
 ghost use Rattle.tn_client.specs.declared.commands.UserCommand.{UserCommand};
 ghost use Rattle.tn_client.specs.Calls.{End, LeadsTo, Advances, ReadsNothing, Feeds, StopsWithin};
 ghost use Rattle.tn_client.specs.Stopping.{StopsBetween};
-ghost use Rattle.tn_client.specs.Course.{Course, started, fed, called, stream, IsCall, ReadsAs, CourseLeadsTo};
+ghost use Rattle.tn_client.specs.Course.{Course, started, fed, called, stream, IsCall, ReadsAs};
+ghost use Rattle.tn_client.specs.Course.{CourseLeadsTo};
 
 use tn_linemode::laws::answers_name_their_function;
 use tn_nvt::laws::one_reading;

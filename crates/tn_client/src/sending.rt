@@ -1,10 +1,12 @@
 //! What a client end sends.
 
-ghost use Rattle.std.specs.Prelude.{◌≡◌, ◌≢◌, ◌<◌, ◌≤◌, ◌++◌, [], Some, length, flat_map, vec_capacity, OnOk, OnErr};
+ghost use Rattle.std.specs.Prelude.{◌≡◌, ◌≢◌, ◌<◌, ◌≤◌, ◌++◌, [], Some, length, flat_map, vec_capacity, OnOk};
+ghost use Rattle.std.specs.Prelude.{OnErr};
 ghost use Rattle.tn_nvt.specs.Room.{LacksRoom};
 ghost use Rattle.tn_nvt.specs.Spelling.{spells, spelling};
 ghost use Rattle.tn_nvt.specs.declared.items.Item.TheVariants as item;
-ghost use Rattle.tn_client.specs.Replies.{byte_items, func_of, command_for, command_of, command_items, raw_key_items, edited_key_items};
+ghost use Rattle.tn_client.specs.Replies.{byte_items, func_of, command_for, command_of, command_items};
+ghost use Rattle.tn_client.specs.Replies.{raw_key_items, edited_key_items};
 ghost use Rattle.tn_client.specs.Steps.{Begins};
 
 use std::alloc::AllocError;

@@ -6,7 +6,8 @@ use Rattle.tn_codes.specs.declared.payloads.Payload.{Payload}
 use Rattle.tn_codes.specs.declared.payloads.Payload.TheVariants.{Naws, Mode, ForwardOn, ForwardOff, ForwardYes, ForwardNo, Slc}
 use Rattle.tn_codes.specs.declared.triples.Triple.{Triple}
 use Rattle.tn_codes.specs.Codes.{verb_code}
-use Rattle.tn_codes.specs.Payloads.{octets_of, mask_limit, Says, IsUnknownOption, IsUnknownKind, IsUnknownSub, HasBadForwardLength, HasBadLinemodeLength, HasBadLength, TakesMemory}
+use Rattle.tn_codes.specs.Payloads.{octets_of, mask_limit, Says, IsUnknownOption, IsUnknownKind, IsUnknownSub, HasBadForwardLength, HasBadLinemodeLength}
+use Rattle.tn_codes.specs.Payloads.{HasBadLength, TakesMemory}
 
 pub verb_high : (v : Verb) → 250 < verb_code v
 verb_high Will = omega arith

@@ -1,5 +1,6 @@
 -- The relation and the function say the same.
-use Rattle.std.proofs.Common.{◌≡◌, ◌≢◌, ℕ, ◌≤◌, ◌⊎◌, inl, inr, Bool, true, false, List, [], ◌∷◌, length, take, drop, flat_map, Option, Some, None, Result, Ok, Err, IsOk, MatchResult, refl, sym, ◌∙◌, ap, subst, arith}
+use Rattle.std.proofs.Common.{◌≡◌, ◌≢◌, ℕ, ◌≤◌, ◌⊎◌, inl, inr, Bool, true, false, List, [], ◌∷◌, length, take, drop, flat_map, Option, Some, None, Result, Ok}
+use Rattle.std.proofs.Common.{Err, IsOk, MatchResult, refl, sym, ◌∙◌, ap, subst, arith}
 use Rattle.std.specs.Prelude.{IsErrOf, ◌↔◌, nat_le, if◌then◌else◌}
 use Rattle.std.specs.Option.{option_map}
 use Rattle.std.specs.Int.{w16, from_be_bytes}
@@ -17,7 +18,8 @@ use Rattle.tn_codes.proofs.Grammar.{says_option, says_kind, says_length, unknown
 
 -- from the relation to the function
 
-size_told : (params : List ℕ) (width height : ℕ) → length params ≡ 4 → width ≡ from_be_bytes w16 (take 2 params) → height ≡ from_be_bytes w16 (drop 2 params) → size_of params ≡ Some (Naws width height)
+size_told : (params : List ℕ) (width height : ℕ) → length params ≡ 4 → width ≡ from_be_bytes w16 (take 2 params) → height ≡ from_be_bytes w16 (drop 2 params)
+    → size_of params ≡ Some (Naws width height)
 size_told [] width height h w k = absurd (omega arith)
 size_told (a ∷ []) width height h w k = absurd (omega arith)
 size_told (a ∷ b ∷ []) width height h w k = absurd (omega arith)
@@ -60,7 +62,8 @@ mode_says option (mask ∷ []) payload is e =
     subst (λ p. Says option (1 ∷ mask ∷ []) p) same (is, refl)
 mode_says option (mask ∷ x ∷ rest) payload is e = cc
 
-with_front : (a b c : ℕ) (rest : List ℕ) (told : Option (List Triple)) (ts : List Triple) → ((us : List Triple) → told ≡ Some us → rest ≡ flat_map octets_of us) → option_map (λ triples. record { func = a; flags = b; value = c } ∷ triples) told ≡ Some ts → a ∷ b ∷ c ∷ rest ≡ flat_map octets_of ts
+with_front : (a b c : ℕ) (rest : List ℕ) (told : Option (List Triple)) (ts : List Triple) → ((us : List Triple) → told ≡ Some us → rest ≡ flat_map octets_of us)
+    → option_map (λ triples. record { func = a; flags = b; value = c } ∷ triples) told ≡ Some ts → a ∷ b ∷ c ∷ rest ≡ flat_map octets_of ts
 with_front a b c rest None ts go e = cc
 with_front a b c rest (Some us) ts go e =
     let first : Triple = record { func = a; flags = b; value = c } in
@@ -73,7 +76,8 @@ triples_back (a ∷ []) ts e = cc
 triples_back (a ∷ b ∷ []) ts e = cc
 triples_back (a ∷ b ∷ c ∷ rest) ts e = with_front a b c rest (triples_of rest) ts (triples_back rest) e
 
-slc_says : (option : ℕ) (rest : List ℕ) (told : Option (List Triple)) (payload : Payload) → option ≡ 34 → ((ts : List Triple) → told ≡ Some ts → rest ≡ flat_map octets_of ts) → option_map Slc told ≡ Some payload → Says option (3 ∷ rest) payload
+slc_says : (option : ℕ) (rest : List ℕ) (told : Option (List Triple)) (payload : Payload) → option ≡ 34
+    → ((ts : List Triple) → told ≡ Some ts → rest ≡ flat_map octets_of ts) → option_map Slc told ≡ Some payload → Says option (3 ∷ rest) payload
 slc_says option rest None payload is go e = cc
 slc_says option rest (Some ts) payload is go e =
     let same : Slc ts ≡ payload = cc in
@@ -98,7 +102,8 @@ no_says option octets payload is e =
     let back = alone_back ForwardNo payload octets e in
     subst (λ p. Says option (252 ∷ 2 ∷ octets) p) back.1 (is, ap (λ xs. 252 ∷ 2 ∷ xs) back.0)
 
-on_says : (option : ℕ) (octets : List ℕ) (payload : Payload) (fits : Bool) → option ≡ 34 → (fits ≡ true → length octets ≤ 32) → (if fits then Some (ForwardOn (record { 0 = filled_octets octets })) else None) ≡ Some payload → Says option (253 ∷ 2 ∷ octets) payload
+on_says : (option : ℕ) (octets : List ℕ) (payload : Payload) (fits : Bool) → option ≡ 34 → (fits ≡ true → length octets ≤ 32)
+    → (if fits then Some (ForwardOn (record { 0 = filled_octets octets })) else None) ≡ Some payload → Says option (253 ∷ 2 ∷ octets) payload
 on_says option octets payload false is h e = cc
 on_says option octets payload true is h e =
     let same : ForwardOn (record { 0 = filled_octets octets }) ≡ payload = cc in
@@ -107,7 +112,8 @@ on_says option octets payload true is h e =
 at_most : (octets : List ℕ) → nat_le (length octets) 32 ≡ true → length octets ≤ 32
 at_most octets e = grind (arith, nat_tests)
 
-command_says : (option first : ℕ) (octets : List ℕ) (payload : Payload) → option ≡ 34 → forward_of first octets ≡ Some payload → Says option (first ∷ 2 ∷ octets) payload
+command_says : (option first : ℕ) (octets : List ℕ) (payload : Payload) → option ≡ 34 → forward_of first octets ≡ Some payload
+    → Says option (first ∷ 2 ∷ octets) payload
 command_says option first octets payload is e =
     elim (eqb_tells first 251) [
       | inl will ↦ let f : first ≡ 251 = will.1 in rw f (yes_says option octets payload is (rw f at e))
@@ -127,7 +133,8 @@ command_says option first octets payload is e =
           ]
     ]
 
-forward_says : (option first : ℕ) (rest : List ℕ) (payload : Payload) → option ≡ 34 → forwardmask_of first rest ≡ Some payload → Says option (first ∷ rest) payload
+forward_says : (option first : ℕ) (rest : List ℕ) (payload : Payload) → option ≡ 34 → forwardmask_of first rest ≡ Some payload
+    → Says option (first ∷ rest) payload
 forward_says option first [] payload is e = cc
 forward_says option first (second ∷ octets) payload is e =
     elim (eqb_tells second 2) [
@@ -169,7 +176,8 @@ untold option params h = none_unless (payload_of option params) (λ payload e. h
 
 -- what an answer tells, clause by clause
 
-pub said_by : (option : ℕ) (params : List ℕ) (r : Result Payload PayloadFault) → Tells option params r → (payload : Payload) → Says option params payload → IsOk r ⊎ IsErrOf r Memory
+pub said_by : (option : ℕ) (params : List ℕ) (r : Result Payload PayloadFault) → Tells option params r → (payload : Payload) → Says option params payload
+    → IsOk r ⊎ IsErrOf r Memory
 said_by option params (Ok other) t payload s = inl refl
 said_by option params (Err UnknownOption) t payload s = absurd (says_option option params payload s t)
 said_by option params (Err UnknownSub) t payload s = absurd (says_kind option params payload s t)
@@ -183,7 +191,8 @@ unknown_sub_back option params (Err UnknownSub) t u = refl
 unknown_sub_back option params (Err BadLength) t u = absurd (unknown_length option params u t)
 unknown_sub_back option params (Err Memory) t u = absurd (says_kind option params (Slc t.0) t.2 u)
 
-pub unknown_sub_by : (option : ℕ) (params : List ℕ) (r : Result Payload PayloadFault) → Tells option params r → IsErrOf r UnknownSub ↔ IsUnknownSub option params
+pub unknown_sub_by : (option : ℕ) (params : List ℕ) (r : Result Payload PayloadFault) → Tells option params r
+    → IsErrOf r UnknownSub ↔ IsUnknownSub option params
 unknown_sub_by option params r t = (λ e. subst (Tells option params) e t, unknown_sub_back option params r t)
 
 bad_length_back : (option : ℕ) (params : List ℕ) (r : Result Payload PayloadFault) → Tells option params r → HasBadLength option params → IsErrOf r BadLength
@@ -196,7 +205,8 @@ bad_length_back option params (Err Memory) t b = absurd (says_length option para
 pub bad_length_by : (option : ℕ) (params : List ℕ) (r : Result Payload PayloadFault) → Tells option params r → IsErrOf r BadLength ↔ HasBadLength option params
 bad_length_by option params r t = (λ e. subst (Tells option params) e t, bad_length_back option params r t)
 
-pub payload_by : (option : ℕ) (params : List ℕ) (r : Result Payload PayloadFault) → Tells option params r → MatchResult r (λ payload. payload_of option params ≡ Some payload) (λ fault. fault ≢ Memory → payload_of option params ≡ None)
+pub payload_by : (option : ℕ) (params : List ℕ) (r : Result Payload PayloadFault) → Tells option params r
+    → MatchResult r (λ payload. payload_of option params ≡ Some payload) (λ fault. fault ≢ Memory → payload_of option params ≡ None)
 payload_by option params (Ok payload) t = told option params payload t
 payload_by option params (Err UnknownOption) t = λ _. untold option params (λ payload s. says_option option params payload s t)
 payload_by option params (Err UnknownSub) t = λ _. untold option params (λ payload s. says_kind option params payload s t)

@@ -1,5 +1,6 @@
 -- A mask without the zeros at its end is the mask again, and what is written says its payload.
-use Rattle.std.proofs.Common.{◌≡◌, ◌≢◌, ℕ, suc, ◌+◌, ◌<◌, take, get_or, ◌-◌, inl, inr, List, [], ◌∷◌, ◌++◌, length, replicate, refl, sym, ◌∙◌, ap, arith, length-append}
+use Rattle.std.proofs.Common.{◌≡◌, ◌≢◌, ℕ, suc, ◌+◌, ◌<◌, take, get_or, ◌-◌, inl, inr, List, [], ◌∷◌, ◌++◌, length, replicate, refl, sym, ◌∙◌, ap, arith}
+use Rattle.std.proofs.Common.{length-append}
 use Rattle.std.proofs.lemmas.List.{length-replicate, take_more}
 use Rattle.std.proofs.lemmas.Nat.{from_be_bytes-to_be_bytes_2}
 use Rattle.std.proofs.lemmas.Bool.{ne_eqb}
@@ -36,7 +37,11 @@ pub trimmed_more_zero : (xs : List ℕ) (i : ℕ) → i < length xs → get_or x
 trimmed_more_zero xs i lt zero = rw (take_more xs i 0 lt, zero) (trimmed_push_zero (take i xs))
 
 before_zeros : (b : ℕ) (xs : List ℕ) (n : ℕ) → (m : ℕ) × (b ∷ (xs ++ replicate n 0) ≡ before b xs ++ replicate m 0)
-before_zeros b [] n = elim (eqb_tells b 0) [ inl e ↦ let is : b ≡ 0 = e.1 in (suc n, rw is refl) | inr e ↦ let differs : b ≢ 0 = e.1 in (n, rw (ne_eqb b 0 differs) refl) ]
+before_zeros b [] n = elim (eqb_tells b 0) [
+  | inl e ↦ let is : b ≡ 0 = e.1 in (suc n, rw is refl)
+  | inr e ↦ let differs : b ≢ 0 = e.1
+      in (n, rw (ne_eqb b 0 differs) refl)
+]
 before_zeros b (x ∷ xs) n = (n, refl)
 
 zeros_after : (xs : List ℕ) → (n : ℕ) × (xs ≡ trimmed_octets xs ++ replicate n 0)
@@ -50,7 +55,8 @@ zeros_after (x ∷ xs) =
 pub filled_trimmed : (octets : List ℕ) → length octets ≡ 32 → octets ≡ filled_octets (trimmed_octets octets)
 filled_trimmed octets h =
     let zeros = zeros_after octets in
-    let count : zeros.0 ≡ 32 - length (trimmed_octets octets) = omega (arith, ap length zeros.1, length-append (trimmed_octets octets) (replicate zeros.0 0), length-replicate {A = ℕ} zeros.0 0) in
+    let count : zeros.0 ≡ 32 - length (trimmed_octets octets) = omega
+    (arith, ap length zeros.1, length-append (trimmed_octets octets) (replicate zeros.0 0), length-replicate {A = ℕ} zeros.0 0) in
     zeros.1 ∙ ap (λ n. trimmed_octets octets ++ replicate n 0) count
 
 pub written_is_said : (payload : Payload) → Fits payload → Says (option_of payload) (parameters_of payload) payload

@@ -1,5 +1,6 @@
 -- Forward masks (RFC 1184, section 2.3).
-use Rattle.std.specs.Prelude.{ℕ, ◌-◌, ◌/◌, ◌%◌, ◌^◌, ◌==◌, Bool, not, List, [], ◌∷◌, ◌++◌, length, replicate, slice_index, bit_and, IsBitSet, if◌then◌else◌}
+use Rattle.std.specs.Prelude.{ℕ, ◌-◌, ◌/◌, ◌%◌, ◌^◌, ◌==◌, Bool, not, List, [], ◌∷◌, ◌++◌, length, replicate}
+use Rattle.std.specs.Prelude.{slice_index, bit_and, IsBitSet, if◌then◌else◌}
 use Rattle.tn_codes.specs.declared.masks.Mask.{Mask}
 
 -- character c is bit 0x80 >> (c % 8) of octet c / 8

@@ -20,8 +20,9 @@ abbrev pub window_of : Connecting → Window
 window_of connecting =
     record { width = connecting.width; height = connecting.height; limit = connecting.line_limit }
 
--- What is known beforehand of the keys of a reader with these bytes: the bytes, and that no size of a window is told
--- and nothing asked for; or nothing where they are waited for, but that only at a terminal anything is asked for.
+-- What is known beforehand of the keys of a reader with these bytes: the bytes, and that no size of a window
+-- is told and nothing asked for; or nothing where they are waited for, but that only at a terminal anything
+-- is asked for.
 abbrev pub foreseen : Origin → Option (List ℕ) → KnownTyping
 foreseen Reader bytes =
     record { reader = record { bytes = bytes; failures = None; sizes = Some [] }; controls = Some [] }
@@ -30,13 +31,17 @@ foreseen Input bytes =
 foreseen Terminal bytes =
     record { reader = record { bytes = None; failures = None; sizes = None }; controls = None }
 
--- A client's session ran with these keys and this screen, before and after it, wrote these bytes, and gave back this.
--- Of what the connection brings nothing was known before, but that it tells no size; all that was read from it stands
--- in the ports.
-abbrev pub RunsWriting : Window → KnownTyping → Option (List ℕ) → Option (List ℕ) → Option (List ℕ) → Report → ClientPorts → Type 0
+-- A client's session ran with these keys and this screen, before and after it, wrote these bytes, and gave
+-- back this. Of what the connection brings nothing was known before, but that it tells no size; all that was
+-- read from it stands in the ports.
+abbrev pub RunsWriting : Window → KnownTyping → Option (List ℕ) → Option (List ℕ) → Option (List ℕ) → Report
+    → ClientPorts → Type 0
 RunsWriting window keys seen now written report ports =
     RunningClient window keys (record { bytes = None; failures = None; sizes = Some [] })
-    (record { before = record { bytes = Some []; calls = None }; after = record { bytes = written; calls = None } })
+    (record {
+      before = record { bytes = Some []; calls = None };
+      after = record { bytes = written; calls = None };
+    })
     (record { before = record { bytes = seen; calls = None }; after = record { bytes = now; calls = None } })
     (client_result report ports)
 
@@ -50,13 +55,15 @@ abbrev pub connection_of : Connected → TcpStream
 connection_of connected = connected.connection.value
 
 -- a session ran over the connection that there is; where one was to run, there was a connection
-abbrev pub NeedsConnection : {A : Type 0} → (A → TcpStream) → Result A ConnectFault → Result TcpStream Error → Type 0
+abbrev pub NeedsConnection : {A : Type 0} → (A → TcpStream) → Result A ConnectFault → Result TcpStream Error
+    → Type 0
 NeedsConnection over (Ok ran) reached = reached ≡ Ok (over ran)
 NeedsConnection over (Err Session) reached = IsOk reached
 NeedsConnection over (Err Network) reached = Unit {0}
 NeedsConnection over (Err Memory) reached = Unit {0}
 
 -- it was asked for a connection, and this came of it, over that connection
-abbrev pub ConnectsBy : {A : Type 0} → (A → TcpStream) → (Result TcpStream Error → Type 0) → Result A ConnectFault → Type 0
+abbrev pub ConnectsBy : {A : Type 0} → (A → TcpStream) → (Result TcpStream Error → Type 0)
+    → Result A ConnectFault → Type 0
 ConnectsBy over reaches result =
     (reached : Result TcpStream Error) × reaches reached × NeedsConnection over result reached

@@ -5,7 +5,8 @@ use Rattle.tn_connect.specs.declared.connected.Connected.{Connected}
 use Rattle.tn_connect.specs.declared.sending.Delivered.{Delivered}
 use Rattle.tn_queue.specs.Queue.{taker}
 use Rattle.tn_sockets.specs.Logs.{logged}
-use Rattle.tn_sockets.specs.Queue.{IsSeatIn, IsSent, PieceKey, PieceTable, WritesTaken, WritesToTheEnd, put_bytes}
+use Rattle.tn_sockets.specs.Queue.{IsSeatIn, IsSent, PieceKey, PieceTable, WritesTaken, WritesToTheEnd}
+use Rattle.tn_sockets.specs.Queue.{put_bytes}
 use Rattle.tn_sockets.specs.declared.sending.Sent.TheVariants.{Whole}
 
 -- what was taken from the queue with this table and this key was written to the connection
@@ -15,8 +16,8 @@ pub record IsDelivered (table : PieceTable) (key : PieceKey) (delivered : Delive
   pub whole : delivered.sent ≡ Ok Whole
       → WritesToTheEnd (taker []) (view delivered.taker) (Some []) (Some (logged delivered.log))
 
--- Of the bytes that the session wrote the connection took the first, each once and in their order, and all of them
--- where the session tells so.
+-- Of the bytes that the session wrote the connection took the first, each once and in their order, and all of
+-- them where the session tells so.
 abbrev pub TookWhatWasWritten : Connected → Type 0
 TookWhatWasWritten connected =
     IsSent (put_bytes (view connected.queue)) (connected.all_sent ≡ true) (logged connected.log)

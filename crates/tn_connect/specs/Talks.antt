@@ -17,7 +17,8 @@ abbrev pub standard_settings : Settings
 standard_settings = record { flags = standard_flags; chars = standard_characters }
 
 abbrev pub kind_by : Origin → Plain → Kind
-kind_by Terminal plain = typed (record { settings = standard_settings; limit = plain.line_limit }) plain.line_end
+kind_by Terminal plain = typed (record { settings = standard_settings; limit = plain.line_limit })
+    plain.line_end
 kind_by Reader plain = read plain.line_end
 kind_by Input plain = read plain.line_end
 
@@ -30,8 +31,8 @@ is_terminal Terminal = true
 is_terminal Reader = false
 is_terminal Input = false
 
--- A talk was held with these keys and this screen, before and after it: all that was typed, said and told stands in the
--- logs, and so many bytes more were to be told.
+-- A talk was held with these keys and this screen, before and after it: all that was typed, said and told
+-- stands in the logs, and so many bytes more were to be told.
 pub record RunsTalk (plain : Plain) (bytes seen now : Option (List ℕ)) (report : TalkReport) : Type 0 where
   pub unsent : List ℕ
   pub keys_left : Option (List ℕ)
@@ -39,7 +40,8 @@ pub record RunsTalk (plain : Plain) (bytes seen now : Option (List ℕ)) (report
   pub service_left : Option (List ℕ)
   pub warned : Option ℕ
   pub warned_at_last : Option ℕ
-  pub ran : Talked (kind_of plain) (is_terminal plain.origin) (bytes_in report.typed) (bytes_in report.heard) unsent
+  pub ran : Talked (kind_of plain) (is_terminal plain.origin) (bytes_in report.typed)
+      (bytes_in report.heard) unsent
       (streams bytes service (Some []) seen warned)
       (streams keys_left service_left (Some (logged report.told)) now warned_at_last)
   pub count : report.unsent ≡ length unsent

@@ -3,7 +3,8 @@
 ghost use Rattle.std.specs.Prelude.{◌≡◌, ◌≢◌, [], Err, IfErr, IfOk, IsOk, Ok, OnErr, Some, false, true};
 ghost use Rattle.crossbeam_channel.specs.Claims.{view};
 ghost use Rattle.crossbeam_channel.specs.Ends.{sends_on};
-ghost use Rattle.tn_connect.specs.Clients.{ConnectsBy, RunsClient, RunsWriting, connection_of, foreseen, window_of};
+ghost use Rattle.tn_connect.specs.Clients.{ConnectsBy, RunsClient, RunsWriting, connection_of, foreseen};
+ghost use Rattle.tn_connect.specs.Clients.{window_of};
 ghost use Rattle.tn_connect.specs.Faults.{IsOfNetwork};
 ghost use Rattle.tn_connect.specs.Sent.{TookWhatWasWritten};
 ghost use Rattle.tn_machines.specs.Ending.{EndsWhole};
@@ -61,8 +62,8 @@ struct Wires<H, Q: Queue> {
     is_over: Arc<AtomicBool, Global>,
 }
 
-// A session that is over, how its sending ended, how many bytes were not sent, the queue of what it wrote, and
-// the log of what the connection took.
+// A session that is over, how its sending ended, how many bytes were not sent, the queue of what it wrote,
+// and the log of what the connection took.
 #[derive(Drop)]
 struct Talked {
     ended: Result<(Report, ClientPorts), SessionFault>,
@@ -225,8 +226,8 @@ fn talk_and_send<H: Host, K: Read + Drop + Send + 'static, S: Write, Q: Queue + 
 
 /// Connects to a host, an address or a name, and runs a client's session over the connection, with these
 /// keys and this screen, until the server has closed or the user leaves. What a session that ends without a
-/// fault returns tells contracts all that was read from the connection, all that the session wrote, and what the
-/// connection took of it. Of a fault the causes are noted.
+/// fault returns tells contracts all that was read from the connection, all that the session wrote, and what
+/// the connection took of it. Of a fault the causes are noted.
 pub fn connect<H: Host + Network, K: Read + Drop + Send + 'static, S: Write, E: Drain>(
     rt: H,
     alloc: Global,
@@ -236,13 +237,15 @@ pub fn connect<H: Host + Network, K: Read + Drop + Send + 'static, S: Write, E: 
     screen: &mut S,
     notes: Notes<'_, E>,
 ) -> Result<Connected, ConnectFault>
-    ensures ran { IfOk result (RunsClient (window_of connecting) (foreseen connecting.origin (K.remaining keys))
+    ensures ran { IfOk result (RunsClient (window_of connecting)
+        (foreseen connecting.origin (K.remaining keys))
         (S.contents screen.old) (S.contents screen.new)) }
     ensures sent { IfOk result TookWhatWasWritten }
     ensures whole { IfOk result (λ connected. EndsWhole connected.report.ended) }
     ensures unshown { OnErr result (result ≢ Err ConnectFault.Session →
         S.contents screen.new ≡ S.contents screen.old) }
-    ensures reached { ConnectsBy connection_of (Reaches (H.finds rt host.now connecting.port) (H.dials rt)) result }
+    ensures reached { ConnectsBy connection_of
+        (Reaches (H.finds rt host.now connecting.port) (H.dials rt)) result }
 {
     let Notes {
         trace,
@@ -280,7 +283,8 @@ fn connect_over<H: Host, K: Read + Drop + Send + 'static, S: Write, E: Drain>(
     screen: &mut S,
     notes: Notes<'_, E>,
 ) -> Result<Connected, ConnectFault>
-    ensures ran { IfOk result (RunsClient (window_of connecting) (foreseen connecting.origin (K.remaining keys))
+    ensures ran { IfOk result (RunsClient (window_of connecting)
+        (foreseen connecting.origin (K.remaining keys))
         (S.contents screen.old) (S.contents screen.new)) }
     ensures sent { IfOk result TookWhatWasWritten }
     ensures whole { IfOk result (λ connected. EndsWhole connected.report.ended) }

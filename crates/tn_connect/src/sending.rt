@@ -20,7 +20,8 @@ pub(crate) struct Sender<H, Q: Queue> {
     ghost sent: { logged sending.writer.log ≡ [] },
 }
 
-/// What was sent: how it ended, the log of what the connection took, and the pass of what was taken from the queue.
+/// What was sent: how it ended, the log of what the connection took, and the pass of what was taken from the
+/// queue.
 #[derive(Drop)]
 pub(crate) struct Delivered {
     pub(crate) sent: io::Result<Sent>,

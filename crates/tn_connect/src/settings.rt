@@ -60,8 +60,8 @@ pub struct Notes<'a, W> {
     /// Tells each new size of the window, where standard input is waited for: width and height, five
     /// characters each, a space between them and a line feed behind them.
     pub sizes: Option<File>,
-    /// Gets a line once the connection stands, and one each time that the user asks for a stop: ACK or SUB, and
-    /// a line feed.
+    /// Gets a line once the connection stands, and one each time that the user asks for a stop: ACK or SUB,
+    /// and a line feed.
     pub stands: Option<File>,
     /// The terminal, where the client answers what its user asks it for.
     pub terminal: Option<File>,

@@ -64,7 +64,8 @@ fn talk<H: Wait, A: Await, K: Source + Drop, N: Source + Drop, W: Finish + Drop,
     writer: W,
     screen: &mut S,
 ) -> Result<TalkReport, TalkFault>
-    ensures talked { IfOk result (RunsTalk plain (K.remaining keys) (S.contents screen.old) (S.contents screen.new)) }
+    ensures talked { IfOk result (RunsTalk plain (K.remaining keys) (S.contents screen.old)
+        (S.contents screen.new)) }
     ensures connection { IfOk result (λ report. report.connection ≡ connection) }
 {
     let at_terminal = is_terminal(plain.origin);
@@ -90,10 +91,10 @@ fn is_terminal(origin: Origin) -> bool
     matches!(origin, Origin::Terminal)
 }
 
-/// Connects to a host, an address or a name, and talks to the service there by lines, with these keys and this
-/// screen, until the service has closed or the user has left. At a terminal lines are edited as at one of its own;
-/// those of any other input go as they are. That the service speaks Telnet is told as soon as it shows. Of a fault
-/// the causes are noted.
+/// Connects to a host, an address or a name, and talks to the service there by lines, with these keys and
+/// this screen, until the service has closed or the user has left. At a terminal lines are edited as at one
+/// of its own; those of any other input go as they are. That the service speaks Telnet is told as soon as it
+/// shows. Of a fault the causes are noted.
 pub fn connect_plain<H: Host + Network, K: Read + Drop, S: Write, E: Drain>(
     rt: H,
     alloc: Global,
@@ -103,7 +104,8 @@ pub fn connect_plain<H: Host + Network, K: Read + Drop, S: Write, E: Drain>(
     screen: &mut S,
     notes: Notes<'_, E>,
 ) -> Result<TalkReport, ConnectFault>
-    ensures talked { IfOk result (RunsTalk plain (K.remaining keys) (S.contents screen.old) (S.contents screen.new)) }
+    ensures talked { IfOk result (RunsTalk plain (K.remaining keys) (S.contents screen.old)
+        (S.contents screen.new)) }
     ensures reached { ConnectsBy talked_over (Reaches (H.finds rt host.now plain.port) (H.dials rt)) result }
 {
     let Notes {

@@ -1,5 +1,6 @@
 -- Items lead a printer to one state.
-use Rattle.std.proofs.Common.{◌≡◌, ℕ, ◌<◌, ◌≤◌, inl, inr, List, [], ◌∷◌, ◌++◌, map, length, refl, sym, ap, ◌∙◌, subst, arith, append-nil, append_assoc, length-append}
+use Rattle.std.proofs.Common.{◌≡◌, ℕ, ◌<◌, ◌≤◌, inl, inr, List, [], ◌∷◌, ◌++◌, map, length, refl, sym, ap, ◌∙◌, subst, arith, append-nil, append_assoc}
+use Rattle.std.proofs.Common.{length-append}
 use Rattle.std.proofs.lemmas.List.{append_cancel_left, map-append}
 use Rattle.std.proofs.lemmas.Bool.{cases_lt}
 use Rattle.tn_nvt.specs.declared.items.Item.{Item}
@@ -30,7 +31,8 @@ same_bytes (x ∷ xs) (y ∷ ys) e =
     ap (λ z. z ∷ xs) head ∙ ap (λ (zs : List ℕ). y ∷ zs) (same_bytes xs ys tail)
 
 -- what stands before bytes, among bytes, is bytes
-bytes_before : (front : List Item) (xs ys : List ℕ) → map Byte xs ≡ front ++ map Byte ys → (bytes : List ℕ) × (front ≡ map Byte bytes) × (length bytes ≤ length xs)
+bytes_before : (front : List Item) (xs ys : List ℕ) → map Byte xs ≡ front ++ map Byte ys → (bytes : List ℕ) × (front ≡ map Byte bytes)
+    × (length bytes ≤ length xs)
 bytes_before [] xs ys e = ([], refl, omega arith)
 bytes_before (item ∷ items) [] ys e = absurd (cc)
 bytes_before (item ∷ items) (x ∷ xs) ys e =
@@ -56,7 +58,8 @@ none_ends (b ∷ bs) ends short =
     ap lines_of (sym (map-append Byte (b ∷ bs) (0 ∷ []))) ∙ short_line b (bs ++ 0 ∷ []) (omega (arith, length-append bs (0 ∷ [])))
     in
     let two : data_text (b ∷ bs ++ 0 ∷ []) ∷ [] ≡ (data_text (b ∷ bs) ∷ []) ++ (data_text (0 ∷ []) ∷ []) =
-    sym longer ∙ ends (Byte 0 ∷ []) ∙ ap (λ (zs : List (List ℕ)). zs ++ lines_of (Byte 0 ∷ [])) (short_line b bs (omega arith)) ∙ ap (λ (zs : List (List ℕ)). (data_text (b ∷ bs) ∷ []) ++ zs) (short_line 0 [] (omega arith))
+    sym longer ∙ ends (Byte 0 ∷ []) ∙ ap (λ (zs : List (List ℕ)). zs ++ lines_of (Byte 0 ∷ [])) (short_line b bs (omega arith))
+    ∙ ap (λ (zs : List (List ℕ)). (data_text (b ∷ bs) ∷ []) ++ zs) (short_line 0 [] (omega arith))
     in
     absurd (omega (arith, ap length two))
 
@@ -67,8 +70,10 @@ shorter_front xs ys held others first then short e le =
     let before = bytes_before on.0 held others on.2 in
     let ends : EndsLine (map Byte before.0) = subst EndsLine before.1 (ends_behind xs on.0 first (subst EndsLine on.1 then)) in
     let none : before.0 ≡ [] = none_ends before.0 ends (omega (arith, before.2)) in
-    let nothing : on.0 ≡ [] = before.1 ∙ ap (map Byte) none in
-    (sym (on.1 ∙ ap (λ (zs : List Item). xs ++ zs) nothing ∙ append-nil xs), same_bytes held others (on.2 ∙ ap (λ (zs : List Item). zs ++ map Byte others) nothing))
+    let nothing : on.0 ≡ [] = before.1 ∙ ap (map Byte) none in (
+      sym (on.1 ∙ ap (λ (zs : List Item). xs ++ zs) nothing ∙ append-nil xs),
+      same_bytes held others (on.2 ∙ ap (λ (zs : List Item). zs ++ map Byte others) nothing),
+    )
 
 abbrev printing : Prefix → List ℕ → List ℕ → Printing
 printing prefix text held = record { prefix = prefix; text = text; held = held }

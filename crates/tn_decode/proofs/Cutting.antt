@@ -14,7 +14,8 @@ enough size (suc n) zero (b ∷ bs) some p q = absurd (omega arith)
 enough size (suc n) (suc m) [] some p q = refl
 enough size (suc n) (suc m) (b ∷ bs) some p q =
     let rest = drop size (b ∷ bs) in
-    ap (λ (ys : List (List ℕ)). take size (b ∷ bs) ∷ ys) (enough size n m rest some (omega (arith, length-drop size (b ∷ bs))) (omega (arith, length-drop size (b ∷ bs))))
+    ap (λ (ys : List (List ℕ)). take size (b ∷ bs) ∷ ys) (enough size n m rest some (omega (arith, length-drop size (b ∷ bs)))
+    (omega (arith, length-drop size (b ∷ bs))))
 
 pieces_none : (size n : ℕ) → first_pieces size n [] ≡ []
 unfolding first_pieces
@@ -27,7 +28,8 @@ unfolding first_pieces
 pieces_first size b bs ys len =
     let front = take_at (b ∷ bs) ys size len in
     let back = drop_at (b ∷ bs) ys size len in
-    let rest : first_pieces size (length (bs ++ ys)) ys ≡ pieces_of size ys = enough size (length (bs ++ ys)) (length ys) ys (omega arith) (omega (arith, length-append bs ys)) (omega arith) in
+    let rest : first_pieces size (length (bs ++ ys)) ys ≡ pieces_of size ys =
+    enough size (length (bs ++ ys)) (length ys) ys (omega arith) (omega (arith, length-append bs ys)) (omega arith) in
     rw (front, back) (ap (λ (zs : List (List ℕ)). (b ∷ bs) ∷ zs) rest)
 
 -- no more than one piece

@@ -41,7 +41,8 @@ pub lines_none : lines_of [] ≡ []
 unfolding lines_of parts_of
 lines_none = refl
 
-joined_full : (b : ℕ) (bs : List ℕ) (parts : List Part) → length (b ∷ bs) ≡ max_data → flat_map part_lines (joined (b ∷ bs) parts) ≡ data_text (b ∷ bs) ∷ flat_map part_lines parts
+joined_full : (b : ℕ) (bs : List ℕ) (parts : List Part) → length (b ∷ bs) ≡ max_data
+    → flat_map part_lines (joined (b ∷ bs) parts) ≡ data_text (b ∷ bs) ∷ flat_map part_lines parts
 joined_full b bs [] len = rw (pieces_one max_data b bs (omega (arith, len))) refl
 joined_full b bs (run others ∷ parts) len = rw (pieces_first max_data b bs others len) refl
 joined_full b bs (single item ∷ parts) len = rw (pieces_one max_data b bs (omega (arith, len))) refl
@@ -65,11 +66,13 @@ unfolding lines_of
 single_line item more is = ap (flat_map part_lines) (part_of_single item more is)
 
 -- data, and then an item that is none
-data_and_single : (held : List ℕ) (item : Item) (more : List Item) → IsSingle item → lines_of (map Byte held ++ item ∷ more) ≡ lines_of (map Byte held) ++ (item_text item ∷ lines_of more)
+data_and_single : (held : List ℕ) (item : Item) (more : List Item) → IsSingle item
+    → lines_of (map Byte held ++ item ∷ more) ≡ lines_of (map Byte held) ++ (item_text item ∷ lines_of more)
 unfolding lines_of
 data_and_single [] item more is = single_line item more is ∙ ap (λ (xs : List (List ℕ)). xs ++ (item_text item ∷ lines_of more)) (sym lines_none)
 data_and_single (b ∷ bs) item more is =
-    let parts : parts_of (map Byte (b ∷ bs) ++ item ∷ more) ≡ run (b ∷ bs) ∷ single item ∷ parts_of more = parts_of_data b bs (item ∷ more) ∙ ap (joined (b ∷ bs)) (part_of_single item more is) in
+    let parts : parts_of (map Byte (b ∷ bs) ++ item ∷ more) ≡ run (b ∷ bs) ∷ single item ∷ parts_of more =
+    parts_of_data b bs (item ∷ more) ∙ ap (joined (b ∷ bs)) (part_of_single item more is) in
     ap (flat_map part_lines) parts ∙ ap (λ (xs : List (List ℕ)). xs ++ (item_text item ∷ lines_of more)) (sym (lines_of_data b bs))
 
 pub ends_none : EndsLine []
@@ -83,7 +86,8 @@ ends_full b bs len more =
 -- after an item that is no data a line begins
 pub ends_single : (held : List ℕ) (item : Item) → IsSingle item → EndsLine (map Byte held ++ item ∷ [])
 ends_single held item is more =
-    let alone : lines_of (map Byte held ++ item ∷ []) ≡ lines_of (map Byte held) ++ (item_text item ∷ []) = data_and_single held item [] is ∙ ap (λ (xs : List (List ℕ)). lines_of (map Byte held) ++ (item_text item ∷ xs)) lines_none in
+    let alone : lines_of (map Byte held ++ item ∷ []) ≡ lines_of (map Byte held) ++ (item_text item ∷ []) =
+    data_and_single held item [] is ∙ ap (λ (xs : List (List ℕ)). lines_of (map Byte held) ++ (item_text item ∷ xs)) lines_none in
     ap lines_of (append_assoc (map Byte held) (item ∷ []) more)
     ∙ data_and_single held item more is
     ∙ sym (append_assoc (lines_of (map Byte held)) (item_text item ∷ []) (lines_of more))
@@ -106,13 +110,16 @@ pub decoded_both : (prefix : List ℕ) (xs ys : List Item) → EndsLine xs → d
 unfolding decoded
 decoded_both prefix xs ys ends = ap (flat_map (whole_line prefix)) (ends ys) ∙ flat_map-append (whole_line prefix) (lines_of xs) (lines_of ys)
 
-pub decoded_data : (prefix : List ℕ) (b : ℕ) (bs : List ℕ) → length (b ∷ bs) ≤ max_data → decoded prefix (map Byte (b ∷ bs)) ≡ whole_line prefix (data_text (b ∷ bs))
+pub decoded_data : (prefix : List ℕ) (b : ℕ) (bs : List ℕ) → length (b ∷ bs) ≤ max_data
+    → decoded prefix (map Byte (b ∷ bs)) ≡ whole_line prefix (data_text (b ∷ bs))
 unfolding decoded
 decoded_data prefix b bs len = ap (flat_map (whole_line prefix)) (short_line b bs len) ∙ append-nil (whole_line prefix (data_text (b ∷ bs)))
 
-pub decoded_single : (prefix held : List ℕ) (item : Item) → IsSingle item → decoded prefix (map Byte held ++ item ∷ []) ≡ decoded prefix (map Byte held) ++ whole_line prefix (item_text item)
+pub decoded_single : (prefix held : List ℕ) (item : Item) → IsSingle item
+    → decoded prefix (map Byte held ++ item ∷ []) ≡ decoded prefix (map Byte held) ++ whole_line prefix (item_text item)
 unfolding decoded
 decoded_single prefix held item is =
-    ap (flat_map (whole_line prefix)) (data_and_single held item [] is ∙ ap (λ (xs : List (List ℕ)). lines_of (map Byte held) ++ (item_text item ∷ xs)) lines_none)
+    ap (flat_map (whole_line prefix)) (data_and_single held item [] is
+    ∙ ap (λ (xs : List (List ℕ)). lines_of (map Byte held) ++ (item_text item ∷ xs)) lines_none)
     ∙ flat_map-append (whole_line prefix) (lines_of (map Byte held)) (item_text item ∷ [])
     ∙ ap (λ (xs : List ℕ). decoded prefix (map Byte held) ++ xs) (append-nil (whole_line prefix (item_text item)))

@@ -3,7 +3,8 @@
 ghost use Rattle.std.specs.Prelude.{◌≡◌, ◌++◌, OnOk, None, codes, decimal, flat_map};
 ghost use Rattle.tn_codes.specs.PayloadOf.{payload_of};
 ghost use Rattle.tn_decode.specs.Texts.{mode_words, high_bits_word, character_word, character_words};
-ghost use Rattle.tn_decode.specs.Texts.{modifier_text, triple_text, triples_words, payload_words, parameters_words};
+ghost use Rattle.tn_decode.specs.Texts.{modifier_text, triple_text, triples_words, payload_words};
+ghost use Rattle.tn_decode.specs.Texts.{parameters_words};
 
 use crate::names::{name_of_func, name_of_level};
 use crate::words::{hex_digits, push_bit, push_decimal, push_hex, push_named};

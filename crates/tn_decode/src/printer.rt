@@ -1,6 +1,7 @@
 //! Prints items as they come.
 
-ghost use Rattle.std.specs.Prelude.{◌≡◌, ◌≢◌, ◌<◌, ◌≤◌, ◌+◌, [], ◌∷◌, ◌++◌, length, map, take, IfOk, OnOk, OnErr};
+ghost use Rattle.std.specs.Prelude.{◌≡◌, ◌≢◌, ◌<◌, ◌≤◌, ◌+◌, [], ◌∷◌, ◌++◌, length, map, take, IfOk, OnOk};
+ghost use Rattle.std.specs.Prelude.{OnErr};
 ghost use Rattle.tn_nvt.specs.declared.items.Item.TheVariants.{Byte};
 ghost use Rattle.tn_decode.specs.Lines.{decoded, whole_line, IsSingle};
 ghost use Rattle.tn_decode.specs.Printing.{prefix_text, Takes, EndsData};

@@ -12,7 +12,8 @@ use Rattle.tn_discipline.specs.Advancing.{Advances, DropsExactly, KeepsHalf, Lea
 use Rattle.tn_discipline.proofs.lemmas.Lines.{advances, advances_erase, drops_exactly, released_keeps, resumed_leads}
 
 -- the same of an effect and a line that are known to be those
-pub advances_to : (old new : HalfLine) (r : Role) (e : Effect) → e ≡ effect_of old r → new ≡ line_after old r → Advances old (roles_from r) (effect_entries e) new
+pub advances_to : (old new : HalfLine) (r : Role) (e : Effect) → e ≡ effect_of old r → new ≡ line_after old r
+    → Advances old (roles_from r) (effect_entries e) new
 advances_to old new r e is leaves = rw (is, leaves) (advances old r)
 
 pub erases_to : (old new : HalfLine) → new ≡ line_after old role.Erase → Advances old (role.Erase ∷ []) [] new
@@ -40,10 +41,12 @@ pub gives_text : (old : HalfLine) (r : Role) (bytes : List ℕ) → effect_of ol
 gives_text old r bytes gives some = (bytes, gives ∙ ap effect.Gives (line_of-text bytes some))
 
 -- the same of a call that may have been refused
-pub advances_or : {E : Type 0} (r : Result Effect E) (old new : HalfLine) (role : Role) → IfOk r (λ e. e ≡ effect_of old role) → OnOk r (new ≡ line_after old role) → IfOk r (λ e. Advances old (roles_from role) (effect_entries e) new)
+pub advances_or : {E : Type 0} (r : Result Effect E) (old new : HalfLine) (role : Role) → IfOk r (λ e. e ≡ effect_of old role)
+    → OnOk r (new ≡ line_after old role) → IfOk r (λ e. Advances old (roles_from role) (effect_entries e) new)
 advances_or (Ok e) old new role is leaves = advances_to old new role e is leaves
 advances_or (Err e) old new role is leaves = tt
 
-pub drops_or : {E : Type 0} (r : Result Effect E) (line : HalfLine) (role : Role) → IfOk r (λ e. e ≡ effect_of line role) → IfOk r (DropsExactly line (roles_from role))
+pub drops_or : {E : Type 0} (r : Result Effect E) (line : HalfLine) (role : Role) → IfOk r (λ e. e ≡ effect_of line role)
+    → IfOk r (DropsExactly line (roles_from role))
 drops_or (Ok e) line role is = drops_to line role e is
 drops_or (Err e) line role is = tt

@@ -11,7 +11,8 @@ use Rattle.tn_discipline.specs.declared.keys.Role.{Role}
 abbrev pub AgreesTo : Settings → List Role → ℕ → Type 0
 AgreesTo settings table count = (k : ℕ) (d : Role) → k < count → get_or table k d ≡ role_of_key settings k
 
-pub agrees_more : (settings : Settings) (table : List Role) (key : ℕ) (r : Role) → length table ≡ key → AgreesTo settings table key → r ≡ role_of_key settings key → AgreesTo settings (table ++ r ∷ []) (key + 1)
+pub agrees_more : (settings : Settings) (table : List Role) (key : ℕ) (r : Role) → length table ≡ key → AgreesTo settings table key
+    → r ≡ role_of_key settings key → AgreesTo settings (table ++ r ∷ []) (key + 1)
 agrees_more settings table key r count before here k d lt =
     elim (eqb_tells k key) [
       | inl e ↦ rw e.1 (get_or_push table r d key count ∙ here)

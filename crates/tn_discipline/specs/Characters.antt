@@ -1,6 +1,7 @@
 -- The special characters of a terminal (POSIX.1-2017, XBD 11.1.9), each under the function of the set of
 -- local characters that stands for it on the wire (RFC 1184, section 2.4).
-use Rattle.std.specs.Prelude.{◌≡◌, ℕ, Bool, false, not, ◌&&◌, ◌||◌, ◌==◌, Option, Some, None, List, [], ◌∷◌, if◌then◌else◌}
+use Rattle.std.specs.Prelude.{◌≡◌, ℕ, Bool, false, not, ◌&&◌, ◌||◌, ◌==◌, Option, Some, None, List, [], ◌∷◌}
+use Rattle.std.specs.Prelude.{if◌then◌else◌}
 use Rattle.std.specs.List.{list_any}
 use Rattle.tn_codes.specs.Codes.{func_code}
 use Rattle.tn_codes.specs.declared.codes.Func.{Func}

@@ -1,6 +1,10 @@
+//! The special characters of a terminal.
+
 ghost use Rattle.std.specs.Prelude.{◌≡◌, ◌↔◌, Some, None, find, IfErr, OnOk, OnErr};
 ghost use Rattle.tn_codes.specs.declared.codes.Func.{Func};
-ghost use Rattle.tn_discipline.specs.Characters.{standard_characters, AreAllowed, slot, with_slot, special_functions, is_settable, is_set_to, is_taken, char_fault};
+ghost use Rattle.tn_discipline.specs.Characters.{standard_characters, AreAllowed, slot, with_slot};
+ghost use Rattle.tn_discipline.specs.Characters.{special_functions, is_settable, is_set_to, is_taken};
+ghost use Rattle.tn_discipline.specs.Characters.{char_fault};
 
 use std::marker::Model;
 use thiserror::Error;

@@ -1,3 +1,5 @@
+//! What a terminal shows of what is typed.
+
 ghost use Rattle.std.specs.Prelude.{◌≡◌};
 ghost use Rattle.tn_discipline.specs.Echo.{echo_at, one_shown};
 ghost use Rattle.tn_discipline.specs.Keys.{role_of_key};

@@ -1,5 +1,6 @@
 //! Keys that make no entry, one after another, at the parts of a line.
-ghost use Rattle.std.specs.Prelude.{◌≡◌, ◌+◌, ◌<◌, ◌≤◌, false, true, All, length, take, get_or, vec_len, vec_capacity};
+ghost use Rattle.std.specs.Prelude.{◌≡◌, ◌+◌, ◌<◌, ◌≤◌, false, true, All, length, take, get_or, vec_len};
+ghost use Rattle.std.specs.Prelude.{vec_capacity};
 ghost use Rattle.tn_discipline.specs.Keys.{role_of_key, gives_entry};
 ghost use Rattle.tn_discipline.specs.HalfLine.{line_after, line_kept, line_erased};
 ghost use Rattle.tn_discipline.specs.Runs.{line_after_all, each_role};

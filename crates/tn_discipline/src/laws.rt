@@ -1,6 +1,7 @@
 //! Laws of the definitions alone.
 
-ghost use Rattle.std.specs.Prelude.{◌≡◌, ◌+◌, ◌<◌, ◌≤◌, ℕ, Option, Some, None, List, All, [], ◌∷◌, ◌++◌, length};
+ghost use Rattle.std.specs.Prelude.{◌≡◌, ◌+◌, ◌<◌, ◌≤◌, ℕ, Option, Some, None, List, All, [], ◌∷◌, ◌++◌};
+ghost use Rattle.std.specs.Prelude.{length};
 ghost use Rattle.tn_codes.specs.declared.codes.Func.{Func};
 ghost use Rattle.tn_discipline.specs.Characters.{Characters, AreAllowed, slot, with_slot, char_fault};
 ghost use Rattle.tn_discipline.specs.Keys.{roles_of, role_of_key, roles_from, literal_role};

@@ -1,3 +1,5 @@
+//! How long a line may be.
+
 ghost use Rattle.std.specs.Prelude.{◌≡◌, Some, None, true, if◌then◌else◌};
 ghost use Rattle.tn_discipline.specs.Limits.{standard_limit, is_limit};
 

@@ -1,3 +1,5 @@
+//! The roles of all keys in a table.
+
 ghost use Rattle.std.specs.Prelude.{◌≡◌, ◌≤◌, ◌<◌, length, take, get_or, All, IfOk, vec_capacity};
 ghost use Rattle.tn_discipline.specs.Keys.{role_of_key};
 ghost use Rattle.tn_discipline.specs.RolesTable.{IsPlain, Agrees};

@@ -1,3 +1,5 @@
+//! The flags and the settings of a terminal.
+
 ghost use Rattle.std.specs.Prelude.{◌≡◌};
 ghost use Rattle.tn_discipline.specs.Keys.{standard_flags};
 ghost use Rattle.tn_discipline.specs.Characters.{standard_characters};

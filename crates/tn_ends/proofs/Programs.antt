@@ -32,7 +32,14 @@ is_some e = cc
 
 module _ {J : Type 0} (facts : JobFacts J) (headline : Headline facts) (p : Programs facts) where
   abbrev served : Served facts (terminal_of p.options).canon
-  served = record { editing = p.options.editing; to_make = p.to_make; reader = socket; writer = wrote p.conversed.log; result = session_result p.conversed.report p.conversed.ports; ran = p.served }
+  served = record {
+    editing = p.options.editing;
+    to_make = p.to_make;
+    reader = socket;
+    writer = wrote p.conversed.log;
+    result = session_result p.conversed.report p.conversed.ports;
+    ran = p.served;
+  }
 
   abbrev screen : KnownWriting
   screen = record { before = record { bytes = p.seen; calls = None }; after = record { bytes = p.now; calls = None } }
@@ -41,7 +48,8 @@ module _ {J : Type 0} (facts : JobFacts J) (headline : Headline facts) (p : Prog
   queued = record { before = record { bytes = Some []; calls = None }; after = record { bytes = put_bytes (view p.connected.queue); calls = None } }
 
   abbrev Client : ℕ → Type 0
-  Client limit = RunningClient (record { width = p.connecting.width; height = p.connecting.height; limit = limit }) p.keys socket queued screen (client_result p.connected.report p.connected.ports)
+  Client limit = RunningClient (record { width = p.connecting.width; height = p.connecting.height; limit = limit }) p.keys socket queued screen
+      (client_result p.connected.report p.connected.ports)
 
   abbrev local_entries : List Input → List Entry
   local_entries inputs = typed_entries (terminal_of p.options).canon (keys_of (terminal_of p.options).canon.settings inputs)
@@ -66,7 +74,17 @@ module _ {J : Type 0} (facts : JobFacts J) (headline : Headline facts) (p : Prog
 
   of_one_limit : (c : Client p.options.line_limit) → IsCarried served.ran.transcript c.transcript → Reads p.options.line_limit c
   of_one_limit c carried =
-      let client : Connected (terminal_of p.options).canon.limit = record { width = p.connecting.width; height = p.connecting.height; keys = p.keys; reader = socket; writer = queued; screen = screen; result = client_result p.connected.report p.connected.ports; ran = c } in
+      let client : Connected (terminal_of p.options).canon.limit =
+      record {
+        width = p.connecting.width;
+        height = p.connecting.height;
+        keys = p.keys;
+        reader = socket;
+        writer = queued;
+        screen = screen;
+        result = client_result p.connected.report p.connected.ports;
+        ran = c;
+      } in
       let reads = headline (terminal_of p.options).canon served client refl (all_typeable c.inputs) carried in
       record { prefix = reads.prefix; all = λ s c whole. reads.all (record { server = s; client = c; whole = whole }) }
 

@@ -1,5 +1,5 @@
--- The headline over the two programs: of what `serve_connection` and `connect` return. Read `HeadlineOfPrograms` at
--- the end first.
+-- The headline over the two programs: of what `serve_connection` and `connect` return. Read
+-- `HeadlineOfPrograms` at the end first.
 use Rattle.std.specs.Prelude.{◌≡◌, ℕ, true, Option, Some, List}
 use Rattle.crossbeam_channel.specs.Claims.{view}
 use Rattle.tn_connect.specs.Clients.{RunsClient, window_of}
@@ -41,9 +41,9 @@ server_transcript p = p.served.transcript
 abbrev pub client_transcript : {J : Type 0} {facts : JobFacts J} → Programs facts → List Exchange
 client_transcript p = p.joined.transcript
 
--- These are of THEIR connection: each read what its thread read from there. What the server wrote was taken by the
--- connection, as its log has it. What the client wrote waited in its queue for the thread that sends; the connection
--- took the first of it, and all of it where `connect` tells so.
+-- These are of THEIR connection: each read what its thread read from there. What the server wrote was taken
+-- by the connection, as its log has it. What the client wrote waited in its queue for the thread that sends;
+-- the connection took the first of it, and all of it where `connect` tells so.
 pub record AreTheirs {J : Type 0} {facts : JobFacts J} (p : Programs facts) : Type 0 where
   pub server_read : all_read (server_transcript p) ≡ came_by (view p.conversed.ports.net).net
   pub server_wrote : all_wrote (server_transcript p) ≡ logged p.conversed.log
@@ -52,7 +52,8 @@ pub record AreTheirs {J : Type 0} {facts : JobFacts J} (p : Programs facts) : Ty
   pub client_sent : IsPrefixOf (logged p.connected.log) (all_wrote (client_transcript p))
   pub client_sent_all : p.connected.all_sent ≡ true → logged p.connected.log ≡ all_wrote (client_transcript p)
 
--- what the job took, and what one local terminal gives for the keys that were read, with the commands between them
+-- what the job took, and what one local terminal gives for the keys that were read, with the commands between
+-- them
 abbrev pub taken : {J : Type 0} {facts : JobFacts J} → Programs facts → List Entry
 taken p = p.served.entries_taken
 

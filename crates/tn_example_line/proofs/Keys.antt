@@ -23,7 +23,8 @@ pub typed_more : (old new : HalfLine) (key : ℕ) (gain before after : List Entr
 typed_more old new key gain before after moves gained keys had =
     let roles = roles_of-append standard.settings keys (key ∷ []) in
     let typed = roles_of standard.settings keys in
-    let entries = subst (λ limit. entries_of limit (typed ++ roles_of standard.settings (key ∷ [])) ≡ entries_of limit typed ++ gain) had.limit (moves.entries typed had.leads had.ahead) in
+    let entries = subst (λ limit. entries_of limit (typed ++ roles_of standard.settings (key ∷ [])) ≡ entries_of limit typed ++ gain) had.limit
+    (moves.entries typed had.leads had.ahead) in
     record {
       limit = moves.limit ∙ had.limit;
       leads = rw roles (moves.half typed had.leads);

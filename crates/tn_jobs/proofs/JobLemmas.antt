@@ -1,12 +1,14 @@
 -- The number of the foreground job, and whether there is one.
-use Rattle.std.proofs.Common.{◌≡◌, ◌≢◌, ℕ, zero, suc, ◌<◌, ◌≤◌, true, false, Option, Some, None, is_some, IsSome, [], ◌∷◌, ◌++◌, length, refl, sym, ◌∙◌, ap, subst, if◌then◌else◌, arith, ◌⊎◌, inl, inr}
+use Rattle.std.proofs.Common.{◌≡◌, ◌≢◌, ℕ, zero, suc, ◌<◌, ◌≤◌, true, false, Option, Some, None, is_some, IsSome, [], ◌∷◌, ◌++◌, length, refl, sym, ◌∙◌, ap}
+use Rattle.std.proofs.Common.{subst, if◌then◌else◌, arith, ◌⊎◌, inl, inr}
 use Rattle.std.proofs.lemmas.Grind.{common_steps}
 use Rattle.std.proofs.lemmas.List.{get_or_past}
 use Rattle.std.proofs.lemmas.Bool.{eq-eqb, ne_eqb}
 use Rattle.std.proofs.lemmas.Bool.Decides.{eqb_tells}
 use Rattle.std.proofs.lemmas.List.Sums.{length-filter}
 use Rattle.std.proofs.lemmas.List.Folds.{list_any_at}
-use Rattle.tn_jobs.specs.Jobs.{Jobs, state_at, with_state, held_count, is_foreground, has_foreground, foreground_after, is_number, NamesForeground, IsTable, HasNoGap, add_fault}
+use Rattle.tn_jobs.specs.Jobs.{Jobs, state_at, with_state, held_count, is_foreground, has_foreground, foreground_after, is_number, NamesForeground, IsTable}
+use Rattle.tn_jobs.specs.Jobs.{HasNoGap, add_fault}
 use Rattle.tn_jobs.specs.declared.held_jobs.JobFault.TheVariants.{Full}
 use Rattle.tn_jobs.specs.declared.verdicts.JobState.{JobState}
 use Rattle.tn_jobs.specs.declared.verdicts.JobState.TheVariants.{Foreground, Background, Stopped, Ended}
@@ -55,7 +57,8 @@ held_all (Some state ∷ jobs) all = omega (arith, held_more state jobs, held_al
 
 -- A JOB MORE
 
-more_at : (jobs : Jobs) (id : ℕ) (state : JobState) → state ≢ Background → state_at (jobs ++ Some Background ∷ []) id ≡ Some state → state_at jobs id ≡ Some state
+more_at : (jobs : Jobs) (id : ℕ) (state : JobState) → state ≢ Background → state_at (jobs ++ Some Background ∷ []) id ≡ Some state
+    → state_at jobs id ≡ Some state
 more_at [] zero state differs e = let same : Background ≡ state = cc in absurd (differs cc)
 more_at [] (suc id) state differs e = cc
 more_at (job ∷ jobs) zero state differs e = e
@@ -100,7 +103,8 @@ set_at_state jobs id other state found held_count e =
       | inr other_is ↦ let differs : other ≢ id = other_is.1 in inr (differs, sym (at_other jobs id other (Some state) differs) ∙ e)
     ]
 
-pub sound_set : (jobs : Jobs) (id : ℕ) (state : JobState) → IsSome (state_at jobs id) → (is_foreground (Some state) ≡ true → has_foreground jobs ≡ false) → state ≢ Ended
+pub sound_set : (jobs : Jobs) (id : ℕ) (state : JobState) → IsSome (state_at jobs id) → (is_foreground (Some state) ≡ true → has_foreground jobs ≡ false)
+    → state ≢ Ended
     → IsTable jobs → IsTable (with_state jobs id (Some state))
 sound_set jobs id state held_count alone differs sound = record {
   one_foreground = λ a b e f.
@@ -124,7 +128,8 @@ full_is jobs full = rw full refl
 some_is : (a b : ℕ) → Some a ≡ Some b → b ≡ a
 some_is a b e = cc
 
-names_brought : (jobs : Jobs) (id : ℕ) → IsSome (state_at jobs id) → has_foreground jobs ≡ false → NamesForeground (with_state jobs id (Some Foreground)) (Some id)
+names_brought : (jobs : Jobs) (id : ℕ) → IsSome (state_at jobs id) → has_foreground jobs ≡ false
+    → NamesForeground (with_state jobs id (Some Foreground)) (Some id)
 names_brought jobs id held_count alone = λ other. (
   λ e. ap (state_at (with_state jobs id (Some Foreground))) (some_is id other e) ∙ at_set jobs id (Some Foreground) held_count,
   λ e.
@@ -134,7 +139,8 @@ names_brought jobs id held_count alone = λ other. (
       ],
 )
 
-names_left : (jobs : Jobs) (foreground : Option ℕ) (id : ℕ) (state : JobState) → IsSome (state_at jobs id) → state ≢ Foreground → NamesForeground jobs foreground
+names_left : (jobs : Jobs) (foreground : Option ℕ) (id : ℕ) (state : JobState) → IsSome (state_at jobs id) → state ≢ Foreground
+    → NamesForeground jobs foreground
     → NamesForeground (with_state jobs id (Some state)) (if is_number foreground id then None else foreground)
 names_left jobs None id state held_count differs names = λ other. (
   λ e. cc,
@@ -157,9 +163,14 @@ names_left jobs (Some n) id state held_count differs names =
     ]
 
 -- the number that is kept, after it
-pub names_set : (jobs : Jobs) (foreground : Option ℕ) (id : ℕ) (state : JobState) {after : Option ℕ} → IsSome (state_at jobs id) → (is_foreground (Some state) ≡ true → has_foreground jobs ≡ false)
+pub names_set : (jobs : Jobs) (foreground : Option ℕ) (id : ℕ) (state : JobState) {after : Option ℕ} → IsSome (state_at jobs id)
+    → (is_foreground (Some state) ≡ true → has_foreground jobs ≡ false)
     → NamesForeground jobs foreground → after ≡ foreground_after foreground id (Some state) → NamesForeground (with_state jobs id (Some state)) after
-names_set jobs foreground id Foreground held_count alone names is = subst (NamesForeground (with_state jobs id (Some Foreground))) (sym is) (names_brought jobs id held_count (alone refl))
-names_set jobs foreground id Background held_count alone names is = subst (NamesForeground (with_state jobs id (Some Background))) (sym is) (names_left jobs foreground id Background held_count (λ e. cc) names)
-names_set jobs foreground id (Stopped why) held_count alone names is = subst (NamesForeground (with_state jobs id (Some (Stopped why)))) (sym is) (names_left jobs foreground id (Stopped why) held_count (λ e. cc) names)
-names_set jobs foreground id Ended held_count alone names is = subst (NamesForeground (with_state jobs id (Some Ended))) (sym is) (names_left jobs foreground id Ended held_count (λ e. cc) names)
+names_set jobs foreground id Foreground held_count alone names is =
+    subst (NamesForeground (with_state jobs id (Some Foreground))) (sym is) (names_brought jobs id held_count (alone refl))
+names_set jobs foreground id Background held_count alone names is =
+    subst (NamesForeground (with_state jobs id (Some Background))) (sym is) (names_left jobs foreground id Background held_count (λ e. cc) names)
+names_set jobs foreground id (Stopped why) held_count alone names is =
+    subst (NamesForeground (with_state jobs id (Some (Stopped why)))) (sym is) (names_left jobs foreground id (Stopped why) held_count (λ e. cc) names)
+names_set jobs foreground id Ended held_count alone names is = subst (NamesForeground (with_state jobs id (Some Ended))) (sym is)
+    (names_left jobs foreground id Ended held_count (λ e. cc) names)

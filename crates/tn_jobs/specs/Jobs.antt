@@ -1,5 +1,6 @@
 -- The jobs that a terminal holds: at each number the state of its job, or nothing.
-use Rattle.std.specs.Prelude.{◌≡◌, ◌≢◌, ◌<◌, ◌≤◌, ◌+◌, ℕ, Bool, true, false, Option, Some, None, List, length, is_some, IsSome, count_by, slice_index_or, slice_set, if◌then◌else◌, ◌↔◌, ◌==◌}
+use Rattle.std.specs.Prelude.{◌≡◌, ◌≢◌, ◌<◌, ◌≤◌, ◌+◌, ℕ, Bool, true, false, Option, Some, None, List, length}
+use Rattle.std.specs.Prelude.{is_some, IsSome, count_by, slice_index_or, slice_set, if◌then◌else◌, ◌↔◌, ◌==◌}
 use Rattle.std.specs.List.{list_any}
 use Rattle.tn_jobs.specs.declared.verdicts.JobState.{JobState}
 use Rattle.tn_jobs.specs.declared.verdicts.JobState.TheVariants.{Foreground, Background, Stopped, Ended}

@@ -3,7 +3,8 @@
 ghost use Rattle.std.specs.Prelude.{◌≡◌, ◌≢◌, ◌+◌, ◌<◌, [], Some, None, true, false, IsSome};
 ghost use Rattle.std.specs.Prelude.{IfOk, OnOk, IfErr, OnErr, IsErrOf, MatchOption};
 ghost use Rattle.std.specs.Result.{result_err};
-ghost use Rattle.tn_jobs.specs.Jobs.{state_at, with_state, held_count, IsTable, IsHeldBelow, HasNoGap, IsFirstFree, Adds};
+ghost use Rattle.tn_jobs.specs.Jobs.{state_at, with_state, held_count, IsTable, IsHeldBelow, HasNoGap};
+ghost use Rattle.tn_jobs.specs.Jobs.{IsFirstFree, Adds};
 ghost use Rattle.tn_jobs.specs.Jobs.{is_foreground, has_foreground, foreground_after, add_fault};
 ghost use Rattle.tn_jobs.specs.Jobs.{foreground_fault, background_fault, stopped_fault, done_fault};
 

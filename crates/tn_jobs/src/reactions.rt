@@ -27,7 +27,8 @@ pub trait Job: Drop {
     /// From the first state to the last, this is a step of its own.
     ghost steps: { Self → Reaction → Self → Type 0 };
 
-    /// Memory may run out for it at this entry, or at a step of its own. Nothing is said of it where a job names none.
+    /// Memory may run out for it at this entry, or at a step of its own. Nothing is said of it where a job
+    /// names none.
     ghost refuses: { Self → Option Entry → Type 0 } = { λ _ _. Unit {0} };
 
     /// Answers an entry that was read for it.

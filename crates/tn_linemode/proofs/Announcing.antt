@@ -1,5 +1,6 @@
 -- A client that is sent a whole table, and a server that is sent acknowledgements.
-use Rattle.std.proofs.Common.{◌≡◌, ◌≢◌, ◌⊎◌, ℕ, ◌==◌, Bool, true, false, ◌&&◌, ◌||◌, Option, Some, None, option_to_list, List, [], ◌∷◌, ◌++◌, map, refl, sym, ap, ◌∙◌, inl, inr, if◌then◌else◌, arith}
+use Rattle.std.proofs.Common.{◌≡◌, ◌≢◌, ◌⊎◌, ℕ, ◌==◌, Bool, true, false, ◌&&◌, ◌||◌, Option, Some, None, option_to_list, List, [], ◌∷◌, ◌++◌, map, refl, sym}
+use Rattle.std.proofs.Common.{ap, ◌∙◌, inl, inr, if◌then◌else◌, arith}
 use Rattle.std.specs.List.{list_all}
 use Rattle.tn_codes.specs.Codes.{func_code}
 use Rattle.tn_codes.specs.declared.codes.Func.{Func}
@@ -7,10 +8,12 @@ use Rattle.tn_codes.specs.declared.codes.Func.TheVariants as func
 use Rattle.tn_codes.specs.declared.codes.Level.TheVariants as level
 use Rattle.tn_codes.specs.declared.triples.Triple.{Triple}
 use Rattle.tn_discipline.specs.Characters.{Characters, AreAllowed, slot, with_slot, special_functions, is_same, is_settable, is_reserved, is_set_to}
-use Rattle.tn_discipline.proofs.lemmas.Functions.{same_function, apart, is_same-refl, is_among, among_more, finds, slot-with_slot, slot-with_slot-other, same_slots}
+use Rattle.tn_discipline.proofs.lemmas.Functions.{same_function, apart, is_same-refl, is_among, among_more, finds, slot-with_slot, slot-with_slot-other}
+use Rattle.tn_discipline.proofs.lemmas.Functions.{same_slots}
 use Rattle.tn_linemode.specs.declared.triples.Saying.TheVariants as saying
 use Rattle.tn_linemode.specs.Triples.{has_ack, special_at, saying_of_all, saying_of_function, saying_of, triple_of, acknowledged_triple}
-use Rattle.tn_linemode.specs.Exchange.{without_character, is_line_end, is_same_value, announcement, answers_along, server_next, server_answer, server_after, server_answers, client_next, client_answer, client_takes, client_after, client_answers}
+use Rattle.tn_linemode.specs.Exchange.{without_character, is_line_end, is_same_value, announcement, answers_along, server_next, server_answer, server_after}
+use Rattle.tn_linemode.specs.Exchange.{server_answers, client_next, client_answer, client_takes, client_after, client_answers}
 use Rattle.tn_linemode.proofs.Taking.{slot-without, stays}
 
 and_true : (a b : Bool) → (a && b) ≡ true → (a ≡ true) × (b ≡ true)
@@ -39,7 +42,8 @@ acknowledged_answers c (t ∷ ts) acks =
     ap (λ o. option_to_list o ++ server_answers (server_next c t) ts) silent ∙ ap (λ d. server_answers d ts) same ∙ acknowledged_answers c ts both.1
 
 -- a function that has another character than the one that is taken away keeps it
-slot-without-other : (c : Characters) (v : Option ℕ) (f : Func) → ((byte : ℕ) → v ≡ Some byte → slot c f ≢ Some byte) → slot (without_character c v) f ≡ slot c f
+slot-without-other : (c : Characters) (v : Option ℕ) (f : Func) → ((byte : ℕ) → v ≡ Some byte → slot c f ≢ Some byte)
+    → slot (without_character c v) f ≡ slot c f
 slot-without-other c None f other = refl
 slot-without-other c (Some byte) f other = slot-without c byte f ∙ stays (slot c f) byte (other byte refl)
 
@@ -80,7 +84,8 @@ says-triple_of k None settable other =
     ap (λ (zero : Bool). if zero then saying.Nothing else saying_of_function (special_at (func_code k)) level.NoSupport (func_code k) 0) (above_zero k)
     ∙ ap (λ o. saying_of_function o level.NoSupport (func_code k) 0) (special_at-code k settable)
 says-triple_of k (Some byte) settable other =
-    ap (λ (zero : Bool). if zero then saying_of_all level.Value (byte == 0) else saying_of_function (special_at (func_code k)) level.Value (func_code k) byte) (above_zero k)
+    ap (λ (zero : Bool). if zero then saying_of_all level.Value (byte == 0) else saying_of_function (special_at (func_code k)) level.Value (func_code k) byte)
+    (above_zero k)
     ∙ ap (λ o. saying_of_function o level.Value (func_code k) byte) (special_at-code k settable)
     ∙ ap (λ (escape : Bool). saying.Character k (if escape then None else Some byte)) other
 
@@ -97,7 +102,8 @@ abbrev told : Characters → List Func → List Triple
 told s ks = map (λ k. triple_of k (slot s k)) ks
 
 -- a function that was told, or agreed before, agrees after
-told_agrees : (s : Characters) (ks : List Func) (c : Characters) (f : Func) → AreAllowed s → list_all is_settable ks ≡ true → (is_among f ks ≡ true) ⊎ (slot c f ≡ slot s f) → slot (client_after c (told s ks)) f ≡ slot s f
+told_agrees : (s : Characters) (ks : List Func) (c : Characters) (f : Func) → AreAllowed s → list_all is_settable ks ≡ true → (is_among f ks ≡ true)
+    ⊎ (slot c f ≡ slot s f) → slot (client_after c (told s ks)) f ≡ slot s f
 unfolding client_after
 told_agrees s [] c f allowed settable h = elim h [ inl among ↦ cc | inr same ↦ same ]
 told_agrees s (k ∷ ks) c f allowed settable h =
@@ -108,7 +114,11 @@ told_agrees s (k ∷ ks) c f allowed settable h =
     next : is_settable k ≡ true → (is_among f (k ∷ ks) ≡ true) ⊎ (slot c f ≡ slot s f) → (is_among f ks ≡ true) ⊎ (slot (took s c k) f ≡ slot s f)
     next here h =
         elim h [
-          | inl among ↦ elim (among_more f k ks among) [ inl e ↦ inr (ap (slot (took s c k)) (sym e) ∙ took_at s c k here ∙ ap (slot s) e) | inr later ↦ inl later ]
+          | inl among ↦ elim (among_more f k ks among) [
+            | inl e ↦ inr
+                (ap (slot (took s c k)) (sym e) ∙ took_at s c k here ∙ ap (slot s) e)
+            | inr later ↦ inl later
+          ]
           | inr same ↦ inr (took_keeps s c k f allowed here same)
         ]
 
@@ -144,12 +154,14 @@ list_all-append [] ys p q = q
 list_all-append (x ∷ xs) ys p q =
     let both = and_true (has_ack x) (list_all has_ack xs) p in true_and _ _ both.0 (list_all-append xs ys both.1 q)
 
-told_acks : (s : Characters) (ks : List Func) (c : Characters) → AreAllowed s → list_all is_settable ks ≡ true → list_all has_ack (client_answers c (told s ks)) ≡ true
+told_acks : (s : Characters) (ks : List Func) (c : Characters) → AreAllowed s → list_all is_settable ks ≡ true
+    → list_all has_ack (client_answers c (told s ks)) ≡ true
 unfolding answers_along client_answers
 told_acks s [] c allowed settable = refl
 told_acks s (k ∷ ks) c allowed settable =
     let both = and_true (is_settable k) (list_all is_settable ks) settable in
-    list_all-append (option_to_list (client_answer c (triple_of k (slot s k)))) _ (client_answer-own s c k allowed both.0) (told_acks s ks (client_next c (triple_of k (slot s k))) allowed both.1)
+    list_all-append (option_to_list (client_answer c (triple_of k (slot s k)))) _ (client_answer-own s c k allowed both.0)
+    (told_acks s ks (client_next c (triple_of k (slot s k))) allowed both.1)
 
 pub announced_acks : (c s : Characters) → AreAllowed s → list_all has_ack (client_answers c (announcement s)) ≡ true
 unfolding announcement

@@ -1,5 +1,6 @@
 -- Answers to answers end.
-use Rattle.std.proofs.Common.{◌≡◌, ◌⊎◌, ◌<◌, ◌≤◌, ◌+◌, ℕ, zero, suc, ◌==◌, Bool, true, false, not, ◌&&◌, ◌||◌, Option, Some, None, is_none, option_to_list, List, [], ◌∷◌, ◌++◌, length, refl, sym, ap, subst, ◌∙◌, inl, inr, if◌then◌else◌, arith, rules, length-append}
+use Rattle.std.proofs.Common.{◌≡◌, ◌⊎◌, ◌<◌, ◌≤◌, ◌+◌, ℕ, zero, suc, ◌==◌, Bool, true, false, not, ◌&&◌, ◌||◌, Option, Some, None, is_none, option_to_list}
+use Rattle.std.proofs.Common.{List, [], ◌∷◌, ◌++◌, length, refl, sym, ap, subst, ◌∙◌, inl, inr, if◌then◌else◌, arith, rules, length-append}
 use Rattle.std.specs.Prelude.{All}
 use Rattle.std.proofs.lemmas.List.Elements.{All-nil, All-cons, All-append, All-head, All-tail}
 use Rattle.tn_codes.specs.declared.codes.Func.{Func}
@@ -10,8 +11,10 @@ use Rattle.tn_codes.specs.declared.triples.Triple.{Triple}
 use Rattle.tn_discipline.specs.Characters.{Characters, AreAllowed, slot, with_slot, is_reserved, is_set_to, char_fault}
 use Rattle.tn_linemode.specs.declared.triples.Saying.{Saying}
 use Rattle.tn_linemode.specs.declared.triples.Saying.TheVariants as saying
-use Rattle.tn_linemode.specs.Triples.{has_ack, special_at, level_of, saying_of_all, saying_of_function, saying_of, triple_of, acknowledged_triple, unsupported_triple, IsOffer}
-use Rattle.tn_linemode.specs.Exchange.{is_line_end, is_same_value, answers_along, server_takes, server_replies, server_next, server_answer, server_after, server_answers, server_is_asked, asks_for_table, wants_table, client_replies, client_next, client_answer, client_answers}
+use Rattle.tn_linemode.specs.Triples.{has_ack, special_at, level_of, saying_of_all, saying_of_function, saying_of, triple_of, acknowledged_triple}
+use Rattle.tn_linemode.specs.Triples.{unsupported_triple, IsOffer}
+use Rattle.tn_linemode.specs.Exchange.{is_line_end, is_same_value, answers_along, server_takes, server_replies, server_next, server_answer, server_after}
+use Rattle.tn_linemode.specs.Exchange.{server_answers, server_is_asked, asks_for_table, wants_table, client_replies, client_next, client_answer, client_answers}
 use Rattle.tn_linemode.specs.Repeating.{repeated}
 use Rattle.tn_linemode.proofs.Announcing.{says-triple_of}
 use Rattle.tn_linemode.proofs.Offers.{says_offer}
@@ -45,7 +48,8 @@ final_asks : (t : Triple) → IsFinal t → asks_for_table t ≡ false
 final_asks t h = elim h [ inl e ↦ rw e refl | inr e ↦ asks_none (has_ack t) (saying_of t) e ]
 
 -- ALL THAT A CLIENT ANSWERS ends the exchange
-about_unsupported : (o : Option Func) (l : Level) (code value wanted : ℕ) → special_at code ≡ o → saying_of_function o l code value ≡ saying.Unsupported wanted → special_at wanted ≡ None
+about_unsupported : (o : Option Func) (l : Level) (code value wanted : ℕ) → special_at code ≡ o → saying_of_function o l code value ≡ saying.Unsupported wanted
+    → special_at wanted ≡ None
 about_unsupported (Some f) l code value wanted is e = cc
 about_unsupported None level.NoSupport code value wanted is e = cc
 about_unsupported None level.CantChange code value wanted is e = let same : code ≡ wanted = cc in ap special_at (sym same) ∙ is
@@ -69,7 +73,8 @@ either_unsupported false all one wanted from_all from_one e = from_one e
 -- a function that is not supported has no character
 unsupported_none : (t : Triple) (wanted : ℕ) → saying_of t ≡ saying.Unsupported wanted → special_at wanted ≡ None
 unsupported_none t wanted e =
-    either_unsupported (t.func == 0) _ _ wanted (all_unsupported (level_of t) (t.value == 0) wanted) (about_unsupported (special_at t.func) (level_of t) t.func t.value wanted refl) e
+    either_unsupported (t.func == 0) _ _ wanted (all_unsupported (level_of t) (t.value == 0) wanted)
+    (about_unsupported (special_at t.func) (level_of t) t.func t.value wanted refl) e
 
 nothing_if : (test : Bool) (s : Saying) → s ≡ saying.Nothing → (if test then saying.Nothing else s) ≡ saying.Nothing
 nothing_if true s e = refl
@@ -244,7 +249,8 @@ few_answers c (t ∷ ts) =
 abbrev Settles : Characters → List Triple → Characters → List Triple → Type 0
 Settles c ts d us = (open_count us < open_count ts) ⊎ ((d ≡ c) × All (IsSilent c) us)
 
-settles_open : (c d : Characters) (t : Triple) (ts us : List Triple) (reply : Option Triple) → has_ack t ≡ false → Reply c (saying_of t) reply → open_count us ≤ open_count ts
+settles_open : (c d : Characters) (t : Triple) (ts us : List Triple) (reply : Option Triple) → has_ack t ≡ false → Reply c (saying_of t) reply
+    → open_count us ≤ open_count ts
     → (server_takes c (saying_of t) ≡ c → Settles c ts d us) → Settles c (t ∷ ts) d (option_to_list reply ++ us)
 settles_open c d t ts us None is h few later = inl (omega (arith, ap open_if is, few))
 settles_open c d t ts us (Some a) is h few later =
@@ -257,7 +263,8 @@ settles_open c d t ts us (Some a) is h few later =
     ]
 
 -- the same once the table after the first triple is named
-settles_by : (c : Characters) (t : Triple) (ts : List Triple) (acks : Bool) → has_ack t ≡ acks → AreAllowed c → Settles c ts (server_after c ts) (server_answers c ts)
+settles_by : (c : Characters) (t : Triple) (ts : List Triple) (acks : Bool) → has_ack t ≡ acks → AreAllowed c
+    → Settles c ts (server_after c ts) (server_answers c ts)
     → Settles c (t ∷ ts) (server_after (if acks then c else server_takes c (saying_of t)) ts)
     (option_to_list (if acks then None else server_replies c (saying_of t)) ++ server_answers (if acks then c else server_takes c (saying_of t)) ts)
 settles_by c t ts true is allowed again = elim again [ inl less ↦ inl (omega (arith, ap open_if is, less)) | inr rest ↦ inr rest ]

@@ -1,16 +1,20 @@
 -- What a triple can say of a function that has a character, and what is said in answer.
-use Rattle.std.proofs.Common.{◌≡◌, ℕ, Bool, true, false, ◌||◌, ◌==◌, Option, Some, None, is_none, List, [], ◌∷◌, refl, sym, ap, subst, ◌∙◌, if◌then◌else◌, arith}
+use Rattle.std.proofs.Common.{◌≡◌, ℕ, Bool, true, false, ◌||◌, ◌==◌, Option, Some, None, is_none, List, [], ◌∷◌, refl, sym, ap, subst, ◌∙◌, if◌then◌else◌}
+use Rattle.std.proofs.Common.{arith}
 use Rattle.tn_codes.specs.Codes.{func_code}
 use Rattle.tn_codes.specs.declared.codes.Func.{Func}
 use Rattle.tn_codes.specs.declared.codes.Func.TheVariants as func
 use Rattle.tn_codes.specs.declared.codes.Level.{Level}
 use Rattle.tn_codes.specs.declared.codes.Level.TheVariants as level
 use Rattle.tn_codes.specs.declared.triples.Triple.{Triple}
-use Rattle.tn_discipline.specs.Characters.{Characters, AreAllowed, slot, with_slot, special_functions, standard_characters, is_settable, is_reserved, is_set_to, char_fault}
+use Rattle.tn_discipline.specs.Characters.{Characters, AreAllowed, slot, with_slot, special_functions, standard_characters, is_settable, is_reserved, is_set_to}
+use Rattle.tn_discipline.specs.Characters.{char_fault}
 use Rattle.tn_linemode.specs.declared.triples.Saying.{Saying}
 use Rattle.tn_linemode.specs.declared.triples.Saying.TheVariants as saying
-use Rattle.tn_linemode.specs.Triples.{has_ack, special_at, level_of, wanted_character, saying_of_all, saying_of_function, saying_of, triple_of, acknowledged_triple, unsupported_triple, IsOffer}
-use Rattle.tn_linemode.specs.Exchange.{cleared_character, without_character, is_line_end, is_same_value, server_takes, server_replies, server_next, server_answer, client_takes, client_replies, client_next, client_answer, Answers, table_after}
+use Rattle.tn_linemode.specs.Triples.{has_ack, special_at, level_of, wanted_character, saying_of_all, saying_of_function, saying_of, triple_of}
+use Rattle.tn_linemode.specs.Triples.{acknowledged_triple, unsupported_triple, IsOffer}
+use Rattle.tn_linemode.specs.Exchange.{cleared_character, without_character, is_line_end, is_same_value, server_takes, server_replies, server_next}
+use Rattle.tn_linemode.specs.Exchange.{server_answer, client_takes, client_replies, client_next, client_answer, Answers, table_after}
 use Rattle.tn_discipline.proofs.lemmas.Functions.{found}
 use Rattle.tn_linemode.proofs.Taking.{slot-without, accepts_offer}
 
@@ -34,7 +38,8 @@ no_escape_wanted f level.CantChange value = no_escape_below value
 no_escape_wanted f level.Value value = no_escape_below value
 no_escape_wanted f level.ByDefault value = no_escape_standard f
 
-about_offer : (o : Option Func) (l : Level) (code value : ℕ) (f : Func) (character : Option ℕ) → Settable o → saying_of_function o l code value ≡ saying.Character f character → IsOffer f character
+about_offer : (o : Option Func) (l : Level) (code value : ℕ) (f : Func) (character : Option ℕ) → Settable o
+    → saying_of_function o l code value ≡ saying.Character f character → IsOffer f character
 about_offer (Some g) l code value f character settable e =
     let same_f : g ≡ f = cc in
     let same_value : wanted_character g l value ≡ character = cc in
@@ -61,7 +66,8 @@ either_offer false all one f character from_all from_one e = from_one e
 -- what a triple says of a function with a character is an offer
 pub says_offer : (t : Triple) (f : Func) (character : Option ℕ) → saying_of t ≡ saying.Character f character → IsOffer f character
 says_offer t f character e =
-    either_offer (t.func == 0) _ _ f character (all_offer (level_of t) (t.value == 0) f character) (about_offer (special_at t.func) (level_of t) t.func t.value f character (settable_at t.func)) e
+    either_offer (t.func == 0) _ _ f character (all_offer (level_of t) (t.value == 0) f character)
+    (about_offer (special_at t.func) (level_of t) t.func t.value f character (settable_at t.func)) e
 
 -- TABLES STAY ALLOWED
 -- a change that a table accepts leaves it allowed, and so are the standard characters
@@ -111,7 +117,8 @@ by_test : (test : Bool) (A : Type 0) → (test ≡ true → A) → (test ≡ fal
 by_test true A h k = h refl
 by_test false A h k = k refl
 
-client_takes-allowed : (c : Characters) (s : Saying) → ((f : Func) (v : Option ℕ) → s ≡ saying.Character f v → IsOffer f v) → Accepts → AreAllowed c → AreAllowed (client_takes c s)
+client_takes-allowed : (c : Characters) (s : Saying) → ((f : Func) (v : Option ℕ) → s ≡ saying.Character f v → IsOffer f v) → Accepts → AreAllowed c
+    → AreAllowed (client_takes c s)
 client_takes-allowed c saying.Standard offers accepts allowed = allowed
 client_takes-allowed c saying.Table offers accepts allowed = allowed
 client_takes-allowed c (saying.Character f v) offers accepts allowed =
@@ -124,7 +131,8 @@ client_takes-allowed c saying.Nothing offers accepts allowed = allowed
 client_next-allowed : (c : Characters) (t : Triple) → Accepts → AreAllowed c → AreAllowed (client_next c t)
 client_next-allowed c t accepts allowed = client_takes-allowed c (saying_of t) (says_offer t) accepts allowed
 
-pub server_after-allowed : (ts : List Triple) (c : Characters) → Accepts → AreAllowed standard_characters → AreAllowed c → AreAllowed (table_after server_next c ts)
+pub server_after-allowed : (ts : List Triple) (c : Characters) → Accepts → AreAllowed standard_characters → AreAllowed c
+    → AreAllowed (table_after server_next c ts)
 server_after-allowed [] c accepts standard allowed = allowed
 server_after-allowed (t ∷ ts) c accepts standard allowed =
     server_after-allowed ts (server_next c t) accepts standard (server_next-allowed c t accepts standard allowed)
@@ -169,7 +177,8 @@ speaks_either code false r s h k = k
 
 speaks : (t : Triple) → Speaks t.func (saying_of t)
 speaks t =
-    speaks_either t.func (t.func == 0) _ _ (speaks_all (level_of t) (t.value == 0) t.func) (speaks_of (special_at t.func) (level_of t) t.func t.value (names_at t.func))
+    speaks_either t.func (t.func == 0) _ _ (speaks_all (level_of t) (t.value == 0) t.func)
+    (speaks_of (special_at t.func) (level_of t) t.func t.value (names_at t.func))
 
 -- what is answered, where something is
 abbrev AllAnswer : Triple → Option Triple → Type 0
@@ -191,7 +200,8 @@ plain_answers : (t : Triple) (f : Func) (v : Option ℕ) → func_code f ≡ t.f
 plain_answers t f None same other = unsupported_answers t (func_code f) same
 plain_answers t f (Some b) same other = record { function = same; modifier = λ e. omega (arith, e); character = λ e. grind (arith, e) }
 
-acknowledging_answers : (t : Triple) (f : Func) (v : Option ℕ) → func_code f ≡ t.func → is_set_to v 255 ≡ false → Answers t (acknowledged_triple (triple_of f v))
+acknowledging_answers : (t : Triple) (f : Func) (v : Option ℕ) → func_code f ≡ t.func → is_set_to v 255 ≡ false
+    → Answers t (acknowledged_triple (triple_of f v))
 acknowledging_answers t f None same other = record { function = same; modifier = λ e. omega (arith, e); character = λ e. omega (arith, e) }
 acknowledging_answers t f (Some b) same other = record { function = same; modifier = λ e. omega (arith, e); character = λ e. grind (arith, e) }
 
@@ -204,7 +214,8 @@ server_replies-answer c t saying.Standard allowed h = tt
 server_replies-answer c t saying.Table allowed h = tt
 server_replies-answer c t (saying.Character f v) allowed h =
     answer_if t (is_same_value (slot c f) v) None _ tt
-    (answer_if t (is_none (char_fault c f v)) (Some (acknowledged_triple (triple_of f v))) (Some (triple_of f (slot c f))) (acknowledging_answers t f v h.0 h.1) (plain_answers t f (slot c f) h.0 (own_value (slot c f) (allowed.unreserved f))))
+    (answer_if t (is_none (char_fault c f v)) (Some (acknowledged_triple (triple_of f v))) (Some (triple_of f (slot c f))) (acknowledging_answers t f v h.0 h.1)
+    (plain_answers t f (slot c f) h.0 (own_value (slot c f) (allowed.unreserved f))))
 server_replies-answer c t (saying.Unsupported code) allowed h = unsupported_answers t code h
 server_replies-answer c t saying.Nothing allowed h = tt
 

@@ -32,7 +32,8 @@ without-holder c h byte allowed there = same_slots _ _ (λ f settable. freed f (
         let same : f ≡ h = same_function f h e in
         ap (slot (with_slot c h None)) same ∙ slot-with_slot c h None (settable_of_slot c h byte there) ∙ sym (gone (slot c f) byte (ap (slot c) same ∙ there))
     freed f false e =
-        slot-with_slot-other c h f None e ∙ sym (stays (slot c f) byte (λ set. let same : f ≡ h = allowed.distinct f h byte set there in absurd (apart f h e same)))
+        slot-with_slot-other c h f None e ∙ sym (stays (slot c f) byte
+        (λ set. let same : f ≡ h = allowed.distinct f h byte set there in absurd (apart f h e same)))
 
 -- with no holder nothing changes
 pub without-none : (c : Characters) (byte : ℕ) → ((f : Func) → slot c f ≢ Some byte) → c ≡ without_character c (Some byte)
@@ -57,7 +58,8 @@ is_taken-without c f byte =
     (λ g. and_false (not (is_same g f)) _ (ap (λ x. is_set_to x byte) (slot-without c byte g) ∙ is_set_to-cleared (slot c g) byte))
 
 -- a value that a client takes is one that its freed table accepts
-pub accepts_offer : (c : Characters) (f : Func) (value : Option ℕ) → IsOffer f value → is_line_end value ≡ false → char_fault (without_character c value) f value ≡ None
+pub accepts_offer : (c : Characters) (f : Func) (value : Option ℕ) → IsOffer f value → is_line_end value ≡ false
+    → char_fault (without_character c value) f value ≡ None
 accepts_offer c f None offer plain = rw offer.settable
 accepts_offer c f (Some byte) offer plain =
     let fine : is_reserved byte ≡ false = grind (arith, offer.no_escape) in

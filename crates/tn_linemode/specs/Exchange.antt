@@ -1,11 +1,14 @@
 -- The exchange of local characters (RFC 1184, section 2.4): what each end makes of the other's triples, and
 -- what it answers. Where the RFC leaves a choice, it is this project's own.
-use Rattle.std.specs.Prelude.{◌≡◌, ◌≢◌, ℕ, ◌==◌, Bool, true, false, not, ◌&&◌, ◌||◌, Option, Some, None, is_none, option_to_list, List, [], ◌∷◌, ◌++◌, map, fold, if◌then◌else◌}
+use Rattle.std.specs.Prelude.{◌≡◌, ◌≢◌, ℕ, ◌==◌, Bool, true, false, not, ◌&&◌, ◌||◌, Option, Some, None}
+use Rattle.std.specs.Prelude.{is_none, option_to_list, List, [], ◌∷◌, ◌++◌, map, fold, if◌then◌else◌}
 use Rattle.std.specs.List.{list_any}
 use Rattle.tn_codes.specs.declared.triples.Triple.{Triple}
-use Rattle.tn_discipline.specs.Characters.{Characters, slot, with_slot, with_each, special_functions, is_set_to, char_fault, standard_characters}
+use Rattle.tn_discipline.specs.Characters.{Characters, slot, with_slot, with_each, special_functions}
+use Rattle.tn_discipline.specs.Characters.{is_set_to, char_fault, standard_characters}
 use Rattle.tn_linemode.specs.declared.triples.Saying.{Saying}
-use Rattle.tn_linemode.specs.declared.triples.Saying.TheVariants.{Standard, Table, Character, Unsupported, Nothing}
+use Rattle.tn_linemode.specs.declared.triples.Saying.TheVariants.{Standard, Table, Character, Unsupported}
+use Rattle.tn_linemode.specs.declared.triples.Saying.TheVariants.{Nothing}
 use Rattle.tn_linemode.specs.Triples.{has_ack, saying_of, triple_of, acknowledged_triple, unsupported_triple}
 
 -- the same character, or none at both

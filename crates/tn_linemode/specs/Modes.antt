@@ -1,6 +1,7 @@
 -- MODE of LINEMODE (RFC 1184, section 2.2). Its mask has EDIT as bit 1, TRAPSIG as bit 2 and MODE_ACK as bit
 -- 4. Of the others, SOFT_TAB and LIT_ECHO, neither end keeps any.
-use Rattle.std.specs.Prelude.{ℕ, ◌<◌, ◌==◌, Bool, not, ◌||◌, Option, Some, None, bit_and, bit_or, if◌then◌else◌}
+use Rattle.std.specs.Prelude.{ℕ, ◌<◌, ◌==◌, Bool, not, ◌||◌, Option, Some, None, bit_and, bit_or}
+use Rattle.std.specs.Prelude.{if◌then◌else◌}
 
 -- EDIT and TRAPSIG alone
 abbrev pub mode_of : ℕ → ℕ

@@ -1,6 +1,7 @@
 //! A table of local characters over a list of triples, at either end.
 
-ghost use Rattle.std.specs.Prelude.{◌≡◌, ◌+◌, ◌<◌, ◌++◌, Option, length, take, OnOk, OnErr, vec_len, vec_capacity};
+ghost use Rattle.std.specs.Prelude.{◌≡◌, ◌+◌, ◌<◌, ◌++◌, Option, length, take, OnOk, OnErr, vec_len};
+ghost use Rattle.std.specs.Prelude.{vec_capacity};
 ghost use Rattle.tn_codes.specs.declared.triples.Triple.{Triple};
 ghost use Rattle.tn_linemode.specs.Exchange.{table_after, answers_along};
 

@@ -6,7 +6,9 @@ ghost use Rattle.tn_codes.specs.Codes.{level_code};
 ghost use Rattle.tn_codes.specs.declared.triples.Triple.{Triple};
 ghost use Rattle.tn_discipline.specs.Characters.{Characters, AreAllowed};
 ghost use Rattle.tn_linemode.specs.Triples.{has_ack, level_of};
-ghost use Rattle.tn_linemode.specs.Exchange.{announcement, server_after, server_answers, server_is_asked, client_after, client_answers, server_answer, client_answer, Answers};
+ghost use Rattle.tn_linemode.specs.Exchange.{announcement, server_after, server_answers, server_is_asked};
+ghost use Rattle.tn_linemode.specs.Exchange.{client_after, client_answers, server_answer, client_answer};
+ghost use Rattle.tn_linemode.specs.Exchange.{Answers};
 ghost use Rattle.tn_linemode.specs.Repeating.{repeated};
 
 use tn_discipline::Chars;

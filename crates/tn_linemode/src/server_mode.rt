@@ -1,7 +1,8 @@
 //! The mode of LINEMODE at the server.
 
 ghost use Rattle.std.specs.Prelude.{◌≡◌};
-ghost use Rattle.tn_linemode.specs.Modes.{no_mode, modes_after_wish, mask_sent, modes_after_mode, wish_of_mask};
+ghost use Rattle.tn_linemode.specs.Modes.{no_mode, modes_after_wish, mask_sent, modes_after_mode};
+ghost use Rattle.tn_linemode.specs.Modes.{wish_of_mask};
 
 use crate::masks::{Mode, edits, is_acknowledged};
 use std::marker::Model;

@@ -1,8 +1,10 @@
 //! The table of local characters at the server.
 
-ghost use Rattle.std.specs.Prelude.{◌≡◌, ◌+◌, ◌<◌, ◌++◌, length, OnOk, OnErr, IfOk, IfErr, None, Some, take, vec_len, vec_capacity};
+ghost use Rattle.std.specs.Prelude.{◌≡◌, ◌+◌, ◌<◌, ◌++◌, length, OnOk, OnErr, IfOk, IfErr, None, Some, take};
+ghost use Rattle.std.specs.Prelude.{vec_len, vec_capacity};
 ghost use Rattle.tn_discipline.specs.Characters.{with_slot, char_fault};
-ghost use Rattle.tn_linemode.specs.Exchange.{announcement, server_takes, server_replies, asks_for_table, server_after, server_answers, server_is_asked};
+ghost use Rattle.tn_linemode.specs.Exchange.{announcement, server_takes, server_replies, asks_for_table};
+ghost use Rattle.tn_linemode.specs.Exchange.{server_after, server_answers, server_is_asked};
 
 use crate::answering::{Reacts, react_whole};
 use crate::triples::{

@@ -1,7 +1,9 @@
 //! What one triple of a list of local characters says (RFC 1184, section 2.4).
 
-ghost use Rattle.std.specs.Prelude.{◌≡◌, ◌+◌, ◌<◌, ◌≤◌, ◌++◌, length, is_ok, option_to_list, vec_len, vec_capacity, OnOk, OnErr, if◌then◌else◌};
-ghost use Rattle.tn_linemode.specs.Triples.{has_ack, level_of, special_at, wanted_character, saying_of, triple_of, acknowledged_triple, unsupported_triple};
+ghost use Rattle.std.specs.Prelude.{◌≡◌, ◌+◌, ◌<◌, ◌≤◌, ◌++◌, length, is_ok, option_to_list, vec_len};
+ghost use Rattle.std.specs.Prelude.{vec_capacity, OnOk, OnErr, if◌then◌else◌};
+ghost use Rattle.tn_linemode.specs.Triples.{has_ack, level_of, special_at, wanted_character, saying_of};
+ghost use Rattle.tn_linemode.specs.Triples.{triple_of, acknowledged_triple, unsupported_triple};
 ghost use Rattle.tn_linemode.specs.Exchange.{announcement};
 
 use std::alloc::AllocError;

@@ -3,7 +3,8 @@ use Rattle.std.proofs.Common.{◌≡◌, ℕ, ◌==◌, List, [], ◌∷◌, ◌
 use Rattle.tn_lines.specs.LineEnds.{end_bytes, line_said}
 use Rattle.tn_lines.specs.declared.line_ends.LineEnd.{LineEnd}
 
-pub said_last : (line_end : LineEnd) (front : List ℕ) (last : ℕ) → line_said line_end (front ++ last ∷ []) ≡ front ++ (if last == 10 then end_bytes line_end else last ∷ [])
+pub said_last : (line_end : LineEnd) (front : List ℕ) (last : ℕ)
+    → line_said line_end (front ++ last ∷ []) ≡ front ++ (if last == 10 then end_bytes line_end else last ∷ [])
 unfolding line_said
 said_last line_end [] last = refl
 said_last line_end (byte ∷ []) last = refl

@@ -37,8 +37,10 @@ moves_nothing lines = record {
   shows = refl;
 }
 
-pub moves_one : (old new : KeyLines) (r : Role) (said shown : List ℕ) → new.roles ≡ old.roles → new.line_end ≡ old.line_end → new.line ≡ line_after old.line r → new.ended ≡ ended_after old.ended old.line r
-    → said ≡ said_at old.ended old.line_end old.line r → shown ≡ shown_at old.roles.flags old.line r → Moves old (roles_from r) (effect_entries (effect_of old.line r)) said shown new
+pub moves_one : (old new : KeyLines) (r : Role) (said shown : List ℕ) → new.roles ≡ old.roles → new.line_end ≡ old.line_end → new.line ≡ line_after old.line r
+    → new.ended ≡ ended_after old.ended old.line r
+    → said ≡ said_at old.ended old.line_end old.line r → shown ≡ shown_at old.roles.flags old.line r
+    → Moves old (roles_from r) (effect_entries (effect_of old.line r)) said shown new
 moves_one old new r said shown roles line_end line ended says shows = record {
   roles = roles;
   line_end = line_end;
@@ -49,20 +51,25 @@ moves_one old new r said shown roles line_end line ended says shows = record {
   shows = shows ∙ sym (shown_one old.roles.flags old.line r);
 }
 
-pub moves_both : (old mid new : KeyLines) (xs ys : List Role) (gain more : List Entry) (said says_more shown shows_more : List ℕ) → Moves old xs gain said shown mid → Moves mid ys more says_more shows_more new → Moves old (xs ++ ys) (gain ++ more) (said ++ says_more) (shown ++ shows_more) new
+pub moves_both : (old mid new : KeyLines) (xs ys : List Role) (gain more : List Entry) (said says_more shown shows_more : List ℕ)
+    → Moves old xs gain said shown mid → Moves mid ys more says_more shows_more new
+    → Moves old (xs ++ ys) (gain ++ more) (said ++ says_more) (shown ++ shows_more) new
 moves_both old mid new xs ys gain more said says_more shown shows_more a b = record {
   roles = b.roles ∙ a.roles;
   line_end = b.line_end ∙ a.line_end;
   goes = advances_both old.line mid.line new.line xs ys gain more a.goes b.goes;
   each = b.each ∙ ap (λ l. line_after_all l ys) a.each ∙ sym (line_after_all-append old.line xs ys);
   ended =
-      b.ended ∙ ap (λ (e : Bool). e || has_ended more) a.ended ∙ or_or old.ended (has_ended gain) (has_ended more) ∙ ap (λ (e : Bool). old.ended || e) (sym (ended-append gain more));
+      b.ended ∙ ap (λ (e : Bool). e || has_ended more) a.ended ∙ or_or old.ended (has_ended gain) (has_ended more)
+      ∙ ap (λ (e : Bool). old.ended || e) (sym (ended-append gain more));
   says =
       ap (λ (l : List ℕ). l ++ says_more) a.says
-      ∙ ap (λ (l : List ℕ). due_unless old.ended old.line_end gain ++ l) (b.says ∙ ap (λ (e : Bool). due_unless e mid.line_end more) a.ended ∙ ap (λ e. due_unless (old.ended || has_ended gain) e more) a.line_end)
+      ∙ ap (λ (l : List ℕ). due_unless old.ended old.line_end gain ++ l)
+      (b.says ∙ ap (λ (e : Bool). due_unless e mid.line_end more) a.ended ∙ ap (λ e. due_unless (old.ended || has_ended gain) e more) a.line_end)
       ∙ sym (due_unless-append old.ended old.line_end gain more);
   shows =
       ap (λ (l : List ℕ). l ++ shows_more) a.shows
-      ∙ ap (λ (l : List ℕ). shown_from old.roles.flags old.line xs ++ l) (b.shows ∙ ap (λ l. shown_from mid.roles.flags l ys) a.each ∙ ap (λ (s : Settings). shown_from s.flags (line_after_all old.line xs) ys) a.roles)
+      ∙ ap (λ (l : List ℕ). shown_from old.roles.flags old.line xs ++ l)
+      (b.shows ∙ ap (λ l. shown_from mid.roles.flags l ys) a.each ∙ ap (λ (s : Settings). shown_from s.flags (line_after_all old.line xs) ys) a.roles)
       ∙ sym (shown_from-append old.roles.flags old.line xs ys);
 }

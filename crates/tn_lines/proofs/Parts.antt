@@ -19,7 +19,8 @@ use Rattle.tn_lines.specs.declared.line_ends.LineEnd.{LineEnd}
 pub due-append : (line_end : LineEnd) (xs ys : List Entry) → due line_end (xs ++ ys) ≡ due line_end xs ++ due_unless (has_ended xs) line_end ys
 due-append line_end [] ys = refl
 due-append line_end (Text line ∷ xs) ys =
-    ap (λ (l : List ℕ). line_said line_end line ++ l) (due-append line_end xs ys) ∙ sym (append_assoc (line_said line_end line) (due line_end xs) (due_unless (has_ended xs) line_end ys))
+    ap (λ (l : List ℕ). line_said line_end line ++ l) (due-append line_end xs ys)
+    ∙ sym (append_assoc (line_said line_end line) (due line_end xs) (due_unless (has_ended xs) line_end ys))
 due-append line_end (Signal sig ∷ xs) ys = due-append line_end xs ys
 due-append line_end (Eof ∷ xs) ys = refl
 
@@ -29,7 +30,8 @@ ended-append (Text line ∷ xs) ys = ended-append xs ys
 ended-append (Signal sig ∷ xs) ys = ended-append xs ys
 ended-append (Eof ∷ xs) ys = refl
 
-pub due_unless-append : (ended : Bool) (line_end : LineEnd) (xs ys : List Entry) → due_unless ended line_end (xs ++ ys) ≡ due_unless ended line_end xs ++ due_unless (ended || has_ended xs) line_end ys
+pub due_unless-append : (ended : Bool) (line_end : LineEnd) (xs ys : List Entry)
+    → due_unless ended line_end (xs ++ ys) ≡ due_unless ended line_end xs ++ due_unless (ended || has_ended xs) line_end ys
 due_unless-append true line_end xs ys = refl
 due_unless-append false line_end xs ys = due-append line_end xs ys
 
@@ -43,7 +45,8 @@ nothing_due false line_end entries none = none
 
 -- MORE KEYS
 
-pub shown_from-append : (flags : Flags) (line : HalfLine) (xs ys : List Role) → shown_from flags line (xs ++ ys) ≡ shown_from flags line xs ++ shown_from flags (line_after_all line xs) ys
+pub shown_from-append : (flags : Flags) (line : HalfLine) (xs ys : List Role)
+    → shown_from flags line (xs ++ ys) ≡ shown_from flags line xs ++ shown_from flags (line_after_all line xs) ys
 shown_from-append flags line [] ys = refl
 shown_from-append flags line (r ∷ xs) ys =
     ap (λ (l : List ℕ). shown_at flags line r ++ l) (shown_from-append flags (line_after line r) xs ys)

@@ -5,16 +5,19 @@ use Rattle.tn_lines.specs.Files.{byte_said, said_from, ends_in_return, said_of_f
 use Rattle.tn_lines.specs.declared.file_lines.FileLines.{FileLines}
 use Rattle.tn_lines.specs.declared.line_ends.LineEnd.{LineEnd}
 
-pub said_from-append : (e : LineEnd) (after : Bool) (xs ys : List ℕ) → said_from e after (xs ++ ys) ≡ said_from e after xs ++ said_from e (ends_in_return after xs) ys
+pub said_from-append : (e : LineEnd) (after : Bool) (xs ys : List ℕ)
+    → said_from e after (xs ++ ys) ≡ said_from e after xs ++ said_from e (ends_in_return after xs) ys
 said_from-append e after [] ys = refl
 said_from-append e after (x ∷ xs) ys =
-    ap (λ (l : List ℕ). byte_said e after x ++ l) (said_from-append e (x == 13) xs ys) ∙ sym (append_assoc (byte_said e after x) (said_from e (x == 13) xs) (said_from e (ends_in_return (x == 13) xs) ys))
+    ap (λ (l : List ℕ). byte_said e after x ++ l) (said_from-append e (x == 13) xs ys)
+    ∙ sym (append_assoc (byte_said e after x) (said_from e (x == 13) xs) (said_from e (ends_in_return (x == 13) xs) ys))
 
 pub ends-append : (after : Bool) (xs ys : List ℕ) → ends_in_return after (xs ++ ys) ≡ ends_in_return (ends_in_return after xs) ys
 ends-append after [] ys = refl
 ends-append after (x ∷ xs) ys = ends-append (x == 13) xs ys
 
-pub reads_all : (old new : FileLines) (bytes said : List ℕ) → new.line_end ≡ old.line_end → new.after_return ≡ ends_in_return old.after_return bytes → said ≡ said_from old.line_end old.after_return bytes → Reads old bytes said new
+pub reads_all : (old new : FileLines) (bytes said : List ℕ) → new.line_end ≡ old.line_end → new.after_return ≡ ends_in_return old.after_return bytes
+    → said ≡ said_from old.line_end old.after_return bytes → Reads old bytes said new
 reads_all old new bytes said same after is = record {
   leads = λ before had. after ∙ ap (λ (b : Bool). ends_in_return b bytes) had ∙ sym (ends-append false before bytes);
   says = λ before had.
@@ -26,7 +29,8 @@ reads_all old new bytes said same after is = record {
 
 -- ONE BYTE MORE
 
-pub said_more : (e : LineEnd) (after : Bool) (bytes : List ℕ) (i : ℕ) → i < length bytes → said_from e after (take (i + 1) bytes) ≡ said_from e after (take i bytes) ++ byte_said e (ends_in_return after (take i bytes)) (get_or bytes i 0)
+pub said_more : (e : LineEnd) (after : Bool) (bytes : List ℕ) (i : ℕ) → i < length bytes
+    → said_from e after (take (i + 1) bytes) ≡ said_from e after (take i bytes) ++ byte_said e (ends_in_return after (take i bytes)) (get_or bytes i 0)
 said_more e after bytes i within =
     ap (said_from e after) (take_more bytes i 0 within)
     ∙ said_from-append e after (take i bytes) (get_or bytes i 0 ∷ [])

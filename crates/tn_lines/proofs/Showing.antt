@@ -6,12 +6,15 @@ use Rattle.tn_lines.specs.Edges.{byte_shown, shown_behind, at_screen, ShowsOn}
 use Rattle.tn_lines.specs.declared.left_edge.LeftEdge.{LeftEdge}
 use Rattle.tn_lines.proofs.Reading.{ends-append}
 
-shown_behind-append : (t after : Bool) (xs ys : List ℕ) → shown_behind t after (xs ++ ys) ≡ shown_behind t after xs ++ shown_behind t (ends_in_return after xs) ys
+shown_behind-append : (t after : Bool) (xs ys : List ℕ) → shown_behind t after (xs ++ ys) ≡ shown_behind t after xs
+    ++ shown_behind t (ends_in_return after xs) ys
 shown_behind-append t after [] ys = refl
 shown_behind-append t after (x ∷ xs) ys =
-    ap (λ (l : List ℕ). byte_shown t after x ++ l) (shown_behind-append t (x == 13) xs ys) ∙ sym (append_assoc (byte_shown t after x) (shown_behind t (x == 13) xs) (shown_behind t (ends_in_return (x == 13) xs) ys))
+    ap (λ (l : List ℕ). byte_shown t after x ++ l) (shown_behind-append t (x == 13) xs ys)
+    ∙ sym (append_assoc (byte_shown t after x) (shown_behind t (x == 13) xs) (shown_behind t (ends_in_return (x == 13) xs) ys))
 
-pub shows_all : (old new : LeftEdge) (bytes shown : List ℕ) → new.at_terminal ≡ old.at_terminal → new.after_return ≡ ends_in_return old.after_return bytes → shown ≡ shown_behind old.at_terminal old.after_return bytes → ShowsOn old bytes shown new
+pub shows_all : (old new : LeftEdge) (bytes shown : List ℕ) → new.at_terminal ≡ old.at_terminal → new.after_return ≡ ends_in_return old.after_return bytes
+    → shown ≡ shown_behind old.at_terminal old.after_return bytes → ShowsOn old bytes shown new
 shows_all old new bytes shown same after is = record {
   leads = λ before had. after ∙ ap (λ (b : Bool). ends_in_return b bytes) had ∙ sym (ends-append false before bytes);
   shows = λ before had.
@@ -21,7 +24,8 @@ shows_all old new bytes shown same after is = record {
   at_terminal = same;
 }
 
-pub shown_more : (t after : Bool) (bytes : List ℕ) (i : ℕ) → i < length bytes → shown_behind t after (take (i + 1) bytes) ≡ shown_behind t after (take i bytes) ++ byte_shown t (ends_in_return after (take i bytes)) (get_or bytes i 0)
+pub shown_more : (t after : Bool) (bytes : List ℕ) (i : ℕ) → i < length bytes
+    → shown_behind t after (take (i + 1) bytes) ≡ shown_behind t after (take i bytes) ++ byte_shown t (ends_in_return after (take i bytes)) (get_or bytes i 0)
 shown_more t after bytes i within =
     ap (shown_behind t after) (take_more bytes i 0 within)
     ∙ shown_behind-append t after (take i bytes) (get_or bytes i 0 ∷ [])

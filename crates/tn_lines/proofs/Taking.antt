@@ -1,5 +1,6 @@
 -- More keys that are taken.
-use Rattle.std.proofs.Common.{◌≡◌, ℕ, suc, Bool, true, false, ◌||◌, ◌&&◌, All, arith, List, [], ◌∷◌, ◌++◌, refl, sym, ap, ◌∙◌, append-nil, append_assoc, if◌then◌else◌}
+use Rattle.std.proofs.Common.{◌≡◌, ℕ, suc, Bool, true, false, ◌||◌, ◌&&◌, All, arith, List, [], ◌∷◌, ◌++◌, refl, sym, ap, ◌∙◌, append-nil, append_assoc}
+use Rattle.std.proofs.Common.{if◌then◌else◌}
 use Rattle.tn_discipline.specs.Keys.{roles_from}
 use Rattle.tn_discipline.specs.Steps.{half_next, half_all}
 use Rattle.tn_discipline.specs.declared.keys.Role.{Role}
@@ -18,9 +19,11 @@ module _ (limit : ℕ) where
   abbrev Goes : List ℕ → List Role → List Role → Type 0
   Goes half xs ys = taken_from limit half (xs ++ ys) ≡ taken_from limit half xs ++ taken_from limit (half_all limit half (taken_from limit half xs)) ys
 
-  goes_by : (b : Bool) (half : List ℕ) (acts xs ys : List Role) → (b || has_left_from limit (half_all limit half acts) xs) ≡ false → (has_left_from limit (half_all limit half acts) xs ≡ false → Goes (half_all limit half acts) xs ys)
+  goes_by : (b : Bool) (half : List ℕ) (acts xs ys : List Role) → (b || has_left_from limit (half_all limit half acts) xs) ≡ false
+      → (has_left_from limit (half_all limit half acts) xs ≡ false → Goes (half_all limit half acts) xs ys)
       → acts ++ (if b then [] else taken_from limit (half_all limit half acts) (xs ++ ys))
-      ≡ (acts ++ (if b then [] else taken_from limit (half_all limit half acts) xs)) ++ taken_from limit (half_all limit half (acts ++ (if b then [] else taken_from limit (half_all limit half acts) xs))) ys
+      ≡ (acts ++ (if b then [] else taken_from limit (half_all limit half acts) xs))
+      ++ taken_from limit (half_all limit half (acts ++ (if b then [] else taken_from limit (half_all limit half acts) xs))) ys
   goes_by true half acts xs ys none later = cc
   goes_by false half acts xs ys none later =
       let mid = half_all limit half acts in
@@ -38,8 +41,10 @@ module _ (limit : ℕ) where
   abbrev Looks : List ℕ → List Role → List Role → Type 0
   Looks half xs ys = has_left_from limit half (xs ++ ys) ≡ has_left_from limit (half_all limit half (taken_from limit half xs)) ys
 
-  looks_by : (b : Bool) (half : List ℕ) (acts xs ys : List Role) → (b || has_left_from limit (half_all limit half acts) xs) ≡ false → (has_left_from limit (half_all limit half acts) xs ≡ false → Looks (half_all limit half acts) xs ys)
-      → (b || has_left_from limit (half_all limit half acts) (xs ++ ys)) ≡ has_left_from limit (half_all limit half (acts ++ (if b then [] else taken_from limit (half_all limit half acts) xs))) ys
+  looks_by : (b : Bool) (half : List ℕ) (acts xs ys : List Role) → (b || has_left_from limit (half_all limit half acts) xs) ≡ false
+      → (has_left_from limit (half_all limit half acts) xs ≡ false → Looks (half_all limit half acts) xs ys)
+      → (b || has_left_from limit (half_all limit half acts) (xs ++ ys))
+      ≡ has_left_from limit (half_all limit half (acts ++ (if b then [] else taken_from limit (half_all limit half acts) xs))) ys
   looks_by true half acts xs ys none later = cc
   looks_by false half acts xs ys none later =
       later none ∙ ap (λ (h : List ℕ). has_left_from limit h ys) (sym (half_all-append half acts (taken_from limit (half_all limit half acts) xs)))
@@ -49,7 +54,8 @@ module _ (limit : ℕ) where
   left-more half (r ∷ xs) ys none =
       looks_by (leaves half r) half (taken_as r) xs ys none (left-more (half_all limit half (taken_as r)) xs ys)
 
-  stays_by : (b : Bool) (half : List ℕ) (acts xs ys : List Role) → (b || has_left_from limit half xs) ≡ true → (has_left_from limit half xs ≡ true → taken_from limit half (xs ++ ys) ≡ taken_from limit half xs)
+  stays_by : (b : Bool) (half : List ℕ) (acts xs ys : List Role) → (b || has_left_from limit half xs) ≡ true
+      → (has_left_from limit half xs ≡ true → taken_from limit half (xs ++ ys) ≡ taken_from limit half xs)
       → acts ++ (if b then [] else taken_from limit half (xs ++ ys)) ≡ acts ++ (if b then [] else taken_from limit half xs)
   stays_by true half acts xs ys left later = refl
   stays_by false half acts xs ys left later = ap (λ (l : List Role). acts ++ l) (later left)
@@ -134,7 +140,8 @@ acts_of-other (role.Ordinary byte) is = refl
 
 -- where none interrupts, all keys are taken as they are
 plain_by : (limit : ℕ) (b : Bool) (half : List ℕ) (r : Role) (roles : List Role) → b ≡ false → ((h : List ℕ) → taken_from limit h roles ≡ roles)
-    → (if b then r ∷ role.Kill ∷ [] else r ∷ []) ++ (if b && is_empty half then [] else taken_from limit (half_all limit half (if b then r ∷ role.Kill ∷ [] else r ∷ [])) roles) ≡ r ∷ roles
+    → (if b then r ∷ role.Kill ∷ [] else r ∷ []) ++ (if b && is_empty half then []
+    else taken_from limit (half_all limit half (if b then r ∷ role.Kill ∷ [] else r ∷ [])) roles) ≡ r ∷ roles
 plain_by limit true half r roles plain later = cc
 plain_by limit false half r roles plain later = ap (λ (l : List Role). r ∷ l) (later (half_all limit half (r ∷ [])))
 

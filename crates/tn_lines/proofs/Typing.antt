@@ -1,5 +1,6 @@
 -- What typed keys lead to.
-use Rattle.std.proofs.Common.{◌≡◌, ◌<◌, ℕ, ◌+◌, Bool, true, false, ◌||◌, List, [], ◌∷◌, ◌++◌, length, take, get_or, refl, sym, ap, ◌∙◌, subst, arith, append-nil, append_assoc}
+use Rattle.std.proofs.Common.{◌≡◌, ◌<◌, ℕ, ◌+◌, Bool, true, false, ◌||◌, List, [], ◌∷◌, ◌++◌, length, take, get_or, refl, sym, ap, ◌∙◌, subst, arith}
+use Rattle.std.proofs.Common.{append-nil, append_assoc}
 use Rattle.std.proofs.lemmas.List.{take_more}
 use Rattle.tn_discipline.specs.Advancing as discipline
 use Rattle.tn_discipline.specs.Canon.{Canon}
@@ -30,13 +31,16 @@ pub record TakesOn (canon : Canon) (before keys : List ℕ) (acts : List Role) (
   pub takes : taken canon (before ++ keys) ≡ taken canon before ++ acts
   pub leaves_it : has_left canon (before ++ keys) ≡ left
 
-entries_on : (canon : Canon) (before keys : List ℕ) (old new : KeyLines) (acts : List Role) (gain : List Entry) (said shown : List ℕ) → Moves old acts gain said shown new → LeadsTo canon before old → TakesOn canon before keys acts new.left
+entries_on : (canon : Canon) (before keys : List ℕ) (old new : KeyLines) (acts : List Role) (gain : List Entry) (said shown : List ℕ)
+    → Moves old acts gain said shown new → LeadsTo canon before old → TakesOn canon before keys acts new.left
     → entries_taken canon (before ++ keys) ≡ entries_taken canon before ++ gain
 entries_on canon before keys old new acts gain said shown moves had takes =
     ap (entries_of canon.limit) takes.takes
-    ∙ subst (λ (limit : ℕ). entries_of limit (taken canon before ++ acts) ≡ entries_of limit (taken canon before) ++ gain) had.limit (moves.goes.entries (taken canon before) had.line had.ahead)
+    ∙ subst (λ (limit : ℕ). entries_of limit (taken canon before ++ acts) ≡ entries_of limit (taken canon before) ++ gain) had.limit
+    (moves.goes.entries (taken canon before) had.line had.ahead)
 
-leads_on : (canon : Canon) (before keys : List ℕ) (old new : KeyLines) (acts : List Role) (gain : List Entry) (said shown : List ℕ) → Moves old acts gain said shown new → LeadsTo canon before old → TakesOn canon before keys acts new.left → LeadsTo canon (before ++ keys) new
+leads_on : (canon : Canon) (before keys : List ℕ) (old new : KeyLines) (acts : List Role) (gain : List Entry) (said shown : List ℕ)
+    → Moves old acts gain said shown new → LeadsTo canon before old → TakesOn canon before keys acts new.left → LeadsTo canon (before ++ keys) new
 leads_on canon before keys old new acts gain said shown moves had takes =
     let t = taken canon before in
     let entries = entries_on canon before keys old new acts gain said shown moves had takes in
@@ -46,12 +50,15 @@ leads_on canon before keys old new acts gain said shown moves had takes =
       line = subst (λ (roles : List Role). discipline.LeadsTo roles new.line) (sym takes.takes) (moves.goes.half t had.line);
       ahead = omega (arith, moves.goes.ahead, had.ahead);
       each =
-          moves.each ∙ ap (λ l. line_after_all l acts) had.each ∙ sym (line_after_all-append (empty_line canon.limit) t acts) ∙ ap (line_after_all (empty_line canon.limit)) (sym takes.takes);
-      ended = moves.ended ∙ ap (λ (b : Bool). b || has_ended gain) had.ended ∙ sym (ended-append (entries_taken canon before) gain) ∙ ap has_ended (sym entries);
+          moves.each ∙ ap (λ l. line_after_all l acts) had.each ∙ sym (line_after_all-append (empty_line canon.limit) t acts)
+          ∙ ap (line_after_all (empty_line canon.limit)) (sym takes.takes);
+      ended = moves.ended ∙ ap (λ (b : Bool). b || has_ended gain) had.ended ∙ sym (ended-append (entries_taken canon before) gain)
+          ∙ ap has_ended (sym entries);
       left = sym takes.leaves_it;
     }
 
-says_on : (canon : Canon) (before keys : List ℕ) (old new : KeyLines) (acts : List Role) (gain : List Entry) (said shown : List ℕ) → Moves old acts gain said shown new → LeadsTo canon before old → TakesOn canon before keys acts new.left
+says_on : (canon : Canon) (before keys : List ℕ) (old new : KeyLines) (acts : List Role) (gain : List Entry) (said shown : List ℕ)
+    → Moves old acts gain said shown new → LeadsTo canon before old → TakesOn canon before keys acts new.left
     → said_of canon old.line_end (before ++ keys) ≡ said_of canon old.line_end before ++ said
 says_on canon before keys old new acts gain said shown moves had takes =
     let e = old.line_end in
@@ -60,7 +67,8 @@ says_on canon before keys old new acts gain said shown moves had takes =
     ∙ ap (λ (b : Bool). said_of canon e before ++ due_unless b e gain) (sym had.ended)
     ∙ ap (λ (l : List ℕ). said_of canon e before ++ l) (sym moves.says)
 
-shows_on : (canon : Canon) (before keys : List ℕ) (old new : KeyLines) (acts : List Role) (gain : List Entry) (said shown : List ℕ) → Moves old acts gain said shown new → LeadsTo canon before old → TakesOn canon before keys acts new.left
+shows_on : (canon : Canon) (before keys : List ℕ) (old new : KeyLines) (acts : List Role) (gain : List Entry) (said shown : List ℕ)
+    → Moves old acts gain said shown new → LeadsTo canon before old → TakesOn canon before keys acts new.left
     → shown_of canon (before ++ keys) ≡ shown_of canon before ++ shown
 shows_on canon before keys old new acts gain said shown moves had takes =
     let flags = canon.settings.flags in
@@ -95,12 +103,14 @@ held_is canon before old had =
     ∙ ap (λ (sent : List ℕ). sent ++ old.line.held) (empty_of had.line.sent (had.line.count ∙ had.ahead))
 
 -- a key that comes before anything left
-pub takes_key : (canon : Canon) (before : List ℕ) (old : KeyLines) (key : ℕ) (r : Role) → LeadsTo canon before old → old.left ≡ false → r ≡ role_of_key old.roles key → TakesOn canon before (key ∷ []) (acts_of r) (leaves old.line.held r)
+pub takes_key : (canon : Canon) (before : List ℕ) (old : KeyLines) (key : ℕ) (r : Role) → LeadsTo canon before old → old.left ≡ false
+    → r ≡ role_of_key old.roles key → TakesOn canon before (key ∷ []) (acts_of r) (leaves old.line.held r)
 takes_key canon before old key r had here is =
     let limit = canon.limit in
     let roles = roles_of canon.settings before in
     let role_is : role_of_key canon.settings key ≡ r = ap (λ (s : Settings). role_of_key s key) (sym had.settings) ∙ sym is in
-    let more : roles_of canon.settings (before ++ key ∷ []) ≡ roles ++ roles_from r = roles_of-push canon.settings before key ∙ ap (λ (x : Role). roles ++ roles_from x) role_is in
+    let more : roles_of canon.settings (before ++ key ∷ []) ≡ roles ++ roles_from r =
+    roles_of-push canon.settings before key ∙ ap (λ (x : Role). roles ++ roles_from x) role_is in
     let none : has_left_from limit [] roles ≡ false = sym had.left ∙ here in
     record {
       takes =
@@ -115,7 +125,8 @@ takes_key canon before old key r had here is =
     }
 
 -- and one that comes behind
-takes_none : (canon : Canon) (before : List ℕ) (old : KeyLines) (key : ℕ) → LeadsTo canon before old → old.left ≡ true → TakesOn canon before (key ∷ []) [] old.left
+takes_none : (canon : Canon) (before : List ℕ) (old : KeyLines) (key : ℕ) → LeadsTo canon before old → old.left ≡ true
+    → TakesOn canon before (key ∷ []) [] old.left
 takes_none canon before old key had gone =
     let limit = canon.limit in
     let roles = roles_of canon.settings before in
@@ -130,7 +141,9 @@ takes_none canon before old key had gone =
 pub types_gone : (old : KeyLines) (key : ℕ) → old.left ≡ true → Types old (key ∷ []) [] [] old
 types_gone old key gone = types_moved old old (key ∷ []) [] [] [] [] (moves_nothing old) (λ canon before had. takes_none canon before old key had gone)
 
-pub types_taken : (old new : KeyLines) (key : ℕ) (r : Role) (acts : List Role) (gain : List Entry) (said shown : List ℕ) → old.left ≡ false → r ≡ role_of_key old.roles key → acts_of r ≡ acts → new.left ≡ leaves old.line.held r → Moves old acts gain said shown new → Types old (key ∷ []) said shown new
+pub types_taken : (old new : KeyLines) (key : ℕ) (r : Role) (acts : List Role) (gain : List Entry) (said shown : List ℕ) → old.left ≡ false
+    → r ≡ role_of_key old.roles key → acts_of r ≡ acts → new.left ≡ leaves old.line.held r → Moves old acts gain said shown new
+    → Types old (key ∷ []) said shown new
 types_taken old new key r acts gain said shown here is same leaving moves =
     types_moved old new (key ∷ []) acts gain said shown moves
     (λ canon before had.
@@ -153,14 +166,17 @@ types_none lines said shown unsaid unshown =
     let half = subst (λ (l : List ℕ). Types lines [] l [] lines) (sym unsaid) (types_nothing lines) in
     subst (λ (l : List ℕ). Types lines [] said l lines) (sym unshown) half
 
-pub types_both : (old mid new : KeyLines) (xs ys said says_more shown shows_more : List ℕ) → Types old xs said shown mid → Types mid ys says_more shows_more new → Types old (xs ++ ys) (said ++ says_more) (shown ++ shows_more) new
+pub types_both : (old mid new : KeyLines) (xs ys said says_more shown shows_more : List ℕ) → Types old xs said shown mid → Types mid ys says_more shows_more new
+    → Types old (xs ++ ys) (said ++ says_more) (shown ++ shows_more) new
 types_both old mid new xs ys said says_more shown shows_more a b =
     let e = old.line_end in
     record {
-      leads = λ canon before had. subst (λ (keys : List ℕ). LeadsTo canon keys new) (append_assoc before xs ys) (b.leads canon (before ++ xs) (a.leads canon before had));
+      leads = λ canon before had. subst (λ (keys : List ℕ). LeadsTo canon keys new) (append_assoc before xs ys)
+          (b.leads canon (before ++ xs) (a.leads canon before had));
       says = λ canon before had.
           ap (said_of canon e) (sym (append_assoc before xs ys))
-          ∙ subst (λ end. said_of canon end ((before ++ xs) ++ ys) ≡ said_of canon end (before ++ xs) ++ says_more) a.line_end (b.says canon (before ++ xs) (a.leads canon before had))
+          ∙ subst (λ end. said_of canon end ((before ++ xs) ++ ys) ≡ said_of canon end (before ++ xs) ++ says_more) a.line_end
+          (b.says canon (before ++ xs) (a.leads canon before had))
           ∙ ap (λ (l : List ℕ). l ++ says_more) (a.says canon before had)
           ∙ append_assoc (said_of canon e before) said says_more;
       shows = λ canon before had.
@@ -172,7 +188,8 @@ types_both old mid new xs ys said says_more shown shows_more a b =
     }
 
 -- some of the keys, and the next one, with the output before and after it
-pub types_next : (old mid new : KeyLines) (keys : List ℕ) (i : ℕ) (before after : Output) (said shown : List ℕ) → i < length keys → Types old (take i keys) before.said.items before.shown.items mid
+pub types_next : (old mid new : KeyLines) (keys : List ℕ) (i : ℕ) (before after : Output) (said shown : List ℕ) → i < length keys
+    → Types old (take i keys) before.said.items before.shown.items mid
     → Grows before said shown after → Types mid (get_or keys i 0 ∷ []) said shown new → Types old (take (i + 1) keys) after.said.items after.shown.items new
 types_next old mid new keys i before after said shown within a grows b =
     let both = types_both old mid new (take i keys) (get_or keys i 0 ∷ []) before.said.items said before.shown.items shown a b in

@@ -1,5 +1,5 @@
--- What a screen shows of what a service says: its bytes as they are, and at a terminal a carriage return before each line
--- feed that has none.
+-- What a screen shows of what a service says: its bytes as they are, and at a terminal a carriage return
+-- before each line feed that has none.
 use Rattle.std.specs.Prelude.{◌≡◌, ℕ, ◌==◌, Bool, false, not, ◌&&◌, List, [], ◌∷◌, ◌++◌, if◌then◌else◌}
 use Rattle.tn_lines.specs.Files.{ends_in_return}
 use Rattle.tn_lines.specs.declared.left_edge.LeftEdge.{LeftEdge}

@@ -33,13 +33,14 @@ has_left_by (read line_end) bytes = false
 
 -- these bytes were taken
 abbrev pub LeadsTo : Kind → List ℕ → AnyLines → Type 0
-LeadsTo (typed canon line_end) keys (Typed lines) = typing.LeadsTo canon keys lines × (lines.line_end ≡ line_end)
+LeadsTo (typed canon line_end) keys (Typed lines) =
+    typing.LeadsTo canon keys lines × (lines.line_end ≡ line_end)
 LeadsTo (typed canon line_end) keys (Read lines) = ⊥
 LeadsTo (read line_end) bytes (Typed lines) = ⊥
 LeadsTo (read line_end) bytes (Read lines) = files.LeadsTo bytes lines × (lines.line_end ≡ line_end)
 
--- Whatever was taken before, with these bytes it leads to the new lines; and these bytes more are said, and these
--- more are shown.
+-- Whatever was taken before, with these bytes it leads to the new lines; and these bytes more are said, and
+-- these more are shown.
 pub record Takes (old : AnyLines) (bytes said shown : List ℕ) (new : AnyLines) : Type 0 where
   pub leads : (kind : Kind) (before : List ℕ) → LeadsTo kind before old → LeadsTo kind (before ++ bytes) new
   pub says : (kind : Kind) (before : List ℕ) → LeadsTo kind before old

@@ -20,10 +20,11 @@ pub record LeadsTo (canon : Canon) (keys : List ℕ) (lines : KeyLines) : Type 0
   pub ended : lines.ended ≡ has_ended (entries_taken canon keys)
   pub left : lines.left ≡ has_left canon keys
 
--- Whatever keys were typed before, with these they lead to the new lines; and these bytes more are said, and these
--- more are shown.
+-- Whatever keys were typed before, with these they lead to the new lines; and these bytes more are said, and
+-- these more are shown.
 pub record Types (old : KeyLines) (keys said shown : List ℕ) (new : KeyLines) : Type 0 where
-  pub leads : (canon : Canon) (before : List ℕ) → LeadsTo canon before old → LeadsTo canon (before ++ keys) new
+  pub leads : (canon : Canon) (before : List ℕ) → LeadsTo canon before old
+      → LeadsTo canon (before ++ keys) new
   pub says : (canon : Canon) (before : List ℕ) → LeadsTo canon before old
       → said_of canon old.line_end (before ++ keys) ≡ said_of canon old.line_end before ++ said
   pub shows : (canon : Canon) (before : List ℕ) → LeadsTo canon before old

@@ -1,5 +1,5 @@
--- What a service is told of typed keys: the lines of the entries that they give at the user's terminal, each once, in
--- order, each with its line end, up to the end of file.
+-- What a service is told of typed keys: the lines of the entries that they give at the user's terminal, each
+-- once, in order, each with its line end, up to the end of file.
 use Rattle.std.specs.Prelude.{ℕ, Bool, true, false, List, [], ◌∷◌, ◌++◌}
 use Rattle.tn_discipline.specs.Canon.{Canon}
 use Rattle.tn_discipline.specs.Entries.{entries_of}

@@ -1,5 +1,5 @@
--- The keys that a user's terminal takes. An interrupt or a quit discards the line, as KILL does (XBD 11.2.5, where
--- NOFLSH is not set). Where nothing is typed it leaves: no key behind it is taken.
+-- The keys that a user's terminal takes. An interrupt or a quit discards the line, as KILL does (XBD 11.2.5,
+-- where NOFLSH is not set). Where nothing is typed it leaves: no key behind it is taken.
 use Rattle.std.specs.Prelude.{ℕ, Bool, true, false, ◌&&◌, ◌||◌, List, [], ◌∷◌, ◌++◌, if◌then◌else◌}
 use Rattle.tn_discipline.specs.Canon.{Canon}
 use Rattle.tn_discipline.specs.Keys.{roles_of}

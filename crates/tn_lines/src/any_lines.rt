@@ -30,7 +30,8 @@ impl AnyLines {
 
     /// Whether a user ended what goes to the service.
     pub fn has_ended(&self) -> bool
-        ensures { (kind : Kind) (bytes : List ℕ) → LeadsTo kind bytes self.now → result ≡ has_ended_by kind bytes }
+        ensures { (kind : Kind) (bytes : List ℕ) → LeadsTo kind bytes self.now
+            → result ≡ has_ended_by kind bytes }
     {
         match self {
             AnyLines::Typed(lines) => lines.has_ended(),
@@ -40,7 +41,8 @@ impl AnyLines {
 
     /// Whether a user left.
     pub fn has_left(&self) -> bool
-        ensures { (kind : Kind) (bytes : List ℕ) → LeadsTo kind bytes self.now → result ≡ has_left_by kind bytes }
+        ensures { (kind : Kind) (bytes : List ℕ) → LeadsTo kind bytes self.now
+            → result ≡ has_left_by kind bytes }
     {
         match self {
             AnyLines::Typed(lines) => lines.has_left(),

@@ -10,7 +10,8 @@ ghost use Rattle.tn_lines.specs.Said.{due, entries_taken, said_of};
 ghost use Rattle.tn_lines.specs.Taken.{interrupts};
 ghost use Rattle.tn_lines.specs.declared.line_ends.LineEnd.{LineEnd};
 
-/// Where no key is an interrupt or a quit, what is said is the lines of what a local terminal gives of the keys.
+/// Where no key is an interrupt or a quit, what is said is the lines of what a local terminal gives of the
+/// keys.
 pub fn lines_are_those_of_a_local_terminal()
     ensures { (canon : Canon) (line_end : LineEnd) (keys : List ℕ) →
         All (λ r. interrupts r ≡ false) (roles_of canon.settings keys) →

@@ -5,8 +5,8 @@ ghost use Rattle.tn_lines.specs.Edges.{HasShown, ShowsOn, byte_shown};
 
 use std::alloc::AllocError;
 
-/// What a service says, on its way to a screen. At a terminal in raw mode a line feed leaves the column as it is,
-/// so that a carriage return is shown before one that has none.
+/// What a service says, on its way to a screen. At a terminal in raw mode a line feed leaves the column as it
+/// is, so that a carriage return is shown before one that has none.
 #[derive(Clone, Copy, Debug, PartialEq, Eq)]
 pub struct LeftEdge {
     at_terminal: bool,
@@ -25,8 +25,8 @@ impl LeftEdge {
         }
     }
 
-    /// Takes the next bytes, and puts what is shown of them into `shown`, in place of what is there. It is refused
-    /// only where memory for that ran out; then some of the bytes were taken.
+    /// Takes the next bytes, and puts what is shown of them into `shown`, in place of what is there. It is
+    /// refused only where memory for that ran out; then some of the bytes were taken.
     pub fn take(&mut self, bytes: &[u8], shown: &mut Vec<u8>) -> Result<(), AllocError>
         ensures { OnOk result (ShowsOn self.old bytes.now shown.new.items self.new) }
     {

@@ -1,5 +1,5 @@
-//! What goes to a service that takes lines and negotiates nothing: the lines that a user edits at a terminal of
-//! its own, or those of a file, each with the line end that was chosen.
+//! What goes to a service that takes lines and negotiates nothing: the lines that a user edits at a terminal
+//! of its own, or those of a file, each with the line end that was chosen.
 //!
 //! ```
 //! let mut lines = KeyLines::new(alloc, Settings::standard(), Limit::standard(), LineEnd::CrLf)?;
@@ -8,8 +8,8 @@
 //! lines.take(b"PING\n", &mut output)?; // said: "PING\r\n"; nothing is shown
 //! ```
 //!
-//! It reads and writes nothing itself. A terminal's keys are edited as `tn_discipline` says; of a file nothing is
-//! edited.
+//! It reads and writes nothing itself. A terminal's keys are edited as `tn_discipline` says; of a file
+//! nothing is edited.
 #![tactic(auto)]
 
 pub use any_lines::AnyLines;

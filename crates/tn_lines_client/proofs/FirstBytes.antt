@@ -1,5 +1,6 @@
 -- The first two bytes of a service come in pieces.
-use Rattle.std.proofs.Common.{◌≡◌, ◌≤◌, ◌<◌, ℕ, Bool, true, false, not, ◌&&◌, List, [], ◌∷◌, ◌++◌, length, get_or, refl, sym, ap, ◌∙◌, subst, append-nil, arith, Option, Some, None, option_map, ◌+◌}
+use Rattle.std.proofs.Common.{◌≡◌, ◌≤◌, ◌<◌, ℕ, Bool, true, false, not, ◌&&◌, List, [], ◌∷◌, ◌++◌, length, get_or, refl, sym, ap, ◌∙◌, subst, append-nil, arith}
+use Rattle.std.proofs.Common.{Option, Some, None, option_map, ◌+◌}
 use Rattle.tn_lines_client.specs.Openings.{Hears, Listens, Rises, is_option, negotiates, opening_of, warned_on, warnings_if}
 use Rattle.tn_lines_client.specs.declared.opening.Opening.{Opening}
 use Rattle.tn_lines_client.specs.declared.opening.Opening.TheVariants.{Nothing, First, Both}
@@ -63,7 +64,8 @@ second_leads first x bytes [] had = let bad : 1 ≡ 0 = counted (First first) No
 second_leads first x bytes (y ∷ []) had = refl
 second_leads first x bytes (y ∷ z ∷ before) had = let bad : 1 ≡ 2 = counted (First first) Both had in absurd (omega (arith, bad))
 
-second_told : (first x : ℕ) (bytes before : List ℕ) → First first ≡ opening_of before → is_option first x ≡ (negotiates (before ++ x ∷ bytes) && not (negotiates before))
+second_told : (first x : ℕ) (bytes before : List ℕ) → First first ≡ opening_of before
+    → is_option first x ≡ (negotiates (before ++ x ∷ bytes) && not (negotiates before))
 second_told first x bytes [] had = let bad : 1 ≡ 0 = counted (First first) Nothing had in absurd (omega (arith, bad))
 second_told first x bytes (y ∷ []) had =
     let same : first ≡ y = ap first_in had in

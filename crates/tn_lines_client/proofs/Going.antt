@@ -1,10 +1,12 @@
 -- A talk goes on.
-use Rattle.std.proofs.Common.{◌≡◌, ◌≤◌, ℕ, Bool, List, [], ◌∷◌, ◌++◌, Option, refl, sym, ap, ◌∙◌, subst, append_assoc, append-nil, arith, length, take, drop, take-append-drop}
+use Rattle.std.proofs.Common.{◌≡◌, ◌≤◌, ℕ, Bool, List, [], ◌∷◌, ◌++◌, Option, refl, sym, ap, ◌∙◌, subst, append_assoc, append-nil, arith, length, take, drop}
+use Rattle.std.proofs.Common.{take-append-drop}
 use Rattle.std.specs.Io.KnownBytes.{Appends, Consumes, Keeps}
 use Rattle.tn_lines.specs.Edges.{HasShown, at_screen}
 use Rattle.tn_lines.specs.Kinds.{Kind, typed, read, LeadsTo, said_by, shown_by}
 use Rattle.tn_lines_client.specs.Logs.{bytes_in}
-use Rattle.tn_lines_client.specs.Talking.{Streams, streams, Piece, echo, came, all_shown, echoed, came_in, Leads, LeadsBy, GoesOn, TypesKeys, ShowsBytes, Begins}
+use Rattle.tn_lines_client.specs.Talking.{Streams, streams, Piece, echo, came, all_shown, echoed, came_in, Leads, LeadsBy, GoesOn, TypesKeys, ShowsBytes}
+use Rattle.tn_lines_client.specs.Talking.{Begins}
 use Rattle.tn_lines_client.specs.declared.talk.Talk.{Talk}
 use Rattle.tn_lines_client.proofs.FirstBytes.{rises_more, rises_none}
 use Rattle.tn_lines_client.proofs.Writing.{appends_more, appends_kept, appends_none, consumes_more, consumes_kept, consumes_none}
@@ -40,7 +42,8 @@ none_of (x ∷ xs) h = absurd (omega arith)
 
 -- KEYS
 
-pub keys_more : (kind : Kind) (at : Bool) (first : Streams) (keys keys_after service told seen shown : Option (List ℕ)) (warned : Option ℕ) (piece : List ℕ) (old new : Talk)
+pub keys_more : (kind : Kind) (at : Bool) (first : Streams) (keys keys_after service told seen shown : Option (List ℕ)) (warned : Option ℕ) (piece : List ℕ)
+    (old new : Talk)
     → length old.waiting ≤ 0 → Consumes keys keys_after piece → TypesKeys piece seen old shown new
     → Leads kind at first (streams keys service told seen warned) old → Leads kind at first (streams keys_after service told shown warned) new
 keys_more kind at first keys keys_after service told seen shown warned piece old new none reads types had =
@@ -58,7 +61,8 @@ keys_more kind at first keys keys_after service told seen shown warned piece old
         service = t.service;
         tells = t.tells;
         shows =
-            subst (λ (l : List ℕ). Appends first.screen shown l) (sym (shown_more t.pieces (echo e) ∙ ap (λ (l : List ℕ). all_shown t.pieces ++ l) (append-nil e)))
+            subst (λ (l : List ℕ). Appends first.screen shown l)
+            (sym (shown_more t.pieces (echo e) ∙ ap (λ (l : List ℕ). all_shown t.pieces ++ l) (append-nil e)))
             (appends_more first.screen seen shown (all_shown t.pieces) e t.shows types.shows);
         lines =
             ap (λ (l : List ℕ). l ++ new.waiting) all_told ∙ sym (types.takes.says kind keys_were had.typed);
@@ -78,7 +82,8 @@ keys_more kind at first keys keys_after service told seen shown warned piece old
 
 -- BYTES OF THE SERVICE
 
-pub bytes_more : (kind : Kind) (at : Bool) (first : Streams) (keys service service_after told seen shown : Option (List ℕ)) (warned tells : Option ℕ) (piece : List ℕ) (old new : Talk)
+pub bytes_more : (kind : Kind) (at : Bool) (first : Streams) (keys service service_after told seen shown : Option (List ℕ)) (warned tells : Option ℕ)
+    (piece : List ℕ) (old new : Talk)
     → Consumes service service_after piece → ShowsBytes piece seen warned old shown tells new
     → Leads kind at first (streams keys service told seen warned) old → Leads kind at first (streams keys service_after told shown tells) new
 bytes_more kind at first keys service service_after told seen shown warned tells piece old new reads shows had =
@@ -94,14 +99,16 @@ bytes_more kind at first keys service service_after told seen shown warned tells
         service = consumes_more first.service service service_after came_before piece t.service reads;
         tells = t.tells;
         shows =
-            subst (λ (l : List ℕ). Appends first.screen shown l) (sym (shown_more t.pieces (came b) ∙ ap (λ (l : List ℕ). all_shown t.pieces ++ l) (append-nil b)))
+            subst (λ (l : List ℕ). Appends first.screen shown l)
+            (sym (shown_more t.pieces (came b) ∙ ap (λ (l : List ℕ). all_shown t.pieces ++ l) (append-nil b)))
             (appends_more first.screen seen shown (all_shown t.pieces) b t.shows shows.shows);
         lines = ap (λ (l : List ℕ). t.told ++ l) shows.waiting ∙ t.lines;
         echoes = echoed_more t.pieces (came b) ∙ append-nil (echoed t.pieces) ∙ t.echoes;
         comes =
             came_more t.pieces (came b) ∙ ap (λ (l : List ℕ). came_in t.pieces ++ l) (append-nil b)
             ∙ ap (λ (l : List ℕ). l ++ b) t.comes
-            ∙ sym (subst (λ (x : Bool). at_screen x (came_before ++ piece) ≡ at_screen x came_before ++ b) had.terminal (shows.takes.shows came_before had.shown));
+            ∙ sym (subst (λ (x : Bool). at_screen x (came_before ++ piece) ≡ at_screen x came_before ++ b) had.terminal
+            (shows.takes.shows came_before had.shown));
         warns = rises_more first.warned warned tells came_before piece old.opening new.opening shows.listens had.opening t.warns;
       };
       typed = subst (λ lines. LeadsTo kind (bytes_in old.typed) lines) (sym shows.lines) had.typed;
@@ -119,7 +126,8 @@ pub told_more : (kind : Kind) (at : Bool) (first : Streams) (keys service told t
 told_more kind at first keys service told told_after screen warned old new n wrote waiting lines edge same_typed same_heard same_opening had =
     let t = had.talked in
     let left = old.waiting in
-    named kind at first (streams keys service told_after screen warned) new (bytes_in old.typed) (bytes_in old.heard) (ap bytes_in same_typed) (ap bytes_in same_heard)
+    named kind at first (streams keys service told_after screen warned) new (bytes_in old.typed) (bytes_in old.heard) (ap bytes_in same_typed)
+    (ap bytes_in same_heard)
     (record {
       talked = record {
         told = t.told ++ take n left;
@@ -145,13 +153,16 @@ told_more kind at first keys service told told_after screen warned old new n wro
 
 -- NOTHING IS DONE
 
-pub kept_more : (kind : Kind) (at : Bool) (first : Streams) (keys keys_after service service_after told told_after screen : Option (List ℕ)) (warned : Option ℕ) (old new : Talk)
+pub kept_more : (kind : Kind) (at : Bool) (first : Streams) (keys keys_after service service_after told told_after screen : Option (List ℕ)) (warned : Option ℕ)
+    (old new : Talk)
     → Keeps keys keys_after → Keeps service service_after → Keeps told told_after
     → new.waiting ≡ old.waiting → new.lines ≡ old.lines → new.edge ≡ old.edge → new.typed ≡ old.typed → new.heard ≡ old.heard → new.opening ≡ old.opening
     → Leads kind at first (streams keys service told screen warned) old → Leads kind at first (streams keys_after service_after told_after screen warned) new
-kept_more kind at first keys keys_after service service_after told told_after screen warned old new same_keys same_service same_told waiting lines edge same_typed same_heard same_opening had =
+kept_more kind at first keys keys_after service service_after told told_after screen warned old new same_keys same_service same_told waiting lines edge
+    same_typed same_heard same_opening had =
     let t = had.talked in
-    named kind at first (streams keys_after service_after told_after screen warned) new (bytes_in old.typed) (bytes_in old.heard) (ap bytes_in same_typed) (ap bytes_in same_heard)
+    named kind at first (streams keys_after service_after told_after screen warned) new (bytes_in old.typed) (bytes_in old.heard) (ap bytes_in same_typed)
+    (ap bytes_in same_heard)
     (record {
       talked = record {
         told = t.told;

@@ -1,5 +1,6 @@
 -- By what a service is known that speaks Telnet: its first two bytes are a command that negotiates an option.
-use Rattle.std.specs.Prelude.{◌≡◌, ⊤, ℕ, ◌+◌, ◌==◌, ◌&&◌, nat_le, Bool, true, false, not, Option, Some, None, option_map, List, [], ◌∷◌, ◌++◌}
+use Rattle.std.specs.Prelude.{◌≡◌, ⊤, ℕ, ◌+◌, ◌==◌, ◌&&◌, nat_le, Bool, true, false, not, Option, Some, None}
+use Rattle.std.specs.Prelude.{option_map, List, [], ◌∷◌, ◌++◌}
 use Rattle.tn_lines_client.specs.declared.opening.Opening.{Opening}
 use Rattle.tn_lines_client.specs.declared.opening.Opening.TheVariants.{Nothing, First, Both}
 
@@ -18,7 +19,8 @@ opening_of [] = Nothing
 opening_of (first ∷ []) = First first
 opening_of (first ∷ second ∷ bytes) = Both
 
--- Whatever came before, with these bytes it leads to the new opening; and they are the ones by which it shows.
+-- Whatever came before, with these bytes it leads to the new opening; and they are the ones by which it
+-- shows.
 pub record Hears (old : Opening) (bytes : List ℕ) (shows : Bool) (new : Opening) : Type 0 where
   pub leads : (before : List ℕ) → old ≡ opening_of before → new ≡ opening_of (before ++ bytes)
   pub told : (before : List ℕ) → old ≡ opening_of before
@@ -41,7 +43,8 @@ Rises (Some old) None more = ⊥
 Rises (Some old) (Some new) more = new ≡ old + more
 
 -- These bytes were heard, and the user was warned where they show it.
-pub record Listens (bytes : List ℕ) (old : Opening) (told : Option ℕ) (new : Opening) (tells : Option ℕ) : Type 0 where
+pub record Listens (bytes : List ℕ) (old : Opening) (told : Option ℕ) (new : Opening)
+    (tells : Option ℕ) : Type 0 where
   pub shows : Bool
   pub hears : Hears old bytes shows new
   pub warns : tells ≡ warned_on shows told

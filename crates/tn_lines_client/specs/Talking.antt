@@ -1,5 +1,5 @@
--- A talk with a service: what was read, what was told to it and what was shown, for every order in which keys and bytes
--- come.
+-- A talk with a service: what was read, what was told to it and what was shown, for every order in which keys
+-- and bytes come.
 use Rattle.std.specs.Prelude.{◌≡◌, ℕ, Bool, Option, List, [], ◌∷◌, ◌++◌}
 use Rattle.std.specs.Io.KnownBytes.{Consumes, Appends}
 use Rattle.tn_lines.specs.Edges.{HasShown, ShowsOn, at_screen}
@@ -8,8 +8,8 @@ use Rattle.tn_lines_client.specs.Logs.{bytes_in}
 use Rattle.tn_lines_client.specs.Openings.{Listens, Rises, negotiates, opening_of, warnings_if}
 use Rattle.tn_lines_client.specs.declared.talk.Talk.{Talk}
 
--- what is known of the four streams: what the keys and the service still give, what was told to the service, and what is
--- shown; and how often the user was warned of a service that speaks Telnet
+-- what is known of the four streams: what the keys and the service still give, what was told to the service,
+-- and what is shown; and how often the user was warned of a service that speaks Telnet
 pub record Streams : Type 0 where
   pub keys : Option (List ℕ)
   pub service : Option (List ℕ)
@@ -17,7 +17,8 @@ pub record Streams : Type 0 where
   pub screen : Option (List ℕ)
   pub warned : Option ℕ
 
-abbrev pub streams : Option (List ℕ) → Option (List ℕ) → Option (List ℕ) → Option (List ℕ) → Option ℕ → Streams
+abbrev pub streams : Option (List ℕ) → Option (List ℕ) → Option (List ℕ) → Option (List ℕ) → Option ℕ
+    → Streams
 streams keys service told screen warned =
     record { keys = keys; service = service; told = told; screen = screen; warned = warned }
 
@@ -41,10 +42,11 @@ came_in [] = []
 came_in (echo bytes ∷ pieces) = came_in pieces
 came_in (came bytes ∷ pieces) = bytes ++ came_in pieces
 
--- These keys and these bytes were read. What the lines of the keys say was told, but for the bytes that wait; and what is
--- shown is the echo of the keys and what came, each in its order, piece by piece. The user was warned once where what came
--- shows that the service speaks Telnet, and else not.
-pub record Talked (kind : Kind) (at_terminal : Bool) (typed heard waiting : List ℕ) (first last : Streams) : Type 0 where
+-- These keys and these bytes were read. What the lines of the keys say was told, but for the bytes that wait;
+-- and what is shown is the echo of the keys and what came, each in its order, piece by piece. The user was
+-- warned once where what came shows that the service speaks Telnet, and else not.
+pub record Talked (kind : Kind) (at_terminal : Bool) (typed heard waiting : List ℕ)
+    (first last : Streams) : Type 0 where
   pub told : List ℕ
   pub pieces : List Piece
   pub keys : Consumes first.keys last.keys typed
@@ -57,7 +59,8 @@ pub record Talked (kind : Kind) (at_terminal : Bool) (typed heard waiting : List
   pub warns : Rises first.warned last.warned (warnings_if (negotiates heard))
 
 -- the same, and the talk is where that leads
-pub record LeadsBy (keys came : List ℕ) (kind : Kind) (at_terminal : Bool) (first last : Streams) (talk : Talk) : Type 0
+pub record LeadsBy (keys came : List ℕ) (kind : Kind) (at_terminal : Bool) (first last : Streams)
+    (talk : Talk) : Type 0
   where
     pub talked : Talked kind at_terminal keys came talk.waiting first last
     pub typed : LeadsTo kind keys talk.lines
@@ -77,7 +80,8 @@ GoesOn old talk new next =
     → Leads kind at_terminal first old talk → Leads kind at_terminal first new next
 
 -- these keys were taken while nothing waited: their echo is shown, and what they say waits
-pub record TypesKeys (piece : List ℕ) (seen : Option (List ℕ)) (old : Talk) (shown : Option (List ℕ)) (new : Talk)
+pub record TypesKeys (piece : List ℕ) (seen : Option (List ℕ)) (old : Talk) (shown : Option (List ℕ))
+    (new : Talk)
     : Type 0 where
   pub echo_of : List ℕ
   pub takes : Takes old.lines piece new.waiting echo_of new.lines
@@ -88,7 +92,8 @@ pub record TypesKeys (piece : List ℕ) (seen : Option (List ℕ)) (old : Talk) 
   pub opening : new.opening ≡ old.opening
 
 -- these bytes of the service are shown
-pub record ShowsBytes (piece : List ℕ) (seen : Option (List ℕ)) (told : Option ℕ) (old : Talk) (shown : Option (List ℕ))
+pub record ShowsBytes (piece : List ℕ) (seen : Option (List ℕ)) (told : Option ℕ) (old : Talk)
+    (shown : Option (List ℕ))
     (tells : Option ℕ) (new : Talk) : Type 0 where
   pub bytes : List ℕ
   pub takes : ShowsOn old.edge piece bytes new.edge

@@ -5,8 +5,8 @@
 //! let over = talk.run(&rt, &mut ready, &mut keys, &mut service, &mut connection, &mut screen)?;
 //! ```
 //!
-//! One thread waits until keys or bytes of the service can be read, or the connection takes more. Nothing is proved
-//! of the order in which that is: what is told and shown is proved for every order.
+//! One thread waits until keys or bytes of the service can be read, or the connection takes more. Nothing is
+//! proved of the order in which that is: what is told and shown is proved for every order.
 #![tactic(auto)]
 
 pub use fault::TalkFault;

@@ -20,8 +20,8 @@ pub(crate) enum Opening {
 }
 
 impl Opening {
-    /// Hears the next bytes. Returns whether it is with them that the first two of all are a command of Telnet that
-    /// negotiates an option.
+    /// Hears the next bytes. Returns whether it is with them that the first two of all are a command of
+    /// Telnet that negotiates an option.
     pub(crate) fn hear(&mut self, bytes: &[u8]) -> bool
         ensures { Hears self.old bytes.now result self.new }
     {

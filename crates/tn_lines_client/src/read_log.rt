@@ -6,8 +6,8 @@ ghost use Rattle.tn_lines_client.specs.Logs.{bytes_in};
 use std::mem;
 use std::snapshot::Snapshot;
 
-/// All bytes that were read, in order, as contracts see it. When it runs it is two bytes long: it holds none of
-/// them but the last.
+/// All bytes that were read, in order, as contracts see it. When it runs it is two bytes long: it holds none
+/// of them but the last.
 #[derive(Drop)]
 pub enum ReadLog {
     Empty,

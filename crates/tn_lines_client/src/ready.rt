@@ -36,8 +36,8 @@ pub trait Await {
     fn next(&mut self, wants: Wants) -> Ready
         ensures { warned self.new ≡ warned self.old };
 
-    /// Hears, as soon as it shows and once, that the service speaks Telnet: what it says first is a command that
-    /// negotiates an option.
+    /// Hears, as soon as it shows and once, that the service speaks Telnet: what it says first is a command
+    /// that negotiates an option.
     fn hear_telnet(&mut self)
         ensures { warned self.new ≡ warned_on true (warned self.old) };
 }

@@ -49,7 +49,8 @@ pub struct Talk {
 }
 
 impl Talk {
-    /// Nothing was read yet. Where the screen is a terminal in raw mode, a line feed goes back to its left edge.
+    /// Nothing was read yet. Where the screen is a terminal in raw mode, a line feed goes back to its left
+    /// edge.
     pub fn new(alloc: Global, lines: AnyLines, at_terminal: bool) -> Talk
         ensures begins { (kind : Kind) → LeadsTo kind [] lines → Begins kind result }
         ensures at_terminal { result.edge.at_terminal ≡ at_terminal }
@@ -261,8 +262,8 @@ impl Talk {
         }
     }
 
-    /// Talks until the service has closed, the connection is broken, or the user has left. The logs name the keys
-    /// that were read, and what the service said.
+    /// Talks until the service has closed, the connection is broken, or the user has left. The logs name the
+    /// keys that were read, and what the service said.
     pub fn run<H: Wait, A: Await, K: Source, N: Source, W: Finish, S: Drain>(
         &mut self,
         rt: &H,

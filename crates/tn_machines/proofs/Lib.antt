@@ -1,3 +1,3 @@
 pub mod lemmas
-pub mod server
-pub mod client
+pub mod of_terminal
+pub mod of_core

@@ -1,5 +1,5 @@
-//! The machines of a running session: at a server the terminal, at a client the core. Each alone uses its end of the
-//! connection, one message at a time.
+//! The machines of a running session: at a server the terminal, at a client the core. Each alone uses its end
+//! of the connection, one message at a time.
 //!
 //! ```text
 //! reader, writer, jobs --Message--> server::Term --> server end
@@ -13,8 +13,8 @@
 //! let ended = Ended::Done.or(Ended::Fault(SessionFault::Read)); // Done: the first that came counts
 //! ```
 //!
-//! Its `specs` and `proofs/lemmas` hold at their tops what both share: counts, the first of several ends, what a
-//! message brings, and why a run of messages ended. No machine has a handle, and none blocks.
+//! Its `specs` and `proofs/lemmas` hold at their tops what both share: counts, the first of several ends,
+//! what a message brings, and why a run of messages ended. No machine has a handle, and none blocks.
 #![tactic(auto)]
 
 pub use faults::{Ended, SessionFault};

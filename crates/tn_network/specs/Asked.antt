@@ -10,8 +10,8 @@ use Rattle.std.specs.declared.net.tcp.TcpStream.{TcpStream}
 abbrev pub Refuses : (SocketAddr → Result TcpStream Error → Type 0) → SocketAddr → Type 0
 Refuses dials address = (error : Error) × dials address (Err error)
 
--- The addresses of a host were asked for; where there is a connection, one of them was asked for it, and where there
--- is none, each of them was, or no address was found.
+-- The addresses of a host were asked for; where there is a connection, one of them was asked for it, and where
+-- there is none, each of them was, or no address was found.
 abbrev pub Reaches : (Result HostAddrs Error → Type 0) → (SocketAddr → Result TcpStream Error → Type 0)
     → Result TcpStream Error → Type 0
 Reaches finds dials result =

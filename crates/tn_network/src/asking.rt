@@ -4,8 +4,8 @@ use std::io;
 use std::io::Write;
 use std::net::{HostAddrs, Net, Shutdown, SocketAddr, TcpListener, TcpStream, ToSocketAddrs};
 
-/// A network, as it is asked. Each relation holds of what was asked in a call, and of its answer; nothing else
-/// gives one. A thread may rest on this trait: it names no types of the network.
+/// A network, as it is asked. Each relation holds of what was asked in a call, and of its answer; nothing
+/// else gives one. A thread may rest on this trait: it names no types of the network.
 pub trait Network {
     ghost use Rattle.std.specs.Prelude.{ℕ, List, Result};
     ghost use Rattle.std.specs.declared.io.Error.{Error};
@@ -43,8 +43,8 @@ pub trait Network {
     fn accept(&self, listener: &TcpListener, number: u64) -> io::Result<(TcpStream, SocketAddr)>
         ensures { accepts self.now listener.now number result };
 
-    /// Tells a connection these words, and that no more comes. It is not closed. Where it takes them not, they
-    /// are dropped.
+    /// Tells a connection these words, and that no more comes. It is not closed. Where it takes them not,
+    /// they are dropped.
     fn dismiss(&self, stream: TcpStream, words: &[u8]) -> TcpStream
         ensures { dismisses self.now stream words.now result };
 

@@ -27,8 +27,20 @@ partial_of Outside rest h = record { segment = spelled Newline; more = 13 ∷ 10
 partial_of AfterCr rest h = record { segment = spelled Newline; more = 10 ∷ []; is_segment = tt; proper = lit< tt; begins = rw h refl }
 partial_of AfterIac rest h = record { segment = escaped 0; more = 0 ∷ []; is_segment = inl (lit< tt); proper = lit< tt; begins = rw h refl }
 partial_of (AfterVerb v) rest h = record { segment = spelled (Neg v 0); more = 0 ∷ []; is_segment = tt; proper = lit< tt; begins = rw h refl }
-partial_of (Inside body) rest h = record { segment = cut h.0 0; more = 255 ∷ 0 ∷ []; is_segment = (omega arith, omega arith); proper = lit< tt; begins = rw h.2 refl }
-partial_of (InsideIac body) rest h = record { segment = cut h.0 0; more = 0 ∷ []; is_segment = (omega arith, omega arith); proper = lit< tt; begins = rw h.2 (ap (λ x. 255 ∷ 250 ∷ x) (append_assoc (doubled_bytes h.0) (255 ∷ []) (0 ∷ []))) }
+partial_of (Inside body) rest h = record {
+  segment = cut h.0 0;
+  more = 255 ∷ 0 ∷ [];
+  is_segment = (omega arith, omega arith);
+  proper = lit< tt;
+  begins = rw h.2 refl;
+}
+partial_of (InsideIac body) rest h = record {
+  segment = cut h.0 0;
+  more = 0 ∷ [];
+  is_segment = (omega arith, omega arith);
+  proper = lit< tt;
+  begins = rw h.2 (ap (λ x. 255 ∷ 250 ∷ x) (append_assoc (doubled_bytes h.0) (255 ∷ []) (0 ∷ [])));
+}
 partial_of Failed rest h = absurd h
 
 verb_no_sb : (v : Verb) → verb_code v ≢ 250
@@ -69,9 +81,14 @@ stood (InsideIac Overlong) rest h = h
 stood Failed rest h = absurd h
 
 pub at_start : LeadsTo [] [] (state_of_place Outside)
-at_start = record { rest = []; reading = record { segments = []; splits = refl; partial = partial_of Outside [] refl; read = refl }; stands = known Outside [] refl }
+at_start = record {
+  rest = [];
+  reading = record { segments = []; splits = refl; partial = partial_of Outside [] refl; read = refl };
+  stands = known Outside [] refl;
+}
 
-pub Advances-from_advances : (here next : Progress) (more : List ℕ) (items : List Item) → StepAdvances here more items next → Advances (state_of_place here) more items (state_of_place next)
+pub Advances-from_advances : (here next : Progress) (more : List ℕ) (items : List Item) → StepAdvances here more items next
+    → Advances (state_of_place here) more items (state_of_place next)
 Advances-from_advances here next more items f = λ stream had h.
     let a = f h.rest (stood here h.rest h.stands) in
     record {
@@ -87,7 +104,8 @@ Advances-from_advances here next more items f = λ stream had h.
 
 -- a list round one of its elements
 pub at_element : (xs : List ℕ) (i : ℕ) → i < length xs → xs ≡ take i xs ++ get_or xs i 0 ∷ drop (i + 1) xs
-at_element xs i lt = sym (take-append-drop (i + 1) xs) ∙ ap (λ ys. ys ++ drop (i + 1) xs) (take_more xs i 0 lt) ∙ append_assoc (take i xs) (get_or xs i 0 ∷ []) (drop (i + 1) xs)
+at_element xs i lt = sym (take-append-drop (i + 1) xs) ∙ ap (λ ys. ys ++ drop (i + 1) xs) (take_more xs i 0 lt)
+    ∙ append_assoc (take i xs) (get_or xs i 0 ∷ []) (drop (i + 1) xs)
 
 -- the list has gained what the bytes complete
 pub record Appends (here : Progress) (more : List ℕ) (before after : List Item) (next : Progress) : Type 0 where
@@ -95,15 +113,21 @@ pub record Appends (here : Progress) (more : List ℕ) (before after : List Item
   pub appended : after ≡ before ++ items
   pub advances : StepAdvances here more items next
 
-pub Appends-push : (here middle next : Progress) (more : List ℕ) (b : ℕ) (given before between after : List Item) → Appends here more before between middle → StepAdvances middle (b ∷ []) given next → after ≡ between ++ given → Appends here (more ++ b ∷ []) before after next
+pub Appends-push : (here middle next : Progress) (more : List ℕ) (b : ℕ) (given before between after : List Item) → Appends here more before between middle
+    → StepAdvances middle (b ∷ []) given next → after ≡ between ++ given → Appends here (more ++ b ∷ []) before after next
 Appends-push here middle next more b given before between after a f e = record {
   items = a.items ++ given;
   appended = rw (e, a.appended) (append_assoc before a.items given);
   advances = StepAdvances-append here middle next more (b ∷ []) a.items given a.advances f;
 }
 
-pub Feeds-from_appends : (here next : Progress) (piece : List ℕ) (before after : List Item) → Appends here piece before after next → Feeds (state_of_place here) piece before after (state_of_place next)
-Feeds-from_appends here next piece before after a = record { items = a.items; appended = a.appended; adds = Advances-from_advances here next piece a.items a.advances }
+pub Feeds-from_appends : (here next : Progress) (piece : List ℕ) (before after : List Item) → Appends here piece before after next
+    → Feeds (state_of_place here) piece before after (state_of_place next)
+Feeds-from_appends here next piece before after a = record {
+  items = a.items;
+  appended = a.appended;
+  adds = Advances-from_advances here next piece a.items a.advances;
+}
 
 pub kept : (place : Progress) (b : ℕ) → KeepsByte place b → KeepsParameter (state_of_place place) b
 kept Outside b k = absurd k
@@ -119,7 +143,8 @@ kept (InsideIac Overlong) b k = absurd k.1
 kept Failed b k = absurd k
 
 -- a parameter was to be kept
-pub StopsWithin-from_kept : (here next : Progress) (front back : List ℕ) (b : ℕ) (piece : List ℕ) (before after : List Item) (room : ℕ) → piece ≡ front ++ b ∷ back → Appends here front before after next → KeepsByte next b → StopsWithin (state_of_place here) piece before after room
+pub StopsWithin-from_kept : (here next : Progress) (front back : List ℕ) (b : ℕ) (piece : List ℕ) (before after : List Item) (room : ℕ)
+    → piece ≡ front ++ b ∷ back → Appends here front before after next → KeepsByte next b → StopsWithin (state_of_place here) piece before after room
 StopsWithin-from_kept here next front back b piece before after room whole a k = record {
   front = front;
   byte = b;
@@ -133,7 +158,9 @@ StopsWithin-from_kept here next front back b piece before after room whole a k =
 }
 
 -- there was no room for what the byte completes
-pub StopsWithin-from_no_room : (here next then : Progress) (front back : List ℕ) (b : ℕ) (piece : List ℕ) (before after given : List Item) (room : ℕ) → piece ≡ front ++ b ∷ back → Appends here front before after next → StepAdvances next (b ∷ []) given then → room < length given → StopsWithin (state_of_place here) piece before after room
+pub StopsWithin-from_no_room : (here next then : Progress) (front back : List ℕ) (b : ℕ) (piece : List ℕ) (before after given : List Item) (room : ℕ)
+    → piece ≡ front ++ b ∷ back → Appends here front before after next → StepAdvances next (b ∷ []) given then → room < length given
+    → StopsWithin (state_of_place here) piece before after room
 StopsWithin-from_no_room here next then front back b piece before after given room whole a f no_room = record {
   front = front;
   byte = b;
@@ -147,7 +174,8 @@ StopsWithin-from_no_room here next then front back b piece before after given ro
 }
 
 -- a subnegotiation that was handed on is of no more account
-pub still : (next : Place) (all : Given) (old new : Body) → (all ≡ given.Sub → next ≡ place.Outside) → (all ≢ given.Sub → new ≡ old) → progress next new ≡ progress next old
+pub still : (next : Place) (all : Given) (old new : Body) → (all ≡ given.Sub → next ≡ place.Outside) → (all ≢ given.Sub → new ≡ old)
+    → progress next new ≡ progress next old
 still next given.Nothing old new outside same = ap (progress next) (same (λ e. cc))
 still next (given.Byte byte) old new outside same = ap (progress next) (same (λ e. cc))
 still next (given.CrByte byte) old new outside same = ap (progress next) (same (λ e. cc))

@@ -15,13 +15,15 @@ plain_run (b ∷ bs) p =
 run_after_cr : (b : ℕ) (bs : List ℕ) → b ≢ 10 → b ≢ 0 → All IsPlain (b ∷ bs) → StepAdvances AfterCr (b ∷ bs) (Byte 13 ∷ Byte b ∷ map Byte bs) Outside
 run_after_cr b bs h k p =
     let q = All-head IsPlain b bs p in
-    StepAdvances-append AfterCr Outside Outside (b ∷ []) bs (Byte 13 ∷ Byte b ∷ []) (map Byte bs) (cr_plain b h k q.0 q.1) (plain_run bs (All-tail IsPlain b bs p))
+    StepAdvances-append AfterCr Outside Outside (b ∷ []) bs (Byte 13 ∷ Byte b ∷ []) (map Byte bs) (cr_plain b h k q.0 q.1)
+    (plain_run bs (All-tail IsPlain b bs p))
 
 none_below : 0 < 0 → ⊥
 none_below h = omega arith
 
 -- the same of a prefix of the rest
-pub front_after_cr : (rest : List ℕ) (n : ℕ) → 0 < n → 0 < length rest → get_or rest 0 0 ≢ 10 → get_or rest 0 0 ≢ 0 → All IsPlain (take n rest) → StepAdvances AfterCr (take n rest) (Byte 13 ∷ map Byte (take n rest)) Outside
+pub front_after_cr : (rest : List ℕ) (n : ℕ) → 0 < n → 0 < length rest → get_or rest 0 0 ≢ 10 → get_or rest 0 0 ≢ 0 → All IsPlain (take n rest)
+    → StepAdvances AfterCr (take n rest) (Byte 13 ∷ map Byte (take n rest)) Outside
 front_after_cr [] n some full h k p = absurd (none_below full)
 front_after_cr (b ∷ bs) zero some full h k p = absurd (none_below some)
 front_after_cr (b ∷ bs) (suc n) some full h k p = run_after_cr b (take n bs) h k p

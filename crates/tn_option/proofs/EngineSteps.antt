@@ -1,13 +1,16 @@
 -- Each step of two ends is, for each side of each option, a step of its own world or none.
-use Rattle.std.proofs.Common.{◌≡◌, ◌≢◌, ◌⊎◌, inl, inr, ℕ, ◌==◌, Bool, true, false, ◌&&◌, Option, Some, None, option_to_list, List, [], ◌∷◌, ◌++◌, refl, sym, ap, ◌∙◌, subst}
+use Rattle.std.proofs.Common.{◌≡◌, ◌≢◌, ◌⊎◌, inl, inr, ℕ, ◌==◌, Bool, true, false, ◌&&◌, Option, Some, None, option_to_list, List, [], ◌∷◌, ◌++◌, refl, sym, ap}
+use Rattle.std.proofs.Common.{◌∙◌, subst}
 use Rattle.std.proofs.lemmas.Bool.Decides.{eqb_tells}
 use Rattle.tn_codes.specs.declared.codes.Verb.{Verb}
 use Rattle.tn_codes.specs.declared.codes.Verb.TheVariants.{Will, Wont, DoIt, DontIt}
 use Rattle.tn_option.specs.QMethod.{cell, side_of, cause_of, wish_for, word_on, word_off, word_of_answer, result_of_answer}
-use Rattle.tn_option.specs.Options.{Options, known_option, word_now, answer_now, state_or_no, new_options, options_after_word, reply_to, options_after_wish, answer_to, state_of, agrees_to}
+use Rattle.tn_option.specs.Options.{Options, known_option, word_now, answer_now, state_or_no, new_options, options_after_word, reply_to, options_after_wish}
+use Rattle.tn_option.specs.Options.{answer_to, state_of, agrees_to}
 use Rattle.tn_option.specs.Laws.{IsElsewhere}
 use Rattle.tn_option.specs.OptionWorld.{OptionEnd, word_of, with_word, cause_of_word}
-use Rattle.tn_option.specs.EnginePair.{EnginePair, EngineStep, ask_here, ask_there, got_here, got_there, asked_word, pair_after_ask, pair_after_word, turned_pair, engine_step, engine_steps, pair_of, is_about, says_on, with_word_about, words_about, facing, EnginesAgree}
+use Rattle.tn_option.specs.EnginePair.{EnginePair, EngineStep, ask_here, ask_there, got_here, got_there, asked_word, pair_after_ask, pair_after_word}
+use Rattle.tn_option.specs.EnginePair.{turned_pair, engine_step, engine_steps, pair_of, is_about, says_on, with_word_about, words_about, facing, EnginesAgree}
 use Rattle.tn_option.specs.declared.known.Known.{Known}
 use Rattle.tn_option.specs.declared.known.Known.TheVariants.{Echo, SuppressGoAhead, Naws, Linemode}
 use Rattle.tn_option.specs.declared.negotiation.Agree.{Agree}
@@ -50,7 +53,8 @@ abbrev told_one : Side → ℕ → Option (Verb × ℕ) → Option Bool
 told_one side code None = None
 told_one side code (Some word) = told_if (is_about side word.0 && (word.1 == code)) (says_on word.0)
 
-told-more : (here on : Bool) (words : List Bool) (more : Option Bool) → with_word_about here on (with_word words more) ≡ with_word (with_word_about here on words) more
+told-more : (here on : Bool) (words : List Bool) (more : Option Bool)
+    → with_word_about here on (with_word words more) ≡ with_word (with_word_about here on words) more
 told-more true on words None = refl
 told-more true on words (Some word) = refl
 told-more false on words None = refl
@@ -60,7 +64,8 @@ told-last : (here on : Bool) → with_word_about here on [] ≡ with_word [] (to
 told-last true on = refl
 told-last false on = refl
 
-told-append : (side : Side) (code : ℕ) (words : List (Verb × ℕ)) (more : Option (Verb × ℕ)) → words_about side code (words ++ option_to_list more) ≡ with_word (words_about side code words) (told_one side code more)
+told-append : (side : Side) (code : ℕ) (words : List (Verb × ℕ)) (more : Option (Verb × ℕ))
+    → words_about side code (words ++ option_to_list more) ≡ with_word (words_about side code words) (told_one side code more)
 told-append side code [] None = refl
 told-append side code [] (Some word) = told-last _ _
 told-append side code (first ∷ words) more =
@@ -123,31 +128,38 @@ off-elsewhere Them code Them c (inr differ) = absurd (differ refl)
 off-elsewhere Us code Them c other = refl
 off-elsewhere Them code Us c other = refl
 
-said-elsewhere : (side : Side) (code : ℕ) (s : Side) (c : ℕ) (a : Answer) → IsElsewhere s c side code → told_one (facing side) code (word_of_answer s c a) ≡ None
+said-elsewhere : (side : Side) (code : ℕ) (s : Side) (c : ℕ) (a : Answer) → IsElsewhere s c side code
+    → told_one (facing side) code (word_of_answer s c a) ≡ None
 said-elsewhere side code s c answer.SayOn other = ap (λ (b : Bool). told_if b (says_on (word_on s))) (on-elsewhere side code s c other)
 said-elsewhere side code s c answer.SayOff other = ap (λ (b : Bool). told_if b (says_on (word_off s))) (off-elsewhere side code s c other)
 said-elsewhere side code s c a other = refl
 
-said_now-elsewhere : (o : Options) (side : Side) (code : ℕ) (s : Side) (c : ℕ) (cause : Cause) (option : Option Known) → IsElsewhere s c side code → told_one (facing side) code (word_now o s c cause option) ≡ None
+said_now-elsewhere : (o : Options) (side : Side) (code : ℕ) (s : Side) (c : ℕ) (cause : Cause) (option : Option Known) → IsElsewhere s c side code
+    → told_one (facing side) code (word_now o s c cause option) ≡ None
 said_now-elsewhere o side code s c cause (Some option) other = said-elsewhere side code s c _ other
 said_now-elsewhere o side code s c HeardOn None other = ap (λ (b : Bool). told_if b (says_on (word_off s))) (off-elsewhere side code s c other)
 said_now-elsewhere o side code s c cause None other = refl
 
-answered_now-elsewhere : (o : Options) (side : Side) (code : ℕ) (s : Side) (c : ℕ) (cause : Cause) (option : Option Known) → IsElsewhere s c side code → told_one (facing side) code (asked_word (answer_now o s c cause option)) ≡ None
-answered_now-elsewhere o side code s c cause (Some option) other = ap (λ (r : Option (Verb × ℕ)). told_one (facing side) code r) (asked-said s c _) ∙ said-elsewhere side code s c _ other
+answered_now-elsewhere : (o : Options) (side : Side) (code : ℕ) (s : Side) (c : ℕ) (cause : Cause) (option : Option Known) → IsElsewhere s c side code
+    → told_one (facing side) code (asked_word (answer_now o s c cause option)) ≡ None
+answered_now-elsewhere o side code s c cause (Some option) other =
+    ap (λ (r : Option (Verb × ℕ)). told_one (facing side) code r) (asked-said s c _) ∙ said-elsewhere side code s c _ other
 answered_now-elsewhere o side code s c cause None other = refl
 
 -- the cell that a cause has at one side of an option, by what the ends show
 abbrev cell_shown : Options → Side → ℕ → Cause → QState × Answer
 cell_shown o side code cause = cell (agrees_to o side code) cause (state_of o side code)
 
-said_now-told : (o : Options) (side : Side) (code : ℕ) (cause : Cause) (option : Known) → known_option code ≡ Some option → told_one (facing side) code (word_now o side code cause (known_option code)) ≡ word_of (cell_shown o side code cause).1
+said_now-told : (o : Options) (side : Side) (code : ℕ) (cause : Cause) (option : Known) → known_option code ≡ Some option
+    → told_one (facing side) code (word_now o side code cause (known_option code)) ≡ word_of (cell_shown o side code cause).1
 unfolding state_of agrees_to
 said_now-told o side code cause option e = rw e (said-told side code _)
 
-answered_now-told : (o : Options) (side : Side) (code : ℕ) (cause : Cause) (option : Known) → known_option code ≡ Some option → told_one (facing side) code (asked_word (answer_now o side code cause (known_option code))) ≡ word_of (cell_shown o side code cause).1
+answered_now-told : (o : Options) (side : Side) (code : ℕ) (cause : Cause) (option : Known) → known_option code ≡ Some option
+    → told_one (facing side) code (asked_word (answer_now o side code cause (known_option code))) ≡ word_of (cell_shown o side code cause).1
 unfolding state_of agrees_to
-answered_now-told o side code cause option e = rw e (ap (λ (r : Option (Verb × ℕ)). told_one (facing side) code r) (asked-said side code _) ∙ said-told side code _)
+answered_now-told o side code cause option e = rw e (ap (λ (r : Option (Verb × ℕ)). told_one (facing side) code r) (asked-said side code _)
+    ∙ said-told side code _)
 
 -- an end and what comes to it, and the words to the far end
 abbrev Between : Side → ℕ → Options → List (Verb × ℕ) → OptionEnd → Type 0
@@ -156,14 +168,17 @@ Between side code o words far = Standing (ends_as (state_of o side code) (words_
 abbrev far_end : Side → ℕ → QState → List (Verb × ℕ) → OptionEnd
 far_end side code t words = ends_as t (words_about (facing side) code words)
 
-same-Standing : (s t s' : QState) (p p' q q' : List Bool) → s' ≡ s → p' ≡ p → q' ≡ q → Standing (ends_as s p) (ends_as t q) → Standing (ends_as s' p') (ends_as t q')
+same-Standing : (s t s' : QState) (p p' q q' : List Bool) → s' ≡ s → p' ≡ p → q' ≡ q → Standing (ends_as s p) (ends_as t q)
+    → Standing (ends_as s' p') (ends_as t q')
 same-Standing s t s' p p' q q' e f g st = rw (e, f, g) st
 
 -- a word more that tells nothing
-told-silent : (side : Side) (code : ℕ) (words : List (Verb × ℕ)) (more : Option (Verb × ℕ)) → told_one side code more ≡ None → words_about side code (words ++ option_to_list more) ≡ words_about side code words
+told-silent : (side : Side) (code : ℕ) (words : List (Verb × ℕ)) (more : Option (Verb × ℕ)) → told_one side code more ≡ None
+    → words_about side code (words ++ option_to_list more) ≡ words_about side code words
 told-silent side code words more e = told-append side code words more ∙ ap (λ (r : Option Bool). with_word (words_about side code words) r) e
 
-told-says : (side : Side) (code : ℕ) (words : List (Verb × ℕ)) (more : Option (Verb × ℕ)) (word : Option Bool) → told_one side code more ≡ word → words_about side code (words ++ option_to_list more) ≡ with_word (words_about side code words) word
+told-says : (side : Side) (code : ℕ) (words : List (Verb × ℕ)) (more : Option (Verb × ℕ)) (word : Option Bool) → told_one side code more ≡ word
+    → words_about side code (words ++ option_to_list more) ≡ with_word (words_about side code words) word
 told-says side code words more word e = told-append side code words more ∙ ap (λ (r : Option Bool). with_word (words_about side code words) r) e
 
 heard-cause : (verb : Verb) → cause_of verb ≡ cause_of_word (says_on verb)
@@ -180,7 +195,8 @@ unfolding options_after_word reply_to
 got-this o verb c rest out t option e st =
     heard-Standing (agrees_to o (side_of verb) c) (says_on verb) _ t _ _ _ _
     (MovesByCell-moved o (side_of verb) c (cause_of verb) option e ∙ ap (λ (k : Cause). (cell_shown o (side_of verb) c k).0) (heard-cause verb))
-    (told-says (facing (side_of verb)) c out _ _ (said_now-told o (side_of verb) c (cause_of verb) option e ∙ ap (λ (k : Cause). word_of (cell_shown o (side_of verb) c k).1) (heard-cause verb)))
+    (told-says (facing (side_of verb)) c out _ _ (said_now-told o (side_of verb) c (cause_of verb) option e
+    ∙ ap (λ (k : Cause). word_of (cell_shown o (side_of verb) c k).1) (heard-cause verb)))
     st
 
 -- a word about something else
@@ -195,28 +211,36 @@ got-other o side code verb c rest out t other st =
     (told-silent (facing side) code out _ (said_now-elsewhere o side code (side_of verb) c (cause_of verb) (known_option c) other))
     st
 
-got-word : (o : Options) (side : Side) (code : ℕ) (verb : Verb) (c : ℕ) (rest out : List (Verb × ℕ)) (t : QState) (option : Known) → known_option code ≡ Some option
+got-word : (o : Options) (side : Side) (code : ℕ) (verb : Verb) (c : ℕ) (rest out : List (Verb × ℕ)) (t : QState) (option : Known)
+    → known_option code ≡ Some option
     → Which side code (side_of verb) c (is_about side verb && (c == code))
     → Between side code o ((verb, c) ∷ rest) (far_end side code t out)
     → Between side code (options_after_word o verb c) rest (far_end side code t (out ++ option_to_list (reply_to o verb c)))
 got-word o side code verb c rest out t option e (inl this) st =
-    let told_so = subst (λ (b : Bool). Standing (ends_as (state_of o side code) (with_word_about b (says_on verb) (words_about side code rest))) (far_end side code t out)) this.0 st in
-    subst (λ (s : Side). Standing (ends_as (state_of o s code) (says_on verb ∷ words_about s code rest)) (far_end s code t out) → Between s code (options_after_word o verb c) rest (far_end s code t (out ++ option_to_list (reply_to o verb c)))) this.1.0
-    (subst (λ (k : ℕ). known_option k ≡ Some option → Standing (ends_as (state_of o (side_of verb) k) (says_on verb ∷ words_about (side_of verb) k rest)) (far_end (side_of verb) k t out) → Between (side_of verb) k (options_after_word o verb c) rest (far_end (side_of verb) k t (out ++ option_to_list (reply_to o verb c)))) this.1.1
+    let told_so = subst (λ (b : Bool). Standing (ends_as (state_of o side code) (with_word_about b (says_on verb) (words_about side code rest)))
+    (far_end side code t out)) this.0 st in
+    subst (λ (s : Side). Standing (ends_as (state_of o s code) (says_on verb ∷ words_about s code rest)) (far_end s code t out)
+    → Between s code (options_after_word o verb c) rest (far_end s code t (out ++ option_to_list (reply_to o verb c)))) this.1.0
+    (subst (λ (k : ℕ). known_option k ≡ Some option → Standing (ends_as (state_of o (side_of verb) k) (says_on verb ∷ words_about (side_of verb) k rest))
+    (far_end (side_of verb) k t out) → Between (side_of verb) k (options_after_word o verb c) rest
+    (far_end (side_of verb) k t (out ++ option_to_list (reply_to o verb c)))) this.1.1
     (λ f. got-this o verb c rest out t option f) e)
     told_so
 got-word o side code verb c rest out t option e (inr elsewhere) st =
     got-other o side code verb c rest out t elsewhere.1
-    (subst (λ (b : Bool). Standing (ends_as (state_of o side code) (with_word_about b (says_on verb) (words_about side code rest))) (far_end side code t out)) elsewhere.0 st)
+    (subst (λ (b : Bool). Standing (ends_as (state_of o side code) (with_word_about b (says_on verb) (words_about side code rest))) (far_end side code t out))
+    elsewhere.0 st)
 
 -- both ends, at one side of one option
 abbrev PairStanding : Side → ℕ → EnginePair → Type 0
 PairStanding side code e = Between side code e.here e.to_here (far_end side code (state_of e.there (facing side) code) e.to_there)
 
 got-PairStanding : (side : Side) (code : ℕ) (option : Known) → known_option code ≡ Some option → (words : List (Verb × ℕ)) (e : EnginePair)
-    → Between side code e.here words (far_end side code (state_of e.there (facing side) code) e.to_there) → e.to_here ≡ words → PairStanding side code (pair_after_word words e)
+    → Between side code e.here words (far_end side code (state_of e.there (facing side) code) e.to_there) → e.to_here ≡ words
+    → PairStanding side code (pair_after_word words e)
 got-PairStanding side code option known_as [] e st is = rw is st
-got-PairStanding side code option known_as (word ∷ rest) e st is = got-word e.here side code word.0 word.1 rest e.to_there _ option known_as (told-which side code word.0 word.1) st
+got-PairStanding side code option known_as (word ∷ rest) e st is =
+    got-word e.here side code word.0 word.1 rest e.to_there _ option known_as (told-which side code word.0 word.1) st
 
 -- a wish about one side of one option
 side-which : (side : Side) (code : ℕ) (s : Side) (c : ℕ) → This side code s c ⊎ IsElsewhere s c side code
@@ -225,7 +249,8 @@ side-which Them code Them c = elim (eqb_tells c code) [ inl same ↦ inl (refl, 
 side-which Us code Them c = inr (inr (λ e. cc))
 side-which Them code Us c = inr (inr (λ e. cc))
 
-asked-this : (side : Side) (code : ℕ) (on : Bool) (e : EnginePair) (option : Known) → known_option code ≡ Some option → PairStanding side code e → PairStanding side code (pair_after_ask side code on e)
+asked-this : (side : Side) (code : ℕ) (on : Bool) (e : EnginePair) (option : Known) → known_option code ≡ Some option → PairStanding side code e
+    → PairStanding side code (pair_after_ask side code on e)
 unfolding options_after_wish answer_to
 asked-this side code on e option known_as st =
     wished-Standing (agrees_to e.here side code) on _ _ _ _ _ _
@@ -233,7 +258,8 @@ asked-this side code on e option known_as st =
     (told-says (facing side) code e.to_there _ _ (answered_now-told e.here side code (wish_for on) option known_as))
     st
 
-asked-other : (side : Side) (code : ℕ) (s : Side) (c : ℕ) (on : Bool) (e : EnginePair) → IsElsewhere s c side code → PairStanding side code e → PairStanding side code (pair_after_ask s c on e)
+asked-other : (side : Side) (code : ℕ) (s : Side) (c : ℕ) (on : Bool) (e : EnginePair) → IsElsewhere s c side code → PairStanding side code e
+    → PairStanding side code (pair_after_ask s c on e)
 unfolding options_after_wish answer_to
 asked-other side code s c on e other st =
     same-Standing _ _ _ _ _ _ _
@@ -242,10 +268,12 @@ asked-other side code s c on e other st =
     (told-silent (facing side) code e.to_there _ (answered_now-elsewhere e.here side code s c (wish_for on) (known_option c) other))
     st
 
-asked-PairStanding : (side : Side) (code : ℕ) (option : Known) → known_option code ≡ Some option → (s : Side) (c : ℕ) (on : Bool) (e : EnginePair) → PairStanding side code e → PairStanding side code (pair_after_ask s c on e)
+asked-PairStanding : (side : Side) (code : ℕ) (option : Known) → known_option code ≡ Some option → (s : Side) (c : ℕ) (on : Bool) (e : EnginePair)
+    → PairStanding side code e → PairStanding side code (pair_after_ask s c on e)
 asked-PairStanding side code option known_as s c on e st =
     elim (side-which side code s c) [
-      | inl this ↦ subst (λ (x : Side). PairStanding side code (pair_after_ask x c on e)) (sym this.0) (subst (λ (k : ℕ). PairStanding side code (pair_after_ask side k on e)) (sym this.1) (asked-this side code on e option known_as st))
+      | inl this ↦ subst (λ (x : Side). PairStanding side code (pair_after_ask x c on e)) (sym this.0)
+          (subst (λ (k : ℕ). PairStanding side code (pair_after_ask side k on e)) (sym this.1) (asked-this side code on e option known_as st))
       | inr other ↦ asked-other side code s c on e other st
     ]
 
@@ -257,7 +285,8 @@ back-PairStanding : (side : Side) (code : ℕ) (e : EnginePair) → PairStanding
 back-PairStanding Us code e st = swapped-Standing _ _ st
 back-PairStanding Them code e st = swapped-Standing _ _ st
 
-step-PairStanding : (side : Side) (code : ℕ) (option : Known) → known_option code ≡ Some option → (next : EngineStep) (e : EnginePair) → PairStanding side code e → PairStanding side code (engine_step next e)
+step-PairStanding : (side : Side) (code : ℕ) (option : Known) → known_option code ≡ Some option → (next : EngineStep) (e : EnginePair)
+    → PairStanding side code e → PairStanding side code (engine_step next e)
 step-PairStanding side code option known_as (ask_here s c on) e st = asked-PairStanding side code option known_as s c on e st
 step-PairStanding side code option known_as (ask_there s c on) e st =
     back-PairStanding side code _ (asked-PairStanding (facing side) code option known_as s c on (turned_pair e) (turned-PairStanding side code e st))
@@ -265,7 +294,8 @@ step-PairStanding side code option known_as got_here e st = got-PairStanding sid
 step-PairStanding side code option known_as got_there e st =
     back-PairStanding side code _ (got-PairStanding (facing side) code option known_as e.to_there (turned_pair e) (turned-PairStanding side code e st) refl)
 
-steps-PairStanding : (side : Side) (code : ℕ) (option : Known) → known_option code ≡ Some option → (list : List EngineStep) (e : EnginePair) → PairStanding side code e → PairStanding side code (engine_steps list e)
+steps-PairStanding : (side : Side) (code : ℕ) (option : Known) → known_option code ≡ Some option → (list : List EngineStep) (e : EnginePair)
+    → PairStanding side code e → PairStanding side code (engine_steps list e)
 steps-PairStanding side code option known_as [] e st = st
 steps-PairStanding side code option known_as (next ∷ rest) e st =
     steps-PairStanding side code option known_as rest (engine_step next e) (step-PairStanding side code option known_as next e st)
@@ -290,6 +320,7 @@ fresh-PairStanding : (a b : Agree) (side : Side) (code : ℕ) → PairStanding s
 fresh-PairStanding a b side code =
     rw (fresh-state_of a side code, fresh-state_of b (facing side) code) (record { wishes = 0; words = 0; stands = opening-Stands })
 
-pub engines-agree : (a b : Agree) (list : List EngineStep) (side : Side) (code : ℕ) (option : Known) → known_option code ≡ Some option → EnginesAgree (engine_steps list (pair_of a b)) side code
+pub engines-agree : (a b : Agree) (list : List EngineStep) (side : Side) (code : ℕ) (option : Known) → known_option code ≡ Some option
+    → EnginesAgree (engine_steps list (pair_of a b)) side code
 engines-agree a b list side code option known_as =
     Stands-EndsAgree _ (steps-PairStanding side code option known_as list (pair_of a b) (fresh-PairStanding a b side code)).stands

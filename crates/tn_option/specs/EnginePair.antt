@@ -1,9 +1,11 @@
 -- Two ends with all their options, and the words that are on their way between them.
-use Rattle.std.specs.Prelude.{◌≡◌, ◌⊎◌, ℕ, ◌==◌, Bool, true, false, ◌&&◌, Option, None, option_to_list, Result, Ok, Err, List, [], ◌∷◌, ◌++◌}
+use Rattle.std.specs.Prelude.{◌≡◌, ◌⊎◌, ℕ, ◌==◌, Bool, true, false, ◌&&◌, Option, None, option_to_list}
+use Rattle.std.specs.Prelude.{Result, Ok, Err, List, [], ◌∷◌, ◌++◌}
 use Rattle.tn_codes.specs.OptionCodes as option_code
 use Rattle.tn_codes.specs.declared.codes.Verb.{Verb}
 use Rattle.tn_codes.specs.declared.codes.Verb.TheVariants.{Will, Wont, DoIt, DontIt}
-use Rattle.tn_option.specs.Options.{Options, new_options, options_after_word, reply_to, options_after_wish, answer_to, state_of}
+use Rattle.tn_option.specs.Options.{Options, new_options, options_after_word, reply_to, options_after_wish}
+use Rattle.tn_option.specs.Options.{answer_to, state_of}
 use Rattle.tn_option.specs.declared.negotiation.Agree.{Agree}
 use Rattle.tn_option.specs.declared.q_method.AskFault.{AskFault}
 use Rattle.tn_option.specs.declared.q_method.Side.{Side}

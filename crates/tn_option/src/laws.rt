@@ -3,7 +3,8 @@
 ghost use Rattle.std.specs.Prelude.{◌≡◌, ℕ, Bool, None, Some, List};
 ghost use Rattle.tn_codes.specs.declared.codes.Verb.{Verb};
 ghost use Rattle.tn_option.specs.QMethod.{side_of, cause_of, wish_for};
-ghost use Rattle.tn_option.specs.Options.{Options, known_option, options_after_word, options_after_wish, state_of};
+ghost use Rattle.tn_option.specs.Options.{Options, known_option, options_after_word, options_after_wish};
+ghost use Rattle.tn_option.specs.Options.{state_of};
 ghost use Rattle.tn_option.specs.Laws.{MovesByCell, LeavesOthers, AgreesAsBefore};
 ghost use Rattle.tn_option.specs.OptionWorld.{OptionStep, steps, opening_world, EndsAgree, FewWords};
 ghost use Rattle.tn_option.specs.EnginePair.{EngineStep, engine_steps, pair_of, EnginesAgree};

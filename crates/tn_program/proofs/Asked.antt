@@ -32,13 +32,15 @@ abbrev pub Counted : {M J : Type 0} → (M → JobFacts J) → (M → Option ℕ
 Counted facts left turned result options made =
     IfOk result (λ served. CountsSessions (server_of facts left options made turned) served.whole served.faulted served.refused)
 
-pub answers : {J : Type 0} (facts : Answerers → JobFacts J) (left : Answerers → Option ℕ) (turned : TcpStream → Type 0) (result : Result Served ServeFault) (options options' : SessionOptions) (ticks ticks' : ℕ) → options ≡ options' → ticks ≡ ticks'
+pub answers : {J : Type 0} (facts : Answerers → JobFacts J) (left : Answerers → Option ℕ) (turned : TcpStream → Type 0) (result : Result Served ServeFault)
+    (options options' : SessionOptions) (ticks ticks' : ℕ) → options ≡ options' → ticks ≡ ticks'
     → Counted facts left turned result options (AnswersAsAsked ticks) → Counted facts left turned result options' (AnswersAsAsked ticks')
 answers facts left turned result options options' ticks ticks' so often counted =
     subst (λ (o : SessionOptions). Counted facts left turned result o (AnswersAsAsked ticks')) so
     (subst (λ (n : ℕ). Counted facts left turned result options (AnswersAsAsked n)) often counted)
 
-pub joins : {H N J : Type 0} (facts : Joiner H N → JobFacts J) (left : Joiner H N → Option ℕ) (turned : TcpStream → Type 0) (result : Result Served ServeFault) (rt : H) (port : ℕ) (options options' : SessionOptions) (name name' : List ℕ) (ends ends' : Lines) → options ≡ options' → name ≡ name' → ends ≡ ends'
+pub joins : {H N J : Type 0} (facts : Joiner H N → JobFacts J) (left : Joiner H N → Option ℕ) (turned : TcpStream → Type 0) (result : Result Served ServeFault)
+    (rt : H) (port : ℕ) (options options' : SessionOptions) (name name' : List ℕ) (ends ends' : Lines) → options ≡ options' → name ≡ name' → ends ≡ ends'
     → Counted facts left turned result options (JoinsAsAsked rt name port ends) → Counted facts left turned result options' (JoinsAsAsked rt name' port ends')
 joins facts left turned result rt port options options' name name' ends ends' so named ended counted =
     subst (λ (o : SessionOptions). Counted facts left turned result o (JoinsAsAsked rt name' port ends')) so
@@ -46,13 +48,15 @@ joins facts left turned result rt port options options' name name' ends ends' so
     (subst (λ (e : Lines). Counted facts left turned result options (JoinsAsAsked rt name port e)) ended counted))
 
 -- the file that was asked for was seen, and no other
-pub seen : {H : Type 0} (sees : H → List ℕ → Type 0) (rt : H) (until : Option (AtFile H)) (path : Option (List ℕ)) → IfSome until (λ at. at.rt ≡ rt) → option_map (λ at. string_bytes at.path) until ≡ path
+pub seen : {H : Type 0} (sees : H → List ℕ → Type 0) (rt : H) (until : Option (AtFile H)) (path : Option (List ℕ)) → IfSome until (λ at. at.rt ≡ rt)
+    → option_map (λ at. string_bytes at.path) until ≡ path
     → IfAny (λ at. sees at.rt (string_bytes at.path)) until → IfAny (sees rt) path
 seen sees rt None path same is any = absurd any
 seen {H} sees rt (Some at) path same is any =
     subst (IfAny (sees rt)) is (subst (λ (h : H). sees h (string_bytes at.path)) same any)
 
-pub served : (result : Result Served ServeFault) (count count' : ℕ) (told told' : Type 0) → count ≡ count' → (told → told') → IfOk result (ServesUntil count told) → IfOk result (ServesUntil count' told')
+pub served : (result : Result Served ServeFault) (count count' : ℕ) (told told' : Type 0) → count ≡ count' → (told → told')
+    → IfOk result (ServesUntil count told) → IfOk result (ServesUntil count' told')
 served (Ok done) count count' told told' is so (inl all) = inl (all ∙ is)
 served (Ok done) count count' told told' is so (inr few) = inr (subst (λ (n : ℕ). done.accepted ≤ n) is few.0, so few.1)
 served (Err fault) count count' told told' is so all = tt

@@ -43,7 +43,8 @@ unconnected connect.Memory zero = omega (arith, zero)
 
 -- the run that was asked for
 
-ran : (machine : Machine) (a : Asked) (origin : Origin) (bytes : Option (List ℕ)) (old new : Option (List ℕ)) (came : Outcome) → ComesOfRun machine a origin bytes old new came
+ran : (machine : Machine) (a : Asked) (origin : Origin) (bytes : Option (List ℕ)) (old new : Option (List ℕ)) (came : Outcome)
+    → ComesOfRun machine a origin bytes old new came
     → status_of came ≡ 0 → RunsAsked machine a origin bytes old new
 ran machine a origin bytes old new (outcome.Local (Ok done)) (e, ends) zero = subst (λ a. RunsAsked machine a origin bytes old new) (sym e) ends.run.ok
 ran machine a origin bytes old new (outcome.Local (Err f)) h zero = absurd (faulted f zero)

@@ -7,7 +7,8 @@ use Rattle.std.specs.declared.net.tcp.TcpListener.{TcpListener}
 use Rattle.std.specs.declared.net.tcp.TcpStream.{TcpStream}
 use Rattle.tn_network.specs.Asked.{Asking, asking}
 
--- What is known of one machine: what each call of its network gives evidence of, and at which paths a file was seen.
+-- What is known of one machine: what each call of its network gives evidence of, and at which paths a file
+-- was seen.
 pub record Machine : Type 1 where
   pub network : Asking
   pub sees : List ℕ → Type 0

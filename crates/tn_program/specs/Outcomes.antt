@@ -1,5 +1,6 @@
 -- What comes of the words of a command line.
-use Rattle.std.specs.Prelude.{◌≡◌, ◌≢◌, ◌⊎◌, ⊤, ℕ, Option, Some, None, Result, Err, OnOk, OnErr, IfOk, IfErr, IsErrOf, List, option_map, string_bytes}
+use Rattle.std.specs.Prelude.{◌≡◌, ◌≢◌, ◌⊎◌, ⊤, ℕ, Option, Some, None, Result, Err, OnOk, OnErr, IfOk, IfErr}
+use Rattle.std.specs.Prelude.{IsErrOf, List, option_map, string_bytes}
 use Rattle.std.specs.Io.KnownBytes.{Appends}
 use Rattle.tn_cli.specs.Ends.{EndsDecode, EndsLocal, EndsReplay, EndsWorld}
 use Rattle.tn_cli.specs.declared.fault.CliFault.{CliFault}
@@ -37,27 +38,32 @@ pub record EndsServing (machine : Machine) (serving : Serving) (ended : Result S
     (old new : Option (List ℕ)) : Type 0 where
   pub all : IfOk ended (ServesUntil (count_as serving.count)
       (IfAny machine.sees (option_map string_bytes serving.until)))
-  pub listened : UnlessMemory ended (Listens (machine.network.listens (string_bytes serving.host) serving.port)
+  pub listened : UnlessMemory ended (Listens
+      (machine.network.listens (string_bytes serving.host) serving.port)
       machine.network.shares machine.network.accepts (λ (served : Served). served.accepted) ended)
   pub limit : IsErrOf ended serve.Limit → ¬ IsLimit serving.sessions
   pub unwritten : new ≡ old
 
 -- What came of connecting.
-pub record EndsConnecting (machine : Machine) (connecting : Connecting) (ended : Result Connected ConnectFault) (input : KnownTyping)
+pub record EndsConnecting (machine : Machine) (connecting : Connecting)
+    (ended : Result Connected ConnectFault) (input : KnownTyping)
     (old new : Option (List ℕ)) : Type 0 where
   pub telnet : connecting.plain ≡ None
   pub ran : IfOk ended (RunsClient (window_as connecting) input old new)
   pub whole : IfOk ended (λ r. EndsWhole r.report.ended)
-  pub reached : ConnectsBy connection_of (Reaches (machine.network.finds (string_bytes connecting.host) connecting.port) machine.network.dials) ended
+  pub reached : ConnectsBy connection_of (Reaches
+      (machine.network.finds (string_bytes connecting.host) connecting.port) machine.network.dials) ended
   pub unwritten : OnErr ended (ended ≢ Err connect.Session → new ≡ old)
 
 -- What came of a talk with a service that takes lines.
-pub record EndsTalking (machine : Machine) (connecting : Connecting) (ended : Result TalkReport ConnectFault) (origin : Origin)
+pub record EndsTalking (machine : Machine) (connecting : Connecting) (ended : Result TalkReport ConnectFault)
+    (origin : Origin)
     (bytes old new : Option (List ℕ)) : Type 0 where
   pub line_end : LineEnd
   pub plain : connecting.plain ≡ Some line_end
   pub ran : IfOk ended (RunsTalk (plain_as connecting line_end origin) bytes old new)
-  pub reached : ConnectsBy talked_over (Reaches (machine.network.finds (string_bytes connecting.host) connecting.port) machine.network.dials) ended
+  pub reached : ConnectsBy talked_over (Reaches
+      (machine.network.finds (string_bytes connecting.host) connecting.port) machine.network.dials) ended
 
 -- What came of writing the help.
 pub record EndsHelp (ended : Result ⊤ CliFault) (old new : Option (List ℕ)) : Type 0 where
@@ -70,12 +76,16 @@ pub record EndsVersion (ended : Result ⊤ CliFault) (old new : Option (List ℕ
   pub fault : IfErr ended (λ f. f ≡ fault.Write)
 
 -- what was asked for was run, and this came of it
-abbrev pub ComesOfRun : Machine → Asked → Origin → Option (List ℕ) → Option (List ℕ) → Option (List ℕ) → Outcome → Type 0
-ComesOfRun machine a origin bytes old new (outcome.Local ended) = (a ≡ asked.Local) × EndsLocal ended bytes old new
-ComesOfRun machine a origin bytes old new (outcome.Replay ended) = (a ≡ asked.Replay) × EndsReplay ended bytes old new
+abbrev pub ComesOfRun : Machine → Asked → Origin → Option (List ℕ) → Option (List ℕ) → Option (List ℕ)
+    → Outcome → Type 0
+ComesOfRun machine a origin bytes old new (outcome.Local ended) =
+    (a ≡ asked.Local) × EndsLocal ended bytes old new
+ComesOfRun machine a origin bytes old new (outcome.Replay ended) =
+    (a ≡ asked.Replay) × EndsReplay ended bytes old new
 ComesOfRun machine a origin bytes old new (outcome.Decode ended) =
     (a ≡ asked.Decode) × ((rest : Option (List ℕ)) × EndsDecode ended bytes rest old new)
-ComesOfRun machine a origin bytes old new (outcome.World ended) = (a ≡ asked.World) × EndsWorld ended bytes old new
+ComesOfRun machine a origin bytes old new (outcome.World ended) =
+    (a ≡ asked.World) × EndsWorld ended bytes old new
 ComesOfRun machine a origin bytes old new (outcome.Served ended) =
     (serving : Serving) × (a ≡ asked.Serve serving) × EndsServing machine serving ended old new
 ComesOfRun machine a origin bytes old new (outcome.Connected ended) =
@@ -109,9 +119,11 @@ ComesOfNoRun words old new (outcome.Talked ended) = ⊥
 ComesOfNoRun words old new outcome.Untraced = ⊥
 
 -- this came of the words: the run that they ask for, or none
-abbrev pub ComesOf : Machine → List (List ℕ) → Origin → Option (List ℕ) → Option (List ℕ) → Option (List ℕ) → Outcome → Type 0
+abbrev pub ComesOf : Machine → List (List ℕ) → Origin → Option (List ℕ) → Option (List ℕ) → Option (List ℕ)
+    → Outcome → Type 0
 ComesOf machine words origin bytes old new came =
-    ((a : Asked) × AskFor words a × ComesOfRun machine a origin bytes old new came) ⊎ ComesOfNoRun words old new came
+    ((a : Asked) × AskFor words a × ComesOfRun machine a origin bytes old new came)
+    ⊎ ComesOfNoRun words old new came
 
 -- the status of what came of the words, of which this was told
 abbrev pub EndsWith : Machine → List (List ℕ) → Origin → Option (List ℕ) → Option (List ℕ) → Option (List ℕ)

@@ -1,5 +1,6 @@
 -- What a run of the program writes.
-use Rattle.std.specs.Prelude.{◌≡◌, ℕ, ◌⊎◌, Option, None, Some, IfSome, List, Result, Ok, option_map, string_bytes}
+use Rattle.std.specs.Prelude.{◌≡◌, ℕ, ◌⊎◌, Option, None, Some, IfSome, List, Result, Ok, option_map}
+use Rattle.std.specs.Prelude.{string_bytes}
 use Rattle.std.specs.Io.KnownBytes.{Appends}
 use Rattle.tn_cli.specs.Decode.{Decodes}
 use Rattle.tn_cli.specs.Playing.{PlaysScript}
@@ -34,8 +35,9 @@ abbrev talked : TalkReport → Result TalkReport ConnectFault
 talked report = Ok report
 
 -- Where the reader tells its bytes and the writer what it holds, the run has appended what was asked for.
--- Where it served, as many connections were accepted as were asked for, or the file was seen, and nothing was written; where it
--- connected, a client's session ran with these keys and this screen, and ended in no fault, or a talk was held.
+-- Where it served, as many connections were accepted as were asked for, or the file was seen, and nothing was
+-- written; where it connected, a client's session ran with these keys and this screen, and ended in no fault,
+-- or a talk was held.
 abbrev pub RunsAsked : Machine → Asked → Origin → Option (List ℕ) → Option (List ℕ) → Option (List ℕ) → Type 0
 RunsAsked machine Local origin bytes old new = IfSome bytes (λ keys. PrintsKeys keys old new)
 RunsAsked machine Replay origin bytes old new = IfSome bytes (λ stream. Replays stream old new)
@@ -43,18 +45,23 @@ RunsAsked machine Decode origin bytes old new = IfSome bytes (λ stream. Decodes
 RunsAsked machine World origin bytes old new = IfSome bytes (λ script. PlaysScript script old new)
 RunsAsked machine (Serve serving) origin bytes old new = (served : Served)
     × ServesUntil (count_as serving.count) (IfAny machine.sees (option_map string_bytes serving.until)) served
-    × Listens (machine.network.listens (string_bytes serving.host) serving.port) machine.network.shares machine.network.accepts
+    × Listens (machine.network.listens (string_bytes serving.host) serving.port) machine.network.shares
+    machine.network.accepts
     (λ (served : Served). served.accepted) (ok served) × (new ≡ old)
 RunsAsked machine (Connect connecting) origin bytes old new =
     ((connected : Connected) × (connecting.plain ≡ None)
-    × RunsClient (window_as connecting) (foreseen origin bytes) old new connected × EndsWhole connected.report.ended
-    × ConnectsBy connection_of (Reaches (machine.network.finds (string_bytes connecting.host) connecting.port) machine.network.dials) (ran connected))
+    × RunsClient (window_as connecting) (foreseen origin bytes) old new connected
+    × EndsWhole connected.report.ended
+    × ConnectsBy connection_of (Reaches (machine.network.finds (string_bytes connecting.host) connecting.port)
+    machine.network.dials) (ran connected))
     ⊎ ((line_end : LineEnd) × (report : TalkReport) × (connecting.plain ≡ Some line_end)
     × RunsTalk (plain_as connecting line_end origin) bytes old new report
-    × ConnectsBy talked_over (Reaches (machine.network.finds (string_bytes connecting.host) connecting.port) machine.network.dials) (talked report))
+    × ConnectsBy talked_over (Reaches (machine.network.finds (string_bytes connecting.host) connecting.port)
+    machine.network.dials) (talked report))
 
 -- the run that the words ask for, or some text where they ask for help, or the version
-abbrev pub DoesAsAsked : Machine → List (List ℕ) → Origin → Option (List ℕ) → Option (List ℕ) → Option (List ℕ) → Type 0
+abbrev pub DoesAsAsked : Machine → List (List ℕ) → Origin → Option (List ℕ) → Option (List ℕ)
+    → Option (List ℕ) → Type 0
 DoesAsAsked machine words origin bytes old new =
     ((asked : Asked) × AskFor words asked × RunsAsked machine asked origin bytes old new)
     ⊎ (AsksForHelp words × ((help : List ℕ) × Appends old new help))

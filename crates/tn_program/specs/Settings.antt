@@ -1,5 +1,6 @@
 -- What was asked for, as sessions over connections take it.
-use Rattle.std.specs.Prelude.{◌≡◌, ℕ, Bool, true, false, Option, None, Some, IsSome, unwrap_or, List, Result, Ok, Err, string_bytes}
+use Rattle.std.specs.Prelude.{◌≡◌, ℕ, Bool, true, false, Option, None, Some, IsSome, unwrap_or, List, Result}
+use Rattle.std.specs.Prelude.{Ok, Err, string_bytes}
 use Rattle.tn_services.specs.declared.answerers.Answerers.{Answerers}
 use Rattle.tn_services.specs.declared.cutting.Lines.{Lines}
 use Rattle.tn_services.specs.declared.dialing.Joiner.{Joiner}
@@ -57,7 +58,8 @@ lines_as asked =
     }
 
 -- the jobs are still to be joined, over this network, to the service at this host and port, where lines go so
-pub record JoinsAsAsked {H N : Type 0} (network : H) (name : List ℕ) (number : ℕ) (so : Lines) (jobs : Joiner H N)
+pub record JoinsAsAsked {H N : Type 0} (network : H) (name : List ℕ) (number : ℕ) (so : Lines)
+    (jobs : Joiner H N)
     : Type 0 where
   pub new : IsSome jobs.hook
   pub rt : jobs.rt ≡ network

@@ -1,5 +1,6 @@
 -- What is told on standard error of what came of the words.
-use Rattle.std.specs.Prelude.{◌≡◌, ◌≢◌, ◌⊎◌, ⊤, ℕ, ◌==◌, ◌||◌, decimal, if◌then◌else◌, not, Bool, true, false, Option, Some, None, List, [], ◌∷◌, ◌++◌, Result, Ok, Err, codes, string_bytes}
+use Rattle.std.specs.Prelude.{◌≡◌, ◌≢◌, ◌⊎◌, ⊤, ℕ, ◌==◌, ◌||◌, decimal, if◌then◌else◌, not, Bool, true, false}
+use Rattle.std.specs.Prelude.{Option, Some, None, List, [], ◌∷◌, ◌++◌, Result, Ok, Err, codes, string_bytes}
 use Rattle.tn_cli.specs.declared.fault.CliFault.{CliFault}
 use Rattle.tn_cli.specs.declared.fault.CliFault.TheVariants as run
 use Rattle.tn_cli.specs.declared.unprinted.Dropped.{Dropped}
@@ -183,8 +184,10 @@ IsConnecting (outcome.Version ended) = ⊥
 IsConnecting (outcome.Usage detail) = ⊥
 IsConnecting outcome.Memory = ⊥
 
--- A writer that was told all of it, from the first state to the last; only a server and a client told something before.
+-- A writer that was told all of it, from the first state to the last; only a server and a client told
+-- something before.
 abbrev pub IsTold : {E : Type 0} → (E → Option (List ℕ)) → (E → Option Calls) → E → E → Outcome → Type 0
 IsTold {E} contents told old new came =
-    (between : E) × (causes : List ℕ) × UnlessTelling came (between ≡ old) × UnlessConnected came (causes ≡ [])
+    (between : E) × (causes : List ℕ) × UnlessTelling came (between ≡ old)
+    × UnlessConnected came (causes ≡ [])
     × TellsAll came causes (known_writing contents told between new)

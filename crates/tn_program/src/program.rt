@@ -29,8 +29,8 @@ const TRACE_MODE: u32 = 0o600;
 
 /// Runs what the words of the command line ask for, where they could be read. The program's name is the
 /// first of them. Returns the status to end with: 0 where that was done, and else the status of its fault
-/// (`EndsWith`). A fault is told in one line on `errors`, and behind it what is wrong with words, or why; what
-/// cannot be written is dropped. Of a seat at standard input nothing is known beforehand.
+/// (`EndsWith`). A fault is told in one line on `errors`, and behind it what is wrong with words, or why;
+/// what cannot be written is dropped. Of a seat at standard input nothing is known beforehand.
 pub fn run_words<
     H: Network + Host + Lookout + Files<File = File>,
     R: Read + Drop + Send + 'static,
@@ -134,9 +134,19 @@ fn run_strings<
     ensures quiet { UnlessTelling result (errors.new ≡ errors.old) }
     ensures uncaused { UnlessConnected result (causes.new.items ≡ causes.old.items) }
 {
-    match texts_of(alloc, words) {
-        Ok(texts) => run_texts(rt, alloc, &texts, seat, writer, errors, causes),
-        Err(_) => Outcome::Memory,
+    let texts = match texts_of(alloc, words) {
+        Ok(texts) => texts,
+        Err(_) => return Outcome::Memory,
+    };
+    match read_words(alloc, &texts) {
+        Ok(asked) => return run_asked(rt, alloc, asked, seat, writer, errors, causes),
+        Err(WordsFault::Help(text)) => {
+            let written = writer.write_all(text.as_bytes());
+            return Outcome::Help(written.map_err(|_| CliFault::Write));
+        },
+        Err(WordsFault::Version) => return Outcome::Version(write_version(writer)),
+        Err(WordsFault::Memory) => return Outcome::Memory,
+        Err(WordsFault::Usage(detail)) => return Outcome::Usage(Some(detail)),
     }
 }
 
@@ -148,39 +158,6 @@ fn texts_of<'a>(alloc: Global, words: &'a [String]) -> Result<Vec<&'a str>, Allo
         texts.push(word.as_str())?;
     }
     Ok(texts)
-}
-
-fn run_texts<
-    H: Network + Host + Lookout + Files<File = File>,
-    R: Read + Drop + Send + 'static,
-    W: Write,
-    E: Drain,
->(
-    rt: H,
-    alloc: Global,
-    words: &[&str],
-    seat: Seat<R>,
-    writer: &mut W,
-    errors: &mut E,
-    causes: &mut Vec<u8>,
-) -> Outcome
-    ensures comes { ComesOf
-        (machine_of (H.listens rt) (H.shares rt) (H.accepts rt) (H.finds rt) (H.dials rt) (H.sees rt))
-        (map (λ word. word.now) words.now) seat.origin (R.remaining seat.reader)
-        (W.contents writer.old) (W.contents writer.new) result }
-    ensures quiet { UnlessTelling result (errors.new ≡ errors.old) }
-    ensures uncaused { UnlessConnected result (causes.new.items ≡ causes.old.items) }
-{
-    match read_words(alloc, words) {
-        Ok(asked) => return run_asked(rt, alloc, asked, seat, writer, errors, causes),
-        Err(WordsFault::Help(text)) => {
-            let written = writer.write_all(text.as_bytes());
-            return Outcome::Help(written.map_err(|_| CliFault::Write));
-        },
-        Err(WordsFault::Version) => return Outcome::Version(write_version(writer)),
-        Err(WordsFault::Memory) => return Outcome::Memory,
-        Err(WordsFault::Usage(detail)) => return Outcome::Usage(Some(detail)),
-    }
 }
 
 fn write_version<W: Write>(writer: &mut W) -> Result<(), CliFault>
@@ -222,35 +199,10 @@ fn run_asked<
             let served = serve_asked(rt, alloc, &asked, &mut Lines(errors), causes);
             Outcome::Served(served)
         },
-        Asked::Connect(asked) => run_connecting(rt, alloc, asked, seat, writer, errors, causes),
-    }
-}
-
-// A client's session, or a talk with a service that takes lines.
-fn run_connecting<
-    H: Network + Host + Lookout + Files<File = File>,
-    R: Read + Drop + Send + 'static,
-    W: Write,
-    E: Drain,
->(
-    rt: H,
-    alloc: Global,
-    asked: Connecting,
-    seat: Seat<R>,
-    writer: &mut W,
-    errors: &mut E,
-    causes: &mut Vec<u8>,
-) -> Outcome
-    ensures comes { ComesOfRun
-        (machine_of (H.listens rt) (H.shares rt) (H.accepts rt) (H.finds rt) (H.dials rt) (H.sees rt))
-        (Asked.Connect asked) seat.origin (R.remaining seat.reader)
-        (W.contents writer.old) (W.contents writer.new) result }
-    ensures connects { IsConnecting result }
-    ensures quiet { UnlessTelling result (errors.new ≡ errors.old) }
-{
-    match asked.plain {
-        Some(line_end) => run_plain(rt, alloc, &asked, line_end, seat, writer, errors, causes),
-        None => run_connect(rt, alloc, asked, seat, writer, errors, causes),
+        Asked::Connect(asked) => match asked.plain {
+            Some(line_end) => run_plain(rt, alloc, &asked, line_end, seat, writer, errors, causes),
+            None => run_connect(rt, alloc, asked, seat, writer, errors, causes),
+        },
     }
 }
 

@@ -8,8 +8,8 @@ use std::sync::Arc;
 use tn_connect::{Link, Origin};
 
 /// A reader, where its bytes come from, what tells the sizes of the window in which they are typed, what is
-/// told once the connection that they are for stands, the terminal that they are typed at, and that connection, as the
-/// screen has it.
+/// told once the connection that they are for stands, the terminal that they are typed at, and that
+/// connection, as the screen has it.
 #[derive(Drop)]
 pub struct Seat<R> {
     pub origin: Origin,

@@ -6,7 +6,8 @@ ghost use Rattle.tn_serve.specs.Counted.{CountsSessions, facts_of, server_of};
 ghost use Rattle.tn_serve.specs.Ends.{IfAny, ServesUntil};
 ghost use Rattle.tn_serve.specs.Services.{WasTurnedAway};
 ghost use Rattle.tn_network.specs.Asked.{Listens};
-ghost use Rattle.tn_program.specs.Settings.{AnswersAsAsked, JoinsAsAsked, UnlessMemory, count_as, lines_as, options_as};
+ghost use Rattle.tn_program.specs.Settings.{AnswersAsAsked, JoinsAsAsked, UnlessMemory, count_as, lines_as};
+ghost use Rattle.tn_program.specs.Settings.{options_as};
 ghost use Rattle.tn_roster.specs.Held.{IsLimit};
 
 use crate::settings::{answering_of, lines_of, serving_of};
@@ -34,7 +35,8 @@ where
     E: Write,
     ensures all { IfOk result (ServesUntil (count_as asked.now.count)
         (IfAny (H.sees rt) (option_map string_bytes asked.now.until))) }
-    ensures listened { UnlessMemory result (Listens (H.listens rt (string_bytes asked.now.host) asked.now.port)
+    ensures listened { UnlessMemory result (Listens
+        (H.listens rt (string_bytes asked.now.host) asked.now.port)
         (H.shares rt) (H.accepts rt) (λ (served : Served). served.accepted) result) }
     ensures caused { IsCaused (H.listens rt (string_bytes asked.now.host) asked.now.port)
         causes.old.items causes.new.items result }

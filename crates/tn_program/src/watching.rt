@@ -6,8 +6,8 @@ use std::fs;
 use std::fs::{File, Files};
 use tn_serve::Until;
 
-/// A machine whose files can be looked for. The relation holds of a path at which a file was seen; nothing else gives
-/// it. A thread may rest on this trait: it names no types of the files.
+/// A machine whose files can be looked for. The relation holds of a path at which a file was seen; nothing
+/// else gives it. A thread may rest on this trait: it names no types of the files.
 pub trait Lookout {
     ghost use Rattle.std.specs.Prelude.{ℕ, List};
 

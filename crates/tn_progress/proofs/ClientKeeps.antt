@@ -1,8 +1,13 @@
 -- What holds of each state that a client's session can reach, and that each step keeps it.
 use Rattle.std.proofs.Common.{arith, ◌≡◌, ℕ, ◌+◌, ◌*◌, ◌<◌, ◌≤◌, Bool, true, false, ◌||◌, inl, inr, sym, ap, subst}
 use Rattle.tn_progress.specs.Server.{one, nothing_comes, no_memory}
-use Rattle.tn_progress.specs.Client.{Net, reading, net_hands, net_tells, net_leaves, net_gone, Keys, held, typing, keys_hands, looking, keys_tells, keys_leaves, keys_gone, Core, receiving, putting, showing, closing, joining, ended, Sending, taking, sends, discards, sent_all, Kind, keys, piece, ending, keys_ending, refusal, net_left, keys_left, State, Sizes, waiting_mails, count_of, put}
-use Rattle.tn_progress.specs.ClientSteps.{Own, hands_piece, tells_end, leaves_net, may_read, sees_end, hands_keys, goes_on_reading, is_stopped, tells_keys_end, leaves_keys, handles, puts, puts_in_vain, puts_end, puts_end_in_vain, closes, joins, finishes, takes_write, takes_end, drops_write, drops_end, Outer, brings, is_read_out, types, ends_typing, shows, is_sent, breaks, is_given_up, MayGo, gone_on, MayBeLet, let_on, handled, behind, Reached, at_start, goes_on, let_go}
+use Rattle.tn_progress.specs.Client.{Net, reading, net_hands, net_tells, net_leaves, net_gone, Keys, held, typing, keys_hands, looking, keys_tells, keys_leaves}
+use Rattle.tn_progress.specs.Client.{keys_gone, Core, receiving, putting, showing, closing, joining, ended, Sending, taking, sends, discards, sent_all, Kind}
+use Rattle.tn_progress.specs.Client.{keys, piece, ending, keys_ending, refusal, net_left, keys_left, State, Sizes, waiting_mails, count_of, put}
+use Rattle.tn_progress.specs.ClientSteps.{Own, hands_piece, tells_end, leaves_net, may_read, sees_end, hands_keys, goes_on_reading, is_stopped, tells_keys_end}
+use Rattle.tn_progress.specs.ClientSteps.{leaves_keys, handles, puts, puts_in_vain, puts_end, puts_end_in_vain, closes, joins, finishes, takes_write, takes_end}
+use Rattle.tn_progress.specs.ClientSteps.{drops_write, drops_end, Outer, brings, is_read_out, types, ends_typing, shows, is_sent, breaks, is_given_up, MayGo}
+use Rattle.tn_progress.specs.ClientSteps.{gone_on, MayBeLet, let_on, handled, behind, Reached, at_start, goes_on, let_go}
 
 abbrev pub net_gone_in : Net → ℕ
 net_gone_in net_gone = 1

@@ -1,8 +1,12 @@
 -- Each step that a thread of a client's session makes by itself is one towards where nothing goes on by itself.
 use Rattle.std.proofs.Common.{arith, ℕ, ◌+◌, ◌*◌, ◌<◌, ◌≤◌, Bool, true, false, inl, inr, sym, ap, subst}
 use Rattle.tn_progress.specs.Server.{nothing_comes, no_memory}
-use Rattle.tn_progress.specs.Client.{Net, reading, net_hands, net_tells, net_leaves, net_gone, Keys, held, typing, keys_hands, looking, keys_tells, keys_leaves, keys_gone, Core, receiving, putting, showing, closing, joining, ended, Sending, taking, sends, discards, sent_all, Kind, keys, piece, ending, keys_ending, refusal, net_left, keys_left, State, Sizes, waiting_mails, count_of, put}
-use Rattle.tn_progress.specs.ClientSteps.{Own, hands_piece, tells_end, leaves_net, may_read, sees_end, hands_keys, goes_on_reading, is_stopped, tells_keys_end, leaves_keys, handles, puts, puts_in_vain, puts_end, puts_end_in_vain, closes, joins, finishes, takes_write, takes_end, drops_write, drops_end, MayGo, gone_on, handled, Reached, ComesToRest, Alone, no_step, one_more}
+use Rattle.tn_progress.specs.Client.{Net, reading, net_hands, net_tells, net_leaves, net_gone, Keys, held, typing, keys_hands, looking, keys_tells, keys_leaves}
+use Rattle.tn_progress.specs.Client.{keys_gone, Core, receiving, putting, showing, closing, joining, ended, Sending, taking, sends, discards, sent_all, Kind}
+use Rattle.tn_progress.specs.Client.{keys, piece, ending, keys_ending, refusal, net_left, keys_left, State, Sizes, waiting_mails, count_of, put}
+use Rattle.tn_progress.specs.ClientSteps.{Own, hands_piece, tells_end, leaves_net, may_read, sees_end, hands_keys, goes_on_reading, is_stopped, tells_keys_end}
+use Rattle.tn_progress.specs.ClientSteps.{leaves_keys, handles, puts, puts_in_vain, puts_end, puts_end_in_vain, closes, joins, finishes, takes_write, takes_end}
+use Rattle.tn_progress.specs.ClientSteps.{drops_write, drops_end, MayGo, gone_on, handled, Reached, ComesToRest, Alone, no_step, one_more}
 use Rattle.tn_progress.proofs.ClientKeeps.{holds}
 
 abbrev pub net_size : Net → ℕ
@@ -78,7 +82,8 @@ smaller sizes leaves_keys s (at, some) = let a = ap keys_size at in grind arith
 smaller sizes (handles true refused kind) s (at, _, some, _) =
     subst (λ (c : Core). size (handled true refused kind (record s { core = c })) < size (record s { core = c })) (sym at) (by_message true refused kind s some)
 smaller sizes (handles false refused kind) s (at, _, some) =
-    subst (λ (c : Core). size (handled false refused kind (record s { core = c })) < size (record s { core = c })) (sym at) (by_message false refused kind s some)
+    subst (λ (c : Core). size (handled false refused kind (record s { core = c })) < size (record s { core = c })) (sym at)
+    (by_message false refused kind s some)
 smaller sizes puts s (at, some) = let a = ap core_size at in grind arith
 smaller sizes puts_in_vain s (at, _) = let a = ap core_size at in grind arith
 smaller sizes puts_end s (at, _, put) = let a = ap core_size at in let b = ap unput put in grind arith

@@ -1,8 +1,14 @@
 -- A client's session goes on by itself, or waits for the network, the user or the screen.
 use Rattle.std.proofs.Common.{arith, ◌≡◌, ◌≢◌, ℕ, zero, suc, ◌+◌, ◌<◌, ◌≤◌, Bool, true, false, ◌⊎◌, inl, inr, refl, ap, subst}
 use Rattle.tn_progress.specs.Server.{one}
-use Rattle.tn_progress.specs.Client.{Net, reading, net_hands, net_tells, net_leaves, net_gone, Keys, held, typing, keys_hands, looking, keys_tells, keys_leaves, keys_gone, Core, receiving, putting, showing, closing, joining, ended, Sending, taking, sends, discards, sent_all, Box, Kind, keys, piece, ending, keys_ending, refusal, net_left, keys_left, State, Sizes, HasRoom, HasPlace, waiting_mails, count_of, busy, unsent}
-use Rattle.tn_progress.specs.ClientSteps.{Own, hands_piece, tells_end, leaves_net, may_read, sees_end, hands_keys, goes_on_reading, is_stopped, tells_keys_end, leaves_keys, handles, puts, puts_in_vain, puts_end, puts_end_in_vain, closes, joins, finishes, takes_write, takes_end, drops_write, drops_end, Outer, brings, types, shows, is_sent, MayGo, gone_on, MayBeLet, let_on, Goes, IsLet, WaitsFor, for_network, for_user, for_screen, for_sending, NeverGetsStuck}
+use Rattle.tn_progress.specs.Client.{Net, reading, net_hands, net_tells, net_leaves, net_gone, Keys, held, typing, keys_hands, looking, keys_tells, keys_leaves}
+use Rattle.tn_progress.specs.Client.{keys_gone, Core, receiving, putting, showing, closing, joining, ended, Sending, taking, sends, discards, sent_all, Box}
+use Rattle.tn_progress.specs.Client.{Kind, keys, piece, ending, keys_ending, refusal, net_left, keys_left, State, Sizes, HasRoom, HasPlace, waiting_mails}
+use Rattle.tn_progress.specs.Client.{count_of, busy, unsent}
+use Rattle.tn_progress.specs.ClientSteps.{Own, hands_piece, tells_end, leaves_net, may_read, sees_end, hands_keys, goes_on_reading, is_stopped, tells_keys_end}
+use Rattle.tn_progress.specs.ClientSteps.{leaves_keys, handles, puts, puts_in_vain, puts_end, puts_end_in_vain, closes, joins, finishes, takes_write, takes_end}
+use Rattle.tn_progress.specs.ClientSteps.{drops_write, drops_end, Outer, brings, types, shows, is_sent, MayGo, gone_on, MayBeLet, let_on, Goes, IsLet, WaitsFor}
+use Rattle.tn_progress.specs.ClientSteps.{for_network, for_user, for_screen, for_sending, NeverGetsStuck}
 use Rattle.tn_progress.proofs.ClientKeeps.{Holds, holds, net_gone_in, keys_gone_in, all_sent}
 
 abbrev DoesNotGetStuck : Sizes → State → Type 0
@@ -27,7 +33,8 @@ le_or_lt (suc a) (suc b) = by (le_or_lt a b)
 mail_or_room : (box : Box) → ((kind : Kind) × (0 < count_of kind box)) ⊎ (waiting_mails box ≡ 0)
 mail_or_room box = by box.keys box.pieces box.endings box.keys_endings box.refusals box.net_left box.keys_left refl refl refl refl refl refl refl
   where
-    by : (a b c d e f g : ℕ) → box.keys ≡ a → box.pieces ≡ b → box.endings ≡ c → box.keys_endings ≡ d → box.refusals ≡ e → box.net_left ≡ f → box.keys_left ≡ g → ((kind : Kind) × (0 < count_of kind box)) ⊎ (waiting_mails box ≡ 0)
+    by : (a b c d e f g : ℕ) → box.keys ≡ a → box.pieces ≡ b → box.endings ≡ c → box.keys_endings ≡ d → box.refusals ≡ e → box.net_left ≡ f → box.keys_left ≡ g
+        → ((kind : Kind) × (0 < count_of kind box)) ⊎ (waiting_mails box ≡ 0)
     by (suc a) b c d e f g p q r s t u v = inl (keys, omega arith)
     by zero (suc b) c d e f g p q r s t u v = inl (piece, omega arith)
     by zero zero (suc c) d e f g p q r s t u v = inl (ending, omega arith)
@@ -164,13 +171,15 @@ finishing sizes s discards zero zero h at e f g =
     absurd (let i = subst (λ (c : Core). Holds sizes (record s { core = c })) at h in let a = ap all_sent e in grind arith)
 
 closing_on : (sizes : Sizes) (s : State) (is_put : Bool) → 0 < sizes.queue → Holds sizes s → s.core ≡ closing → s.is_put ≡ is_put → DoesNotGetStuck sizes s
-closing_on sizes s false place h at p = by_place sizes s place (λ free. goes_by sizes s puts_end (at, free, p)) (λ all. goes_by sizes s puts_end_in_vain (at, all, p))
+closing_on sizes s false place h at p = by_place sizes s place (λ free. goes_by sizes s puts_end (at, free, p))
+    (λ all. goes_by sizes s puts_end_in_vain (at, all, p))
 closing_on sizes s true place h at p =
     absurd (let i = subst (λ (c : Core). Holds sizes (record s { core = c })) at h in let a = ap one p in grind arith)
 
 by_core : (sizes : Sizes) (s : State) (c : Core) → 0 < sizes.mails → 0 < sizes.queue → Holds sizes s → s.core ≡ c → s.core ≢ ended → DoesNotGetStuck sizes s
 by_core sizes s receiving some place h at on = by_lefts sizes s s.lefts s.is_put some h at refl refl
-by_core sizes s putting some place h at on = by_place sizes s place (λ free. goes_by sizes s puts (at, free)) (λ all. goes_by sizes s puts_in_vain (at, inl all))
+by_core sizes s putting some place h at on = by_place sizes s place (λ free. goes_by sizes s puts (at, free))
+    (λ all. goes_by sizes s puts_in_vain (at, inl all))
 by_core sizes s showing some place h at on = let_by sizes s (shows false) at (for_screen at)
 by_core sizes s closing some place h at on = closing_on sizes s s.is_put place h at refl
 by_core sizes s joining some place h at on = finishing sizes s s.sending s.writes s.ends h at refl refl refl

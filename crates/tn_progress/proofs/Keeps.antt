@@ -1,8 +1,15 @@
 -- Each step of a server's session keeps what holds.
 use Rattle.std.proofs.Common.{arith, ◌≡◌, ℕ, zero, suc, ◌+◌, ◌<◌, ◌≤◌, Bool, true, false, ◌||◌, refl, sym, subst}
 use Rattle.tn_progress.proofs.Invariant.{Holds, many}
-use Rattle.tn_progress.specs.Server.{one, nothing_comes, no_memory, Net, reading, holding, handing, net_tells, net_leaves, is_done, is_refused, Desk, asking, waiting, answering, desk_says, desk_tells, desk_leaves, Back, back_waits, stepping, back_says, back_tells, back_leaves, Term, receiving, writing, joining, Kind, piece, ending, take, said, step, done, refusal, left, State, Sizes, start, count_of}
-use Rattle.tn_progress.specs.ServerSteps.{Choice, gives, refused_first, refused_last, Own, takes_credit, hands_piece, tells_end, net_left, asks_entry, takes_entry, takes_end, says_answer, tells_stop, desk_left, takes_step_credit, says_step, is_stopped, tells_refusal, back_left, handles, writes_nothing, joins, finishes, Outer, brings, is_read_out, answers, takes_no_more, steps, refuses, has_no_job, writes, MayGo, gone_on, MayBeLet, let_on, waits_behind, handled, written, is_few, broken, paid, Reached, at_start, goes_on, let_go}
+use Rattle.tn_progress.specs.Server.{one, nothing_comes, no_memory, Net, reading, holding, handing, net_tells, net_leaves, is_done, is_refused, Desk, asking}
+use Rattle.tn_progress.specs.Server.{waiting, answering, desk_says, desk_tells, desk_leaves, Back, back_waits, stepping, back_says, back_tells, back_leaves}
+use Rattle.tn_progress.specs.Server.{Term, receiving, writing, joining, Kind, piece, ending, take, said, step, done, refusal, left, State, Sizes, start}
+use Rattle.tn_progress.specs.Server.{count_of}
+use Rattle.tn_progress.specs.ServerSteps.{Choice, gives, refused_first, refused_last, Own, takes_credit, hands_piece, tells_end, net_left, asks_entry}
+use Rattle.tn_progress.specs.ServerSteps.{takes_entry, takes_end, says_answer, tells_stop, desk_left, takes_step_credit, says_step, is_stopped, tells_refusal}
+use Rattle.tn_progress.specs.ServerSteps.{back_left, handles, writes_nothing, joins, finishes, Outer, brings, is_read_out, answers, takes_no_more, steps}
+use Rattle.tn_progress.specs.ServerSteps.{refuses, has_no_job, writes, MayGo, gone_on, MayBeLet, let_on, waits_behind, handled, written, is_few, broken, paid}
+use Rattle.tn_progress.specs.ServerSteps.{Reached, at_start, goes_on, let_go}
 
 at_net : (sizes : Sizes) (s : State) (n : Net) → s.net ≡ n → Holds sizes s → Holds sizes (record s { net = n })
 at_net sizes s n e h = subst (λ (m : Net). Holds sizes (record s { net = m })) e h
@@ -101,9 +108,12 @@ by_write sizes s false false last true false asks false _ h = let c = covers s.s
 by_write sizes s false p last false true asks true _ h = let c = covers s.stop (false || s.at_end) in let d = covers false s.at_end in grind arith
 by_write sizes s false true last false false asks true _ h = let c = covers s.stop (false || s.at_end) in let d = covers false s.at_end in grind arith
 by_write sizes s false false last false false asks true _ h = let c = covers s.stop (false || s.at_end) in let d = covers false s.at_end in grind arith
-by_write sizes s false p last false true asks false f h = let c = covers s.stop (false || s.at_end) in let d = covers false s.at_end in let m = f refl in grind arith
-by_write sizes s false true last false false asks false f h = let c = covers s.stop (false || s.at_end) in let d = covers false s.at_end in let m = f refl in grind arith
-by_write sizes s false false last false false asks false f h = let c = covers s.stop (false || s.at_end) in let d = covers false s.at_end in let m = f refl in grind arith
+by_write sizes s false p last false true asks false f h = let c = covers s.stop (false || s.at_end) in let d = covers false s.at_end in let m =
+    f refl in grind arith
+by_write sizes s false true last false false asks false f h = let c = covers s.stop (false || s.at_end) in let d = covers false s.at_end in let m =
+    f refl in grind arith
+by_write sizes s false false last false false asks false f h = let c = covers s.stop (false || s.at_end) in let d = covers false s.at_end in let m =
+    f refl in grind arith
 
 after_write : (sizes : Sizes) (s : State) (failed p last : Bool) → Holds sizes s → s.term ≡ writing p last → Holds sizes (written sizes failed p last s)
 after_write sizes s failed p last h at =

@@ -2,8 +2,14 @@
 use Rattle.std.proofs.Common.{arith, ℕ, zero, suc, ◌+◌, ◌*◌, ◌<◌, ◌≤◌, Bool, true, false, ◌||◌, sym, ap, subst}
 use Rattle.tn_progress.proofs.Invariant.{is_waiting, last_of}
 use Rattle.tn_progress.proofs.Keeps.{holds}
-use Rattle.tn_progress.specs.Server.{one, nothing_comes, no_memory, Net, reading, holding, handing, net_tells, net_leaves, net_gone, is_done, is_refused, Desk, asking, waiting, answering, desk_says, desk_tells, desk_leaves, desk_gone, Back, back_waits, stepping, back_says, back_tells, back_leaves, back_gone, Term, receiving, writing, joining, ended, Kind, piece, ending, take, said, step, done, refusal, left, State, Sizes, waiting_mails, count_of}
-use Rattle.tn_progress.specs.ServerSteps.{Choice, gives, refused_first, refused_last, Own, takes_credit, hands_piece, tells_end, net_left, asks_entry, takes_entry, takes_end, says_answer, tells_stop, desk_left, takes_step_credit, says_step, is_stopped, tells_refusal, back_left, handles, writes_nothing, joins, finishes, MayGo, gone_on, ComesToRest, handled, written, broken, paid, is_few, Reached, Alone, no_step, one_more}
+use Rattle.tn_progress.specs.Server.{one, nothing_comes, no_memory, Net, reading, holding, handing, net_tells, net_leaves, net_gone, is_done, is_refused, Desk}
+use Rattle.tn_progress.specs.Server.{asking, waiting, answering, desk_says, desk_tells, desk_leaves, desk_gone, Back, back_waits, stepping, back_says}
+use Rattle.tn_progress.specs.Server.{back_tells, back_leaves, back_gone, Term, receiving, writing, joining, ended, Kind, piece, ending, take, said, step, done}
+use Rattle.tn_progress.specs.Server.{refusal, left, State, Sizes, waiting_mails, count_of}
+use Rattle.tn_progress.specs.ServerSteps.{Choice, gives, refused_first, refused_last, Own, takes_credit, hands_piece, tells_end, net_left, asks_entry}
+use Rattle.tn_progress.specs.ServerSteps.{takes_entry, takes_end, says_answer, tells_stop, desk_left, takes_step_credit, says_step, is_stopped, tells_refusal}
+use Rattle.tn_progress.specs.ServerSteps.{back_left, handles, writes_nothing, joins, finishes, MayGo, gone_on, ComesToRest, handled, written, broken, paid}
+use Rattle.tn_progress.specs.ServerSteps.{is_few, Reached, Alone, no_step, one_more}
 
 abbrev pub net_size : Net → ℕ
 net_size reading = 0

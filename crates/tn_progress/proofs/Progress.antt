@@ -1,9 +1,16 @@
 -- A server's session goes on by itself, or waits for the network, for its foreground job or for a write.
 use Rattle.std.proofs.Common.{arith, ◌≡◌, ◌≢◌, ℕ, zero, suc, ◌+◌, ◌<◌, ◌≤◌, Bool, true, false, ◌⊎◌, inl, inr, refl, ap, subst}
-use Rattle.tn_progress.proofs.Invariant.{Holds, net_left_in, desk_left_in, back_left_in, is_waiting, has_step_credit, has_ended, has_failed, done_by, refused_by, desk_by, has_answer, is_leaving, is_handing}
+use Rattle.tn_progress.proofs.Invariant.{Holds, net_left_in, desk_left_in, back_left_in, is_waiting, has_step_credit, has_ended, has_failed, done_by}
+use Rattle.tn_progress.proofs.Invariant.{refused_by, desk_by, has_answer, is_leaving, is_handing}
 use Rattle.tn_progress.proofs.Keeps.{holds}
-use Rattle.tn_progress.specs.Server.{one, End, nothing_comes, no_memory, Net, reading, holding, handing, net_tells, net_leaves, net_gone, is_done, is_refused, Cause, stops, none_comes, Desk, asking, waiting, answering, desk_says, desk_tells, desk_leaves, desk_gone, Back, back_waits, stepping, back_says, back_tells, back_leaves, back_gone, Term, receiving, writing, joining, ended, Kind, piece, ending, take, said, step, done, refusal, left, Box, State, Sizes, HasRoom, waiting_mails, count_of}
-use Rattle.tn_progress.specs.ServerSteps.{gives, Own, takes_credit, hands_piece, tells_end, net_left, asks_entry, takes_entry, takes_end, says_answer, tells_stop, desk_left, takes_step_credit, says_step, is_stopped, tells_refusal, back_left, handles, joins, finishes, MayGo, gone_on, Goes, WaitsFor, for_network, for_job, for_write, brings, answers, writes, let_on, IsLet, waits_behind, NeverGetsStuck, PutsNeverWait, FewMailsWait}
+use Rattle.tn_progress.specs.Server.{one, End, nothing_comes, no_memory, Net, reading, holding, handing, net_tells, net_leaves, net_gone, is_done, is_refused}
+use Rattle.tn_progress.specs.Server.{Cause, stops, none_comes, Desk, asking, waiting, answering, desk_says, desk_tells, desk_leaves, desk_gone, Back}
+use Rattle.tn_progress.specs.Server.{back_waits, stepping, back_says, back_tells, back_leaves, back_gone, Term, receiving, writing, joining, ended, Kind, piece}
+use Rattle.tn_progress.specs.Server.{ending, take, said, step, done, refusal, left, Box, State, Sizes, HasRoom, waiting_mails, count_of}
+use Rattle.tn_progress.specs.ServerSteps.{gives, Own, takes_credit, hands_piece, tells_end, net_left, asks_entry, takes_entry, takes_end, says_answer}
+use Rattle.tn_progress.specs.ServerSteps.{tells_stop, desk_left, takes_step_credit, says_step, is_stopped, tells_refusal, back_left, handles, joins, finishes}
+use Rattle.tn_progress.specs.ServerSteps.{MayGo, gone_on, Goes, WaitsFor, for_network, for_job, for_write, brings, answers, writes, let_on, IsLet, waits_behind}
+use Rattle.tn_progress.specs.ServerSteps.{NeverGetsStuck, PutsNeverWait, FewMailsWait}
 
 abbrev DoesNotGetStuck : Sizes → State → Type 0
 DoesNotGetStuck sizes s = ((t : State) × Goes sizes s t) ⊎ (WaitsFor s × ((t : State) × IsLet sizes s t))
@@ -15,7 +22,8 @@ goes_by sizes s own may = inl (gone_on sizes own s, (own, may, refl))
 mail_or_room : (box : Box) → ((kind : Kind) × (0 < count_of kind box) × (waits_behind kind box ≡ 0)) ⊎ (waiting_mails box ≡ 0)
 mail_or_room box = by box.pieces box.endings box.said box.takes box.steps box.done box.refusals box.left refl refl refl refl refl refl refl refl
   where
-    by : (a b c d e f g k : ℕ) → box.pieces ≡ a → box.endings ≡ b → box.said ≡ c → box.takes ≡ d → box.steps ≡ e → box.done ≡ f → box.refusals ≡ g → box.left ≡ k → ((kind : Kind) × (0 < count_of kind box) × (waits_behind kind box ≡ 0)) ⊎ (waiting_mails box ≡ 0)
+    by : (a b c d e f g k : ℕ) → box.pieces ≡ a → box.endings ≡ b → box.said ≡ c → box.takes ≡ d → box.steps ≡ e → box.done ≡ f → box.refusals ≡ g
+        → box.left ≡ k → ((kind : Kind) × (0 < count_of kind box) × (waits_behind kind box ≡ 0)) ⊎ (waiting_mails box ≡ 0)
     by (suc a) b c d e f g k p q r s t u v w = inl (piece, omega arith, refl)
     by zero (suc b) c d e f g k p q r s t u v w = inl (ending, omega arith, refl)
     by zero zero (suc c) d e f g k p q r s t u v w = inl (said, omega arith, refl)
@@ -110,7 +118,8 @@ module _ (sizes : Sizes) (s : State) (h : Holds sizes s) (at : s.term ≡ receiv
       by_desk sizes s room s.desk s.entries s.ends refl refl refl
       (λ ed f g. absurd (gone_waiting sizes s e s.back s.asks s.waits (idle sizes s (net_gone e) waiting s.back h at none not_all en ed refl) (f, g)))
       (λ x ed. by_back sizes s room s.back s.stop refl refl (let l = h.one_credit_each in omega arith)
-      (λ eb f. absurd (not_stopped sizes s e (desk_gone x) stepping s.asks s.waits (idle sizes s (net_gone e) (desk_gone x) stepping h at none not_all en ed eb) f))
+      (λ eb f. absurd (not_stopped sizes s e (desk_gone x) stepping s.asks s.waits
+      (idle sizes s (net_gone e) (desk_gone x) stepping h at none not_all en ed eb) f))
       (λ eb. absurd (all_gone sizes s e x s.asks s.waits (idle sizes s (net_gone e) (desk_gone x) back_gone h at none not_all en ed eb))))
 
   by_net : (n : Net) (credits : ℕ) → s.net ≡ n → s.credits ≡ credits → DoesNotGetStuck sizes s
@@ -189,7 +198,8 @@ waiting_on : (sizes : Sizes) (s : State) → 0 < sizes.mails → 0 < sizes.ahead
 waiting_on sizes s some credit h at not_all (inl (kind, there, first)) = goes_by sizes s (handles (gives 0) kind) (at, not_all, there, first)
 waiting_on sizes s some credit h at not_all (inr none) = by_net sizes s h at none not_all (omega arith) credit s.net s.credits refl refl
 
-by_lefts : (sizes : Sizes) (s : State) (lefts : ℕ) → 0 < sizes.mails → 0 < sizes.ahead → Holds sizes s → s.term ≡ receiving → s.lefts ≡ lefts → DoesNotGetStuck sizes s
+by_lefts : (sizes : Sizes) (s : State) (lefts : ℕ) → 0 < sizes.mails → 0 < sizes.ahead → Holds sizes s → s.term ≡ receiving → s.lefts ≡ lefts
+    → DoesNotGetStuck sizes s
 by_lefts sizes s zero some credit h at e = waiting_on sizes s some credit h at (λ f. omega arith) (mail_or_room s.box)
 by_lefts sizes s (suc zero) some credit h at e = waiting_on sizes s some credit h at (λ f. omega arith) (mail_or_room s.box)
 by_lefts sizes s (suc (suc zero)) some credit h at e = waiting_on sizes s some credit h at (λ f. omega arith) (mail_or_room s.box)

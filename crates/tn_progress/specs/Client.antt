@@ -1,6 +1,6 @@
--- The threads of a client's session over a connection, as a system of steps, as in `Server`: the threads that read the
--- network and the keys, the core, and the one that sends what the core puts into the queue of writes.
--- `tools/progress/client.pml` is the same for Spin.
+-- The threads of a client's session over a connection, as a system of steps, as in `Server`: the threads that
+-- read the network and the keys, the core, and the one that sends what the core puts into the queue of
+-- writes. `tools/progress/client.pml` is the same for Spin.
 use Rattle.std.specs.Prelude.{ℕ, ◌+◌, ◌-◌, ◌<◌, Bool, false}
 use Rattle.tn_progress.specs.Server.{End, nothing_comes, no_memory}
 
@@ -12,8 +12,8 @@ pub data Net : Type 0 where
   net_leaves : Net
   net_gone : Net
 
--- Keys waits until little is to be sent, then for the user, hands the keys to the core, and looks whether it was told to
--- stop.
+-- Keys waits until little is to be sent, then for the user, hands the keys to the core, and looks whether it
+-- was told to stop.
 pub data Keys : Type 0 where
   held : Keys
   typing : Keys
@@ -23,8 +23,8 @@ pub data Keys : Type 0 where
   keys_leaves : Keys
   keys_gone : Keys
 
--- The core receives a message and handles it; it puts what goes to the network into the queue, and shows the rest.
--- Once no more is to be sent it puts the end there.
+-- The core receives a message and handles it; it puts what goes to the network into the queue, and shows the
+-- rest. Once no more is to be sent it puts the end there.
 pub data Core : Type 0 where
   receiving : Core
   putting : Core
@@ -33,16 +33,16 @@ pub data Core : Type 0 where
   joining : Core
   ended : Core
 
--- Sending takes a write from the queue, and sends it. Where that failed because the user has left or the screen is gone,
--- it discards what still comes.
+-- Sending takes a write from the queue, and sends it. Where that failed because the user has left or the
+-- screen is gone, it discards what still comes.
 pub data Sending : Type 0 where
   taking : Sending
   sends : Sending
   discards : Sending
   sent_all : Sending
 
--- What is told to the core: keys, or a size; a piece of the network; that nothing more comes from the network, or of the
--- keys; that there was no memory; that a thread has left.
+-- What is told to the core: keys, or a size; a piece of the network; that nothing more comes from the
+-- network, or of the keys; that there was no memory; that a thread has left.
 pub data Kind : Type 0 where
   keys : Kind
   piece : Kind
@@ -85,8 +85,8 @@ pub record State : Type 0 where
   -- how many threads have told that they left
   pub lefts : ℕ
 
--- How many messages the mailbox holds, how many writes the queue, and with more than how many no more keys are read;
--- and whether what comes from the network may have to be answered.
+-- How many messages the mailbox holds, how many writes the queue, and with more than how many no more keys
+-- are read; and whether what comes from the network may have to be answered.
 pub record Sizes : Type 0 where
   pub mails : ℕ
   pub queue : ℕ
@@ -94,7 +94,15 @@ pub record Sizes : Type 0 where
   pub answers : Bool
 
 abbrev pub none_waits : Box
-none_waits = record { keys = 0; pieces = 0; endings = 0; keys_endings = 0; refusals = 0; net_left = 0; keys_left = 0 }
+none_waits = record {
+  keys = 0;
+  pieces = 0;
+  endings = 0;
+  keys_endings = 0;
+  refusals = 0;
+  net_left = 0;
+  keys_left = 0;
+}
 
 abbrev pub start : State
 start = record {
@@ -115,7 +123,8 @@ start = record {
 }
 
 abbrev pub waiting_mails : Box → ℕ
-waiting_mails box = box.keys + box.pieces + box.endings + box.keys_endings + box.refusals + box.net_left + box.keys_left
+waiting_mails box = box.keys + box.pieces + box.endings + box.keys_endings + box.refusals + box.net_left
+    + box.keys_left
 
 abbrev pub HasRoom : Sizes → State → Type 0
 HasRoom sizes s = waiting_mails s.box < sizes.mails

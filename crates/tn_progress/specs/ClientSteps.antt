@@ -1,7 +1,12 @@
 -- What the threads of a client's session may do next.
 use Rattle.std.specs.Prelude.{◌≡◌, ◌≢◌, ℕ, ◌+◌, ◌-◌, ◌*◌, ◌<◌, ◌≤◌, Bool, true, false, ◌||◌, ◌⊎◌}
 use Rattle.tn_progress.specs.Server.{one, End, nothing_comes, no_memory}
-use Rattle.tn_progress.specs.Client.{reading, net_hands, net_tells, net_leaves, net_gone, held, typing, keys_hands, looking, keys_tells, keys_leaves, keys_gone, Core, receiving, putting, showing, closing, joining, ended, taking, sends, discards, sent_all, Kind, keys, piece, ending, keys_ending, refusal, net_left, keys_left, State, Sizes, start, HasRoom, HasPlace, count_of, put, taken, told_of_end, told_of_keys, unsent}
+use Rattle.tn_progress.specs.Client.{reading, net_hands, net_tells, net_leaves, net_gone, held, typing}
+use Rattle.tn_progress.specs.Client.{keys_hands, looking, keys_tells, keys_leaves, keys_gone, Core, receiving}
+use Rattle.tn_progress.specs.Client.{putting, showing, closing, joining, ended, taking, sends, discards}
+use Rattle.tn_progress.specs.Client.{sent_all, Kind, keys, piece, ending, keys_ending, refusal, net_left}
+use Rattle.tn_progress.specs.Client.{keys_left, State, Sizes, start, HasRoom, HasPlace, count_of, put, taken}
+use Rattle.tn_progress.specs.Client.{told_of_end, told_of_keys, unsent}
 
 -- THE CORE HANDLES A MESSAGE
 
@@ -10,7 +15,8 @@ is_left net_left = true
 is_left keys_left = true
 is_left _ = false
 
--- Of keys, and of a piece that may have to be answered, there may be something to write; and a call of it may be refused.
+-- Of keys, and of a piece that may have to be answered, there may be something to write; and a call of it may
+-- be refused.
 abbrev pub MayWrite : Bool → Kind → Type 0
 MayWrite answers keys = Unit {0}
 MayWrite true piece = Unit {0}
@@ -38,11 +44,15 @@ then_at false = showing
 
 abbrev pub handled : Bool → Bool → Kind → State → State
 handled writes refused kind s =
-    let t = comes_of kind (record s { box = taken kind s.box; lefts = s.lefts + one (is_left kind); core = then_at writes }) in
+    let t = comes_of kind (record s {
+      box = taken kind s.box;
+      lefts = s.lefts + one (is_left kind);
+      core = then_at writes;
+    }) in
     record t { over = t.over || refused; closed = t.closed || (t.over || refused) }
 
--- Behind what is shown, Keys is told to stop where nothing has any effect any more or nothing more comes; and the end is
--- put where no more is to be sent.
+-- Behind what is shown, Keys is told to stop where nothing has any effect any more or nothing more comes; and
+-- the end is put where no more is to be sent.
 abbrev pub behind : Bool → Bool → Core
 behind true false = closing
 behind ends is_put = receiving
@@ -79,8 +89,8 @@ pub data Own : Type 0 where
   drops_write : Own
   drops_end : Own
 
--- A thread goes on once somebody else lets it: the network brings something, or ends; the user types, or ends what is
--- typed; the screen takes what is shown, or does not; the network takes what is sent, or does not.
+-- A thread goes on once somebody else lets it: the network brings something, or ends; the user types, or ends
+-- what is typed; the screen takes what is shown, or does not; the network takes what is sent, or does not.
 pub data Outer : Type 0 where
   brings : Outer
   is_read_out : End → Outer
@@ -116,7 +126,8 @@ MayGo sizes puts_end s = (s.core ≡ closing) × HasPlace sizes s × (s.is_put �
 MayGo sizes puts_end_in_vain s = (s.core ≡ closing) × (s.sending ≡ sent_all) × (s.is_put ≡ false)
 MayGo sizes closes s = (s.core ≡ receiving) × (s.lefts ≡ 2) × (s.is_put ≡ false)
 MayGo sizes joins s = (s.core ≡ receiving) × (s.lefts ≡ 2) × (s.is_put ≡ true)
-MayGo sizes finishes s = (s.core ≡ joining) × (s.net ≡ net_gone) × (s.typist ≡ keys_gone) × (s.sending ≡ sent_all)
+MayGo sizes finishes s = (s.core ≡ joining) × (s.net ≡ net_gone) × (s.typist ≡ keys_gone)
+    × (s.sending ≡ sent_all)
 MayGo sizes takes_write s = (s.sending ≡ taking) × (0 < s.writes)
 MayGo sizes takes_end s = (s.sending ≡ taking) × (s.writes ≡ 0) × (0 < s.ends)
 MayGo sizes drops_write s = (s.sending ≡ discards) × (0 < s.writes)
@@ -186,26 +197,27 @@ pub data Reached (sizes : Sizes) : State → Type 0 where
 
 -- WHAT HOLDS OF THEM
 
--- what a state waits for: the network that is read, the user as long as the connection stands, the screen, or the network
--- to which it is sent
+-- what a state waits for: the network that is read, the user as long as the connection stands, the screen, or
+-- the network to which it is sent
 pub data WaitsFor (s : State) : Type 0 where
   for_network : s.net ≡ reading → WaitsFor s
   for_user : s.typist ≡ typing → s.closed ≡ false → WaitsFor s
   for_screen : s.core ≡ showing → WaitsFor s
   for_sending : s.sending ≡ sends → WaitsFor s
 
--- In each state that is reached and is not the end a thread goes on by itself, or one of these is waited for, and goes on
--- once it is let.
+-- In each state that is reached and is not the end a thread goes on by itself, or one of these is waited for,
+-- and goes on once it is let.
 abbrev pub NeverGetsStuck : Type 0
 NeverGetsStuck =
     (sizes : Sizes) (s : State) → 0 < sizes.mails → 0 < sizes.queue → Reached sizes s → s.core ≢ ended
     → ((t : State) × Goes sizes s t) ⊎ (WaitsFor s × ((t : State) × IsLet s t))
 
--- The core never waits for the network to take what is sent, where nothing that comes has to be answered, and the queue
--- holds three writes more than the mailbox and what may wait while keys are read.
+-- The core never waits for the network to take what is sent, where nothing that comes has to be answered, and
+-- the queue holds three writes more than the mailbox and what may wait while keys are read.
 abbrev pub NeverWaitsToSend : Type 0
 NeverWaitsToSend =
-    (sizes : Sizes) (s : State) → sizes.answers ≡ false → sizes.mark + sizes.mails + 3 ≤ sizes.queue → Reached sizes s
+    (sizes : Sizes) (s : State) → sizes.answers ≡ false → sizes.mark + sizes.mails + 3 ≤ sizes.queue
+    → Reached sizes s
     → (s.core ≡ putting) ⊎ (s.core ≡ closing) → HasPlace sizes s ⊎ (s.sending ≡ sent_all)
 
 -- so many steps, each a thread's own, lead there
@@ -216,4 +228,5 @@ pub data Alone (sizes : Sizes) : ℕ → State → State → Type 0 where
 -- Where nobody outside does anything the threads come to rest, after so many steps at most.
 abbrev pub ComesToRest : Type 0
 ComesToRest =
-    (sizes : Sizes) (n : ℕ) (s t : State) → Reached sizes s → Alone sizes n s t → n ≤ 36 + 4 * sizes.mails + sizes.queue
+    (sizes : Sizes) (n : ℕ) (s t : State) → Reached sizes s → Alone sizes n s t
+    → n ≤ 36 + 4 * sizes.mails + sizes.queue

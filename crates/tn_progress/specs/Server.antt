@@ -1,9 +1,9 @@
--- The threads of a server's session as a system of steps: where each stands, what the channels between them hold, and
--- what each may do next. A step is one access to what they share. `tools/progress/server.pml` is the same for Spin; a
--- comment above each loop of `tn_session` names its thread: Net, Desk, Back, Term.
+-- The threads of a server's session as a system of steps: where each stands, what the channels between them
+-- hold, and what each may do next. A step is one access to what they share. `tools/progress/server.pml` is
+-- the same for Spin; a comment above each loop of `tn_session` names its thread: Net, Desk, Back, Term.
 --
--- Of a channel only numbers are known here, so that what waits in it may be taken in any order, but for one thing: the
--- foreground job's request is taken after what it said before.
+-- Of a channel only numbers are known here, so that what waits in it may be taken in any order, but for one
+-- thing: the foreground job's request is taken after what it said before.
 use Rattle.std.specs.Prelude.{ℕ, ◌+◌, ◌-◌, ◌<◌, Bool, true, false}
 
 -- how many there are of something that is there or not
@@ -25,7 +25,8 @@ pub data Net : Type 0 where
   net_leaves : End → Net
   net_gone : End → Net
 
--- Why the foreground job takes no more entries: it is done, or a call of it was refused; or no entry comes any more.
+-- Why the foreground job takes no more entries: it is done, or a call of it was refused; or no entry comes
+-- any more.
 pub data Stop : Type 0 where
   is_done : Stop
   is_refused : Stop
@@ -44,8 +45,8 @@ pub data Desk : Type 0 where
   desk_leaves : Cause → Desk
   desk_gone : Cause → Desk
 
--- Back runs the jobs in the background, a step of each in turn. For each it takes a credit, which Term gives back
--- as it takes what the step said: so only so many of these wait for Term.
+-- Back runs the jobs in the background, a step of each in turn. For each it takes a credit, which Term gives
+-- back as it takes what the step said: so only so many of these wait for Term.
 pub data Back : Type 0 where
   back_waits : Back
   stepping : Back
@@ -54,16 +55,18 @@ pub data Back : Type 0 where
   back_leaves : Back
   back_gone : Back
 
--- Term has the terminal: it receives a message, handles it, and writes. Of a write it is kept whether the message was a
--- piece, for which a credit is due then, and whether the foreground job is told behind it that no entry comes.
+-- Term has the terminal: it receives a message, handles it, and writes. Of a write it is kept whether the
+-- message was a piece, for which a credit is due then, and whether the foreground job is told behind it that
+-- no entry comes.
 pub data Term : Type 0 where
   receiving : Term
   writing : Bool → Bool → Term
   joining : Term
   ended : Term
 
--- What is told to Term: a piece; that the network ended; that the foreground job takes an entry; what that job says; what
--- a step of a job in the background says; that the foreground job is done; that a call was refused; that a thread has left.
+-- What is told to Term: a piece; that the network ended; that the foreground job takes an entry; what that
+-- job says; what a step of a job in the background says; that the foreground job is done; that a call was
+-- refused; that a thread has left.
 pub data Kind : Type 0 where
   piece : Kind
   ending : Kind
@@ -113,8 +116,8 @@ pub record State : Type 0 where
   -- how many threads have told that they left
   pub lefts : ℕ
 
--- how many messages a mailbox holds, how many steps Back may be ahead of Term, and how many entries may wait before one
--- more piece is welcome
+-- how many messages a mailbox holds, how many steps Back may be ahead of Term, and how many entries may wait
+-- before one more piece is welcome
 pub record Sizes : Type 0 where
   pub mails : ℕ
   pub ahead : ℕ

@@ -1,11 +1,17 @@
 -- What the threads of a server's session may do next.
 use Rattle.std.specs.Prelude.{◌≡◌, ◌≢◌, ℕ, zero, suc, ◌+◌, ◌-◌, ◌*◌, ◌<◌, ◌≤◌, Bool, true, false, ◌||◌, ◌⊎◌}
-use Rattle.tn_progress.specs.Server.{one, End, reading, holding, handing, net_tells, net_leaves, net_gone, Stop, Cause, stops, none_comes, asking, waiting, answering, desk_says, desk_tells, desk_leaves, desk_gone, back_waits, stepping, back_says, back_tells, back_leaves, back_gone, Term, receiving, writing, joining, ended, Kind, piece, ending, take, said, step, done, refusal, left, Box, State, Sizes, start, HasRoom, waiting_mails, count_of, put, taken, told_of_end, told_of_stop}
+use Rattle.tn_progress.specs.Server.{one, End, reading, holding, handing, net_tells, net_leaves, net_gone}
+use Rattle.tn_progress.specs.Server.{Stop, Cause, stops, none_comes, asking, waiting, answering, desk_says}
+use Rattle.tn_progress.specs.Server.{desk_tells, desk_leaves, desk_gone, back_waits, stepping, back_says}
+use Rattle.tn_progress.specs.Server.{back_tells, back_leaves, back_gone, Term, receiving, writing, joining}
+use Rattle.tn_progress.specs.Server.{ended, Kind, piece, ending, take, said, step, done, refusal, left, Box}
+use Rattle.tn_progress.specs.Server.{State, Sizes, start, HasRoom, waiting_mails, count_of, put, taken}
+use Rattle.tn_progress.specs.Server.{told_of_end, told_of_stop}
 
 -- TERM HANDLES A MESSAGE
 
--- What comes of it: a piece completes so many entries; or a call is refused, before anything comes of the message or
--- after all has.
+-- What comes of it: a piece completes so many entries; or a call is refused, before anything comes of the
+-- message or after all has.
 pub data Choice : Type 0 where
   gives : ℕ → Choice
   refused_first : Choice
@@ -108,7 +114,8 @@ paid owed welcome s = record s { owed = owed }
 abbrev pub written : Sizes → Bool → Bool → Bool → State → State
 written sizes failed p last s =
     let t = broken failed s.over (record s { ends = s.ends + one last; term = receiving }) in
-    paid (s.owed || p) (is_few s.waits sizes.before_piece || t.over) (record t { stop = t.stop || (t.over || t.at_end) })
+    paid (s.owed || p) (is_few s.waits sizes.before_piece || t.over)
+    (record t { stop = t.stop || (t.over || t.at_end) })
 
 -- THE STEPS
 
@@ -134,8 +141,8 @@ pub data Own : Type 0 where
   joins : Own
   finishes : Own
 
--- A thread goes on once somebody else lets it: the network brings something or ends, a job returns, the network takes
--- what is written or does not.
+-- A thread goes on once somebody else lets it: the network brings something or ends, a job returns, the
+-- network takes what is written or does not.
 pub data Outer : Type 0 where
   brings : Outer
   is_read_out : End → Outer
@@ -168,11 +175,13 @@ MayGo sizes says_step s = (s.back ≡ back_says) × HasRoom sizes s
 MayGo sizes is_stopped s = (s.back ≡ stepping) × (s.stop ≡ true)
 MayGo sizes tells_refusal s = (s.back ≡ back_tells) × HasRoom sizes s
 MayGo sizes back_left s = (s.back ≡ back_leaves) × HasRoom sizes s
-MayGo sizes (handles choice kind) s = (s.term ≡ receiving) × (s.lefts ≢ 3) × (0 < count_of kind s.box) × (waits_behind kind s.box ≡ 0)
+MayGo sizes (handles choice kind) s = (s.term ≡ receiving) × (s.lefts ≢ 3) × (0 < count_of kind s.box)
+    × (waits_behind kind s.box ≡ 0)
 MayGo sizes (writes_nothing p last) s = (s.term ≡ writing p last) × (s.over ≡ true)
 MayGo sizes joins s = (s.term ≡ receiving) × (s.lefts ≡ 3)
 MayGo sizes finishes s =
-    (s.term ≡ joining) × ((e : End) × (s.net ≡ net_gone e)) × ((c : Cause) × (s.desk ≡ desk_gone c)) × (s.back ≡ back_gone)
+    (s.term ≡ joining) × ((e : End) × (s.net ≡ net_gone e)) × ((c : Cause) × (s.desk ≡ desk_gone c))
+    × (s.back ≡ back_gone)
 
 -- and where it comes
 abbrev pub gone_on : Sizes → Own → State → State
@@ -237,8 +246,8 @@ pub data WaitsFor (s : State) : Type 0 where
   for_job : s.desk ≡ answering → WaitsFor s
   for_write : (p last : Bool) → s.term ≡ writing p last → WaitsFor s
 
--- In each state that is reached and is not the end a thread goes on by itself, or one of these is waited for, and goes on
--- once it is let. A job in the background is never waited for.
+-- In each state that is reached and is not the end a thread goes on by itself, or one of these is waited for,
+-- and goes on once it is let. A job in the background is never waited for.
 abbrev pub NeverGetsStuck : Type 0
 NeverGetsStuck =
     (sizes : Sizes) (s : State) → 0 < sizes.mails → 0 < sizes.ahead → Reached sizes s → s.term ≢ ended
@@ -248,8 +257,8 @@ NeverGetsStuck =
 abbrev pub PutsNeverWait : Type 0
 PutsNeverWait = (sizes : Sizes) (s : State) → Reached sizes s → (s.entries + s.ends ≤ 1) × (s.credits ≤ 1)
 
--- However fast the jobs in the background are, no more than so many messages wait for Term. So a key that comes is passed
--- by no more; and where the mailbox has more places, no thread ever waits for one.
+-- However fast the jobs in the background are, no more than so many messages wait for Term. So a key that
+-- comes is passed by no more; and where the mailbox has more places, no thread ever waits for one.
 abbrev pub FewMailsWait : Type 0
 FewMailsWait = (sizes : Sizes) (s : State) → Reached sizes s → waiting_mails s.box ≤ sizes.ahead + 6
 

@@ -1,5 +1,6 @@
 -- A queue of symbols that is kept as bytes, with a mark for each line feed among them.
-use Rattle.std.proofs.Common.{◌≡◌, ◌<◌, ◌≤◌, ℕ, zero, suc, ◌+◌, ◌-◌, ◌==◌, ◌||◌, min, Bool, true, false, List, [], ◌∷◌, ◌++◌, length, map, take, drop, get_or, replicate, refl, sym, ap, ◌∙◌, inl, inr, if◌then◌else◌, arith, append-nil, length-append, take-add}
+use Rattle.std.proofs.Common.{◌≡◌, ◌<◌, ◌≤◌, ℕ, zero, suc, ◌+◌, ◌-◌, ◌==◌, ◌||◌, min, Bool, true, false, List, [], ◌∷◌, ◌++◌, length, map, take, drop, get_or}
+use Rattle.std.proofs.Common.{replicate, refl, sym, ap, ◌∙◌, inl, inr, if◌then◌else◌, arith, append-nil, length-append, take-add}
 use Rattle.std.specs.Prelude.{IsOk, OnOk, ◌↔◌, Result, Ok, Err}
 use Rattle.std.proofs.lemmas.Bool.{cases_Bool, or_parts, false_from_ne_true, ne_eqb}
 use Rattle.std.proofs.lemmas.List.{take_more, take_min, take-append-drop, drop-drop, length-drop, length-take}
@@ -46,7 +47,8 @@ feeds_nowhere (b ∷ bs) (suc n) within nowhere =
 
 module _ (cs : List ℕ) (ns : List Bool) where
   -- what stands behind bytes that have a mark for each line feed
-  pub marked-append : (bs : List ℕ) (ms : List Bool) → length ms ≡ feeds bs → marked_symbols (bs ++ cs) (ms ++ ns) ≡ marked_symbols bs ms ++ marked_symbols cs ns
+  pub marked-append : (bs : List ℕ) (ms : List Bool) → length ms ≡ feeds bs
+      → marked_symbols (bs ++ cs) (ms ++ ns) ≡ marked_symbols bs ms ++ marked_symbols cs ns
   marked-append [] [] e = refl
   marked-append [] (m ∷ ms) e = absurd (omega (arith, e))
   marked-append (b ∷ bs) [] e =
@@ -87,7 +89,8 @@ pub feeds_other : (b : ℕ) → (b ≡ 10 → ⊥) → feeds (b ∷ []) ≡ 0
 feeds_other b other = rw (ne_eqb b 10 other) refl
 
 -- a byte that is no line feed has no mark
-pub marked_other : (bs : List ℕ) (ms : List Bool) (newline : Bool) (b : ℕ) → (b ≡ 10 → ⊥) → length ms ≡ feeds bs → marked_symbols (bs ++ b ∷ []) ms ≡ marked_symbols bs ms ++ shown_byte newline b ∷ []
+pub marked_other : (bs : List ℕ) (ms : List Bool) (newline : Bool) (b : ℕ) → (b ≡ 10 → ⊥) → length ms ≡ feeds bs
+    → marked_symbols (bs ++ b ∷ []) ms ≡ marked_symbols bs ms ++ shown_byte newline b ∷ []
 marked_other bs ms newline b other e =
     ap (marked_symbols (bs ++ b ∷ [])) (sym (append-nil ms))
     ∙ marked-append (b ∷ []) [] bs ms e
@@ -113,7 +116,8 @@ module _ (a b : ℕ) where
       ]
 
   -- a run has no line feed
-  pub drop_run : (n : ℕ) (bytes : List ℕ) (marks : List Bool) → n ≤ length (leading_bytes a b bytes) → (drop n (marked_symbols bytes marks) ≡ marked_symbols (drop n bytes) marks) × (feeds (drop n bytes) ≡ feeds bytes)
+  pub drop_run : (n : ℕ) (bytes : List ℕ) (marks : List Bool) → n ≤ length (leading_bytes a b bytes)
+      → (drop n (marked_symbols bytes marks) ≡ marked_symbols (drop n bytes) marks) × (feeds (drop n bytes) ≡ feeds bytes)
   drop_run zero bytes marks le = (refl, refl)
   drop_run (suc n) [] marks le = absurd (omega (arith, le))
   drop_run (suc n) (x ∷ xs) marks le =
@@ -152,7 +156,8 @@ module _ (a b : ℕ) where
         | inr t ↦ let more = rw t at lt in rw t (ap (λ zs. x ∷ zs) (leading_within xs ys (omega (arith, more))))
       ]
 
-  pub leading_beyond : (xs ys : List ℕ) → length xs ≤ length (leading_bytes a b xs) → leading_bytes a b (xs ++ ys) ≡ leading_bytes a b xs ++ leading_bytes a b ys
+  pub leading_beyond : (xs ys : List ℕ) → length xs ≤ length (leading_bytes a b xs)
+      → leading_bytes a b (xs ++ ys) ≡ leading_bytes a b xs ++ leading_bytes a b ys
   leading_beyond [] ys le = refl
   leading_beyond (x ∷ xs) ys le =
       elim (cases_Bool (ends_run a b x)) [
@@ -161,7 +166,8 @@ module _ (a b : ℕ) where
       ]
 
   -- the run by a search for what ends it
-  pub leading_found : (bytes : List ℕ) (n : ℕ) → n ≤ length bytes → Nowhere (Passes (is_byte3 10 a b) bytes) 0 n → (n < length bytes → Passes (is_byte3 10 a b) bytes n) → leading_bytes a b bytes ≡ take n bytes
+  pub leading_found : (bytes : List ℕ) (n : ℕ) → n ≤ length bytes → Nowhere (Passes (is_byte3 10 a b) bytes) 0 n
+      → (n < length bytes → Passes (is_byte3 10 a b) bytes n) → leading_bytes a b bytes ≡ take n bytes
   leading_found [] zero within nowhere found = refl
   leading_found [] (suc n) within nowhere found = absurd (omega (arith, within))
   leading_found (x ∷ xs) zero within nowhere found = let t : ends_run a b x ≡ true = found (omega arith) in rw t refl
@@ -183,7 +189,8 @@ drop-one (suc n) [] = refl
 drop-one n (m ∷ ms) = refl
 
 -- the symbols behind them are those of the other bytes, with the marks that are left
-pub drop-marked : (n : ℕ) (bytes : List ℕ) (marks : List Bool) → drop n (marked_symbols bytes marks) ≡ marked_symbols (drop n bytes) (drop (feeds (take n bytes)) marks)
+pub drop-marked : (n : ℕ) (bytes : List ℕ) (marks : List Bool) →
+    drop n (marked_symbols bytes marks) ≡ marked_symbols (drop n bytes) (drop (feeds (take n bytes)) marks)
 drop-marked zero bytes marks = refl
 drop-marked (suc n) [] marks = refl
 drop-marked (suc n) (b ∷ bs) marks =
@@ -213,10 +220,13 @@ marks_drop b n marks =
     ]
 
 -- a step of a loop over bytes: the symbol of the next byte, and the marks that it leaves
-pub symbols_more : (bytes : List ℕ) (i : ℕ) (marks : List Bool) → i < length bytes → marked_symbols (take (i + 1) bytes) marks ≡ marked_symbols (take i bytes) marks ++ shown_byte (get_or (drop (feeds (take i bytes)) marks) 0 false) (get_or bytes i 0) ∷ []
+pub symbols_more : (bytes : List ℕ) (i : ℕ) (marks : List Bool) → i < length bytes
+    → marked_symbols (take (i + 1) bytes) marks ≡ marked_symbols (take i bytes) marks
+    ++ shown_byte (get_or (drop (feeds (take i bytes)) marks) 0 false) (get_or bytes i 0) ∷ []
 symbols_more bytes i marks lt = ap (λ xs. marked_symbols xs marks) (take_more bytes i 0 lt) ∙ marked-both (take i bytes) (get_or bytes i 0 ∷ []) marks
 
-pub marks_more : (bytes : List ℕ) (i : ℕ) (marks : List Bool) → i < length bytes → marks_after (get_or bytes i 0) (drop (feeds (take i bytes)) marks) ≡ drop (feeds (take (i + 1) bytes)) marks
+pub marks_more : (bytes : List ℕ) (i : ℕ) (marks : List Bool) → i < length bytes
+    → marks_after (get_or bytes i 0) (drop (feeds (take i bytes)) marks) ≡ drop (feeds (take (i + 1) bytes)) marks
 marks_more bytes i marks lt =
     marks_drop (get_or bytes i 0) (feeds (take i bytes)) marks
     ∙ ap (λ n. drop n marks) (sym (feeds-append (take i bytes) (get_or bytes i 0 ∷ [])) ∙ ap feeds (sym (take_more bytes i 0 lt)))
@@ -253,13 +263,15 @@ cut n k m front back is left =
     ∙ taken_both n front back
 
 -- their symbols, and the marks that are left
-pub symbols_cut : (n k m : ℕ) (front back bytes : List ℕ) (marks : List Bool) → k ≡ min (length front) n → m ≡ n - length (take k front) → front ++ back ≡ bytes → marked_symbols (take k front) marks ++ marked_symbols (take m back) (drop (feeds (take k front)) marks) ≡ take n (marked_symbols bytes marks)
+pub symbols_cut : (n k m : ℕ) (front back bytes : List ℕ) (marks : List Bool) → k ≡ min (length front) n → m ≡ n - length (take k front) → front ++ back ≡ bytes
+    → marked_symbols (take k front) marks ++ marked_symbols (take m back) (drop (feeds (take k front)) marks) ≡ take n (marked_symbols bytes marks)
 symbols_cut n k m front back bytes marks is left whole =
     sym (marked-both (take k front) (take m back) marks)
     ∙ ap (λ xs. marked_symbols xs marks) (cut n k m front back is left ∙ ap (take n) whole)
     ∙ sym (take-marked n bytes marks)
 
-pub marks_cut : (n k m : ℕ) (front back bytes : List ℕ) (marks : List Bool) → k ≡ min (length front) n → m ≡ n - length (take k front) → front ++ back ≡ bytes → drop (feeds (take m back)) (drop (feeds (take k front)) marks) ≡ drop (feeds (take n bytes)) marks
+pub marks_cut : (n k m : ℕ) (front back bytes : List ℕ) (marks : List Bool) → k ≡ min (length front) n → m ≡ n - length (take k front) → front ++ back ≡ bytes
+    → drop (feeds (take m back)) (drop (feeds (take k front)) marks) ≡ drop (feeds (take n bytes)) marks
 marks_cut n k m front back bytes marks is left whole =
     drop-drop (feeds (take m back)) (feeds (take k front)) marks
     ∙ ap (λ i. drop i marks) (sym (feeds-append (take k front) (take m back)) ∙ ap feeds (cut n k m front back is left ∙ ap (take n) whole))
@@ -267,7 +279,8 @@ marks_cut n k m front back bytes marks is left whole =
 -- there are as many marks as line feeds still
 pub marks_left : (n : ℕ) (bytes : List ℕ) (marks : List Bool) → length marks ≡ feeds bytes → length (drop (feeds (take n bytes)) marks) ≡ feeds (drop n bytes)
 marks_left n bytes marks is =
-    let parts : feeds bytes ≡ feeds (take n bytes) + feeds (drop n bytes) = ap feeds (sym (take-append-drop n bytes)) ∙ feeds-append (take n bytes) (drop n bytes) in
+    let parts : feeds bytes ≡ feeds (take n bytes) + feeds (drop n bytes) =
+    ap feeds (sym (take-append-drop n bytes)) ∙ feeds-append (take n bytes) (drop n bytes) in
     omega (arith, is, parts, length-drop (feeds (take n bytes)) marks)
 
 module _ (a b max k count : ℕ) (front back : List ℕ) (is : k ≡ min (length front) max) (long : count ≡ length (leading_bytes a b (take k front))) where
@@ -280,11 +293,13 @@ module _ (a b max k count : ℕ) (front back : List ℕ) (is : k ≡ min (length
       ∙ leading-take a b max (front ++ back)
 
   -- and one that goes on in the second
-  pub copied_beyond : (m : ℕ) → m ≡ min (length back) (max - count) → length (take k front) ≤ count → leading_bytes a b (take k front) ++ leading_bytes a b (take m back) ≡ take max (leading_bytes a b (front ++ back))
+  pub copied_beyond : (m : ℕ) → m ≡ min (length back) (max - count) → length (take k front) ≤ count
+      → leading_bytes a b (take k front) ++ leading_bytes a b (take m back) ≡ take max (leading_bytes a b (front ++ back))
   copied_beyond m rest le =
       let same : count ≡ length (take k front) = omega (arith, le, long, leading-le a b (take k front)) in
       let less : max - count ≡ max - length (take k front) = ap (λ i. max - i) same in
-      let far : take m back ≡ take (max - length (take k front)) back = ap (λ i. take i back) rest ∙ take_least (max - count) back ∙ ap (λ i. take i back) less in
+      let far : take m back ≡ take (max - length (take k front)) back =
+      ap (λ i. take i back) rest ∙ take_least (max - count) back ∙ ap (λ i. take i back) less in
       ap (λ xs. leading_bytes a b (take k front) ++ leading_bytes a b xs) far
       ∙ sym (leading_beyond a b (take k front) (take (max - length (take k front)) back) (omega (arith, le, long)))
       ∙ ap (leading_bytes a b) (cut max k (max - length (take k front)) front back is refl)
@@ -297,7 +312,8 @@ take_counted max count xs is = sym (ap (λ i. take i xs) is ∙ take_min max xs)
 pub feed_count : (bs : List ℕ) (ms : List Bool) (newline : Bool) (b : ℕ) → b ≡ 10 → length ms ≡ feeds bs → length (ms ++ newline ∷ []) ≡ feeds (bs ++ b ∷ [])
 feed_count bs ms newline b is e = rw is (omega (arith, e, feeds-append bs (10 ∷ []), length-append ms (newline ∷ [])))
 
-pub feed_marked : (bs : List ℕ) (ms : List Bool) (newline : Bool) (b : ℕ) → b ≡ 10 → length ms ≡ feeds bs → marked_symbols (bs ++ b ∷ []) (ms ++ newline ∷ []) ≡ marked_symbols bs ms ++ shown_byte newline b ∷ []
+pub feed_marked : (bs : List ℕ) (ms : List Bool) (newline : Bool) (b : ℕ) → b ≡ 10 → length ms ≡ feeds bs
+    → marked_symbols (bs ++ b ∷ []) (ms ++ newline ∷ []) ≡ marked_symbols bs ms ++ shown_byte newline b ∷ []
 feed_marked bs ms newline b is e = rw is (marked-append (10 ∷ []) (newline ∷ []) bs ms e)
 
 pub other_count : (bs : List ℕ) (ms : List Bool) (b : ℕ) → (b ≡ 10 → ⊥) → length ms ≡ feeds bs → length ms ≡ feeds (bs ++ b ∷ [])

@@ -1,5 +1,6 @@
 -- A queue into which symbols are put that may not fit.
-use Rattle.std.proofs.Common.{◌≡◌, ℕ, zero, suc, ◌+◌, ◌-◌, ◌<◌, ◌≤◌, min, nat_le, Bool, true, false, List, [], ◌∷◌, ◌++◌, length, map, take, get_or, refl, sym, ap, ◌∙◌, if◌then◌else◌, arith, append-nil, append_assoc, length-append}
+use Rattle.std.proofs.Common.{◌≡◌, ℕ, zero, suc, ◌+◌, ◌-◌, ◌<◌, ◌≤◌, min, nat_le, Bool, true, false, List, [], ◌∷◌, ◌++◌, length, map, take, get_or, refl, sym}
+use Rattle.std.proofs.Common.{ap, ◌∙◌, if◌then◌else◌, arith, append-nil, append_assoc, length-append}
 use Rattle.std.proofs.lemmas.List.{take_more, take_min, take-map, map-append}
 use Rattle.tn_discipline.specs.declared.echo.Symbol.{Symbol}
 use Rattle.tn_discipline.specs.declared.echo.Symbol.TheVariants.{Byte}
@@ -25,7 +26,9 @@ each_push queue [] x = refl
 each_push queue (y ∷ xs) x = each_push (queue_with queue (y ∷ [])) xs x
 
 -- a step of a loop over bytes, each of which is shown
-pub each_more : (f : ℕ → Symbol) (start : List Symbol) (bytes : List ℕ) (i : ℕ) (queue new : List Symbol) → i < length bytes → queue ≡ queue_with_each start (map f (take i bytes)) → new ≡ queue_with queue (f (get_or bytes i 0) ∷ []) → new ≡ queue_with_each start (map f (take (i + 1) bytes))
+pub each_more : (f : ℕ → Symbol) (start : List Symbol) (bytes : List ℕ) (i : ℕ) (queue new : List Symbol) → i < length bytes
+    → queue ≡ queue_with_each start (map f (take i bytes)) → new ≡ queue_with queue (f (get_or bytes i 0) ∷ [])
+    → new ≡ queue_with_each start (map f (take (i + 1) bytes))
 each_more f start bytes i queue new within before is =
     let byte = get_or bytes i 0 in
     is
@@ -44,7 +47,8 @@ each_fits (x ∷ xs) queue (suc room) e =
     ∙ append_assoc queue (x ∷ []) (take room xs)
 
 -- bytes that are shown as they are, as many as fit
-pub run_fits : (queue : List Symbol) (bytes : List ℕ) → length queue ≤ 4096 → queue ++ map (shown_byte false) (take (min (length bytes) (4096 - length queue)) bytes) ≡ queue_with_each queue (map Byte bytes)
+pub run_fits : (queue : List Symbol) (bytes : List ℕ) → length queue ≤ 4096
+    → queue ++ map (shown_byte false) (take (min (length bytes) (4096 - length queue)) bytes) ≡ queue_with_each queue (map Byte bytes)
 run_fits queue bytes within =
     let room = 4096 - length queue in
     let count : min (length bytes) room ≡ min room (length bytes) = omega arith in

@@ -1,5 +1,6 @@
 -- Lists of symbols, of which some are there.
-use Rattle.std.proofs.Common.{◌≡◌, ℕ, suc, ◌+◌, ◌<◌, Option, Some, None, List, [], ◌∷◌, ◌++◌, length, take, drop, get_or, refl, sym, ap, ◌∙◌, arith, append-nil, length-append}
+use Rattle.std.proofs.Common.{◌≡◌, ℕ, suc, ◌+◌, ◌<◌, Option, Some, None, List, [], ◌∷◌, ◌++◌, length, take, drop, get_or, refl, sym, ap, ◌∙◌, arith, append-nil}
+use Rattle.std.proofs.Common.{length-append}
 use Rattle.std.specs.Prelude.{count_by, is_some, filter}
 use Rattle.std.proofs.lemmas.List.{take_more, take-append-drop}
 use Rattle.std.proofs.lemmas.List.Sums.{length-filter}
@@ -20,14 +21,16 @@ present-append (None ∷ xs) ys = present-append xs ys
 present-append (Some symbol ∷ xs) ys = ap (λ s. symbol ∷ s) (present-append xs ys)
 
 -- a step of a loop over symbols, at one that is there
-pub present_some : (symbols : List (Option Symbol)) (i : ℕ) (x : Symbol) → i < length symbols → get_or symbols i None ≡ Some x → symbols_in (take (i + 1) symbols) ≡ symbols_in (take i symbols) ++ x ∷ []
+pub present_some : (symbols : List (Option Symbol)) (i : ℕ) (x : Symbol) → i < length symbols → get_or symbols i None ≡ Some x
+    → symbols_in (take (i + 1) symbols) ≡ symbols_in (take i symbols) ++ x ∷ []
 present_some symbols i x within is =
     ap symbols_in (take_more symbols i None within)
     ∙ present-append (take i symbols) (get_or symbols i None ∷ [])
     ∙ ap (λ o. symbols_in (take i symbols) ++ symbols_in (o ∷ [])) is
 
 -- and at one that isn't
-pub present_none : (symbols : List (Option Symbol)) (i : ℕ) → i < length symbols → get_or symbols i None ≡ None → symbols_in (take (i + 1) symbols) ≡ symbols_in (take i symbols)
+pub present_none : (symbols : List (Option Symbol)) (i : ℕ) → i < length symbols → get_or symbols i None ≡ None
+    → symbols_in (take (i + 1) symbols) ≡ symbols_in (take i symbols)
 present_none symbols i within is =
     ap symbols_in (take_more symbols i None within)
     ∙ present-append (take i symbols) (get_or symbols i None ∷ [])
@@ -35,7 +38,8 @@ present_none symbols i within is =
     ∙ append-nil (symbols_in (take i symbols))
 
 -- there is room for a symbol that is there
-pub present_room : (symbols : List (Option Symbol)) (i : ℕ) (x : Symbol) → i < length symbols → get_or symbols i None ≡ Some x → length (symbols_in (take i symbols)) < length (symbols_in symbols)
+pub present_room : (symbols : List (Option Symbol)) (i : ℕ) (x : Symbol) → i < length symbols → get_or symbols i None ≡ Some x
+    → length (symbols_in (take i symbols)) < length (symbols_in symbols)
 present_room symbols i x within is =
     let whole : length (symbols_in symbols) ≡ length (symbols_in (take (i + 1) symbols)) + length (symbols_in (drop (i + 1) symbols)) =
     ap (λ xs. length (symbols_in xs)) (sym (take-append-drop (i + 1) symbols))

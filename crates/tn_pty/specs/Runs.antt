@@ -1,5 +1,7 @@
--- Symbols in runs: bytes of output that are shown at once, and leading symbols that are pulled at once, as bytes.
-use Rattle.std.specs.Prelude.{ℕ, suc, ◌==◌, ◌&&◌, ◌||◌, Bool, false, List, [], ◌∷◌, drop, get_or, if◌then◌else◌}
+-- Symbols in runs: bytes of output that are shown at once, and leading symbols that are pulled at once, as
+-- bytes.
+use Rattle.std.specs.Prelude.{ℕ, suc, ◌==◌, ◌&&◌, ◌||◌, Bool, false, List, [], ◌∷◌, drop, get_or}
+use Rattle.std.specs.Prelude.{if◌then◌else◌}
 use Rattle.tn_discipline.specs.declared.echo.Symbol.{Symbol}
 use Rattle.tn_discipline.specs.declared.echo.Symbol.TheVariants.{Byte, Newline}
 

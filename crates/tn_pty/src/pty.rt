@@ -1,12 +1,20 @@
-ghost use Rattle.std.specs.Prelude.{◌≡◌, ◌&&◌, ◌+◌, ◌-◌, ◌<◌, ◌≤◌, true, None, get_or, All, [], ◌++◌, ◌∷◌, length, map, take, drop, min, IfOk, IfErr, IfNone, IfSome, OnOk, OnErr, slice_get, option_copied, count_by, is_some, vec_len, vec_capacity};
+//! The pair: what was typed becomes entries, and what is shown waits in a queue.
+
+ghost use Rattle.std.specs.Prelude.{◌≡◌, ◌&&◌, ◌+◌, ◌-◌, ◌<◌, ◌≤◌, true, None, get_or, All, [], ◌++◌, ◌∷◌};
+ghost use Rattle.std.specs.Prelude.{length, map, take, drop, min, IfOk, IfErr, IfNone, IfSome, OnOk, OnErr};
+ghost use Rattle.std.specs.Prelude.{slice_get, option_copied, count_by, is_some, vec_len, vec_capacity};
 ghost use Rattle.tn_discipline.specs.Keys.{roles_of, role_of_key, literal_role, roles_from};
 ghost use Rattle.tn_discipline.specs.HalfLine.{effect_of, line_after, effect_entries, GivesText};
 ghost use Rattle.tn_discipline.specs.Advancing.{Advances};
 ghost use Rattle.tn_discipline.specs.RolesTable.{IsPlain};
 ghost use Rattle.tn_discipline.specs.declared.echo.Symbol.TheVariants.{Byte};
-ghost use Rattle.tn_pty.specs.Terminal.{new_terminal, queue_with, queue_with_each, output_symbols, fitting_count, shut_terminal, first_signal, queue_symbols, max_waiting};
+ghost use Rattle.tn_pty.specs.Terminal.{new_terminal, queue_with, queue_with_each, output_symbols};
+ghost use Rattle.tn_pty.specs.Terminal.{fitting_count, shut_terminal, first_signal, queue_symbols};
+ghost use Rattle.tn_pty.specs.Terminal.{max_waiting};
 ghost use Rattle.tn_pty.specs.Runs.{leading_run};
-ghost use Rattle.tn_pty.specs.Typing.{gain_of, symbols_in, echo_symbols, terminal_after, role_of_input, after_byte, after_all, input_gains, JoinsEdited, command_role, command_shows, IsCommandRole};
+ghost use Rattle.tn_pty.specs.Typing.{gain_of, symbols_in, echo_symbols, terminal_after, role_of_input};
+ghost use Rattle.tn_pty.specs.Typing.{after_byte, after_all, input_gains, JoinsEdited, command_role};
+ghost use Rattle.tn_pty.specs.Typing.{command_shows, IsCommandRole};
 ghost use Rattle.tn_pty.specs.Faults.{Accepts, Refuses, AcceptsAll, StopsWithin};
 ghost use Rattle.tn_pty.specs.declared.pty.Input.TheVariants.{Keys, Edited};
 
@@ -251,8 +259,8 @@ impl Pair {
         self.queue.pop()
     }
 
-    /// The master moves the leading symbols that are bytes into `out`, as bytes: at most `max` of them, up to a
-    /// line feed or one of the two bytes `ends`. It returns how many they are. `out` has room for as many.
+    /// The master moves the leading symbols that are bytes into `out`, as bytes: at most `max` of them, up to
+    /// a line feed or one of the two bytes `ends`. It returns how many they are. `out` has room for as many.
     pub fn pull_run(&mut self, max: usize, ends: (u8, u8), out: &mut Vec<u8>) -> usize
         requires { vec_len out.old + min max (length self.old.queue) ≤ vec_capacity out.old }
         ensures count { result ≡ min max (length (leading_run ends.0 ends.1 self.old.queue)) }

@@ -1,9 +1,11 @@
 //! The symbols that wait to be pulled. They are kept as bytes, so that runs of them go in and out at once.
 
-ghost use Rattle.std.specs.Prelude.{◌≡◌, ◌+◌, ◌<◌, ◌≤◌, false, [], ◌++◌, ◌∷◌, length, map, take, drop, min, get_or, replicate, slice_get, IfOk, vec_len, vec_capacity};
+ghost use Rattle.std.specs.Prelude.{◌≡◌, ◌+◌, ◌<◌, ◌≤◌, false, [], ◌++◌, ◌∷◌, length, map, take, drop, min};
+ghost use Rattle.std.specs.Prelude.{get_or, replicate, slice_get, IfOk, vec_len, vec_capacity};
 ghost use Rattle.circular_buffer.specs.Buffer.{buffer};
 ghost use Rattle.tn_pty.specs.Terminal.{queue_with, queue_symbols};
-ghost use Rattle.tn_pty.specs.Runs.{shown_byte, ends_run, leading_run, leading_bytes, marks_after, marked_symbols, feeds};
+ghost use Rattle.tn_pty.specs.Runs.{shown_byte, ends_run, leading_run, leading_bytes, marks_after};
+ghost use Rattle.tn_pty.specs.Runs.{marked_symbols, feeds};
 
 use circular_buffer::HeapCircularBuffer;
 use memchr::{memchr, memchr3};
@@ -14,8 +16,8 @@ use tn_discipline::Symbol;
 /// How many symbols the output queue holds.
 pub const QUEUE_SYMBOLS: usize = 4096;
 
-/// A queue of symbols: a byte for each, and a mark for each line feed among them, which says whether it is a new
-/// line.
+/// A queue of symbols: a byte for each, and a mark for each line feed among them, which says whether it is a
+/// new line.
 #[derive(Drop)]
 pub(crate) struct Queue {
     bytes: HeapCircularBuffer<u8>,
@@ -78,8 +80,8 @@ impl Queue {
         }
     }
 
-    /// Puts bytes behind the others, which leave room for them. Each line feed is a new line where that is asked
-    /// for.
+    /// Puts bytes behind the others, which leave room for them. Each line feed is a new line where that is
+    /// asked for.
     pub(crate) fn push_run(&mut self, bytes: &[u8], newlines: bool)
         requires { length self.old + length bytes.now ≤ queue_symbols }
         ensures { self.new ≡ self.old ++ map (shown_byte newlines) bytes.now }
@@ -115,8 +117,8 @@ impl Queue {
         self.bytes.truncate_front(len - count);
     }
 
-    /// Moves the leading symbols that are bytes into a vector that has room, at most `max` of them, up to a line
-    /// feed or one of the two bytes `ends`, and returns how many they are.
+    /// Moves the leading symbols that are bytes into a vector that has room, at most `max` of them, up to a
+    /// line feed or one of the two bytes `ends`, and returns how many they are.
     pub(crate) fn pull_run(&mut self, max: usize, ends: (u8, u8), out: &mut Vec<u8>) -> usize
         requires { vec_len out.old + min max (length self.old) ≤ vec_capacity out.old }
         ensures count { result ≡ min max (length (leading_run ends.0 ends.1 self.old)) }
@@ -148,8 +150,8 @@ fn push_marks(marks: &mut HeapCircularBuffer<bool>, bytes: &[u8], newlines: bool
     }
 }
 
-// Puts the mark of the first byte behind the others where that is a line feed, else passes over the bytes in front of
-// the next one, and returns how many bytes were done.
+// Puts the mark of the first byte behind the others where that is a line feed, else passes over the bytes in
+// front of the next one, and returns how many bytes were done.
 fn push_mark(marks: &mut HeapCircularBuffer<bool>, bytes: &[u8], newlines: bool) -> usize
     requires some { 0 < length bytes.now }
     requires room { length marks.old.items + feeds bytes.now ≤ marks.old.capacity }

@@ -1,5 +1,5 @@
-//! A channel in which one puts and one takes, under a rule: what was taken, and then what the channel holds, is
-//! what was put.
+//! A channel in which one puts and one takes, under a rule: what was taken, and then what the channel holds,
+//! is what was put.
 //!
 //! ```
 //! let (to, from, mut pass) = bounded_with::<T, Hand<T>, InTurn, Global>(alloc, 2)?;
@@ -11,7 +11,8 @@
 #![tactic(auto)]
 
 ghost use Rattle.std.specs.Prelude.{◌≡◌, Option, None};
-ghost use Rattle.tn_queue.specs.Queue.{InOrder, LeftOver, both_hands, joined_hands, no_hand, put_more, slot, taken_more};
+ghost use Rattle.tn_queue.specs.Queue.{InOrder, LeftOver, both_hands, joined_hands, no_hand, put_more, slot};
+ghost use Rattle.tn_queue.specs.Queue.{taken_more};
 ghost use Rattle.tn_streams.specs.Seats.{Kept};
 
 use crossbeam_channel::protocol::{Join, Lesson, Outcome, Protocol, Split};

@@ -33,7 +33,8 @@ module _ {M J : Type 0} (server : ServerFacts M J) (whole faulted refused : ℕ)
     refused_is = omega (arith, c.refused_is);
   }
 
-  pub one_whole : (joined : Joined server) (finished : Finished) → finished ≡ finished_as joined.ran → IsWhole finished → StillCounts server whole faulted refused (whole + 1) faulted refused
+  pub one_whole : (joined : Joined server) (finished : Finished) → finished ≡ finished_as joined.ran → IsWhole finished
+      → StillCounts server whole faulted refused (whole + 1) faulted refused
   one_whole joined finished is ends c = record {
     whole_ones = (joined, subst IsWhole is ends) ∷ c.whole_ones;
     faulted_ones = c.faulted_ones;
@@ -44,7 +45,8 @@ module _ {M J : Type 0} (server : ServerFacts M J) (whole faulted refused : ℕ)
     refused_is = c.refused_is;
   }
 
-  pub one_faulted : (joined : Joined server) (finished : Finished) → finished ≡ finished_as joined.ran → ¬ IsWhole finished → StillCounts server whole faulted refused whole (faulted + 1) refused
+  pub one_faulted : (joined : Joined server) (finished : Finished) → finished ≡ finished_as joined.ran → ¬ IsWhole finished
+      → StillCounts server whole faulted refused whole (faulted + 1) refused
   one_faulted joined finished is ends c = record {
     whole_ones = c.whole_ones;
     faulted_ones = (joined, subst (λ (f : Finished). ¬ IsWhole f) is ends) ∷ c.faulted_ones;
@@ -56,8 +58,10 @@ module _ {M J : Type 0} (server : ServerFacts M J) (whole faulted refused : ℕ)
   }
 
 -- nothing is counted yet, and then this is
-pub counts_from_none : {M J : Type 0} (server : ServerFacts M J) (none none' none'' whole faulted refused whole' faulted' refused' : ℕ) → (none ≡ 0) × (none' ≡ 0) × (none'' ≡ 0)
-    → StillCounts server none none' none'' whole faulted refused → StillCounts server whole faulted refused whole' faulted' refused' → CountsSessions server whole' faulted' refused'
+pub counts_from_none : {M J : Type 0} (server : ServerFacts M J) (none none' none'' whole faulted refused whole' faulted' refused' : ℕ) → (none ≡ 0)
+    × (none' ≡ 0) × (none'' ≡ 0)
+    → StillCounts server none none' none'' whole faulted refused → StillCounts server whole faulted refused whole' faulted' refused'
+    → CountsSessions server whole' faulted' refused'
 counts_from_none server none none' none'' whole faulted refused whole' faulted' refused' zeros one two =
     two (one (record { whole_ones = []; faulted_ones = []; unstarted = 0; refused_ones = []; whole_is = zeros.0; faulted_is = zeros.1; refused_is = zeros.2 }))
 

@@ -11,7 +11,8 @@ only_all count (Ok served) (inl all) = all
 only_all count (Ok served) (inr few) = absurd few.1
 only_all count (Err fault) is = tt
 
-pub enough : (count : ℕ) (told : Type 0) (accepted : Accepted) (served : Served) → served.accepted ≡ accepted.count → (accepted.is_told ≡ true → told) → AreEnough count accepted
+pub enough : (count : ℕ) (told : Type 0) (accepted : Accepted) (served : Served) → served.accepted ≡ accepted.count → (accepted.is_told ≡ true → told)
+    → AreEnough count accepted
     → ServesUntil count told served
 enough count told accepted served same tells (inl all) = inl (same ∙ all)
 enough count told accepted served same tells (inr few) = inr (subst (λ (n : ℕ). n ≤ count) (sym same) few.0, tells few.1)

@@ -41,7 +41,8 @@ module _ {V : Type 0} (turns : V → Turn → V → Type 0) (HasEnded : Finished
     whole_ones = h.whole_ones;
   }
 
-  pub session_ended : (number : ℕ) (finished : Finished) (old new : V) → turns old (Ended number finished) new → HasEnded finished → HearsOfEnd turns HasEnded number finished old new
+  pub session_ended : (number : ℕ) (finished : Finished) (old new : V) → turns old (Ended number finished) new → HasEnded finished
+      → HearsOfEnd turns HasEnded number finished old new
   session_ended number finished old new turn has whole faulted whole' faulted' live live' one counted first h = record {
     calls = Ended number finished ∷ h.calls;
     called = (old, h.called, turn, has);
@@ -53,14 +54,16 @@ module _ {V : Type 0} (turns : V → Turn → V → Type 0) (HasEnded : Finished
   }
 
   -- its jobs were made, and it was not started
-  pub made_and_ended : (number : ℕ) (finished : Finished) (old mid new : V) → whole_of finished ≡ 0 → HearsOfJobs turns HasEnded number old mid → HearsOfEnd turns HasEnded number finished mid new
+  pub made_and_ended : (number : ℕ) (finished : Finished) (old mid new : V) → whole_of finished ≡ 0 → HearsOfJobs turns HasEnded number old mid
+      → HearsOfEnd turns HasEnded number finished mid new
       → HearsOfNone turns HasEnded old new
   made_and_ended number finished old mid new not_whole made ended whole faulted live first h =
       ended whole faulted whole (faulted + 1) (λ n. live n + is_same n number) live (λ n. refl) (omega (arith, not_whole), omega arith) first
       (made whole faulted live (λ n. live n + is_same n number) (λ n. refl) first h)
 
   -- the same sessions run, and so many are counted
-  pub same_running : {S : Type 0} (started started' : List S) (number_of : S → ℕ) (whole faulted whole' faulted' : ℕ) (first new : V) → started' ≡ started → whole' ≡ whole → faulted' ≡ faulted
+  pub same_running : {S : Type 0} (started started' : List S) (number_of : S → ℕ) (whole faulted whole' faulted' : ℕ) (first new : V) → started' ≡ started
+      → whole' ≡ whole → faulted' ≡ faulted
       → Hears turns HasEnded first whole faulted new (live_of started number_of) → Hears turns HasEnded first whole' faulted' new (live_of started' number_of)
   same_running {S} started started' number_of whole faulted whole' faulted' first new same same' same'' h =
       subst (λ (l : List S). Hears turns HasEnded first whole' faulted' new (live_of l number_of)) (sym same)
@@ -68,21 +71,25 @@ module _ {V : Type 0} (turns : V → Turn → V → Type 0) (HasEnded : Finished
       (subst (λ (k : ℕ). Hears turns HasEnded first whole k new (live_of started number_of)) (sym same'') h))
 
   -- the same sessions run, and no connection more is counted
-  pub none_counted : {S : Type 0} (started started' : List S) (number_of : S → ℕ) (whole faulted whole' faulted' : ℕ) (old new : V) → started' ≡ started → whole' ≡ whole → faulted' ≡ faulted → new ≡ old
+  pub none_counted : {S : Type 0} (started started' : List S) (number_of : S → ℕ) (whole faulted whole' faulted' : ℕ) (old new : V) → started' ≡ started
+      → whole' ≡ whole → faulted' ≡ faulted → new ≡ old
       → StillHears turns HasEnded whole faulted old (live_of started number_of) whole' faulted' new (live_of started' number_of)
   none_counted started started' number_of whole faulted whole' faulted' old new same same' same'' is first h =
       same_running started started' number_of whole faulted whole' faulted' first new same same' same''
       (subst (λ (v : V). Hears turns HasEnded first whole faulted v (live_of started number_of)) (sym is) h)
 
   -- the same sessions run, and one connection more is counted
-  pub one_counted : {S : Type 0} (started started' : List S) (number_of : S → ℕ) (whole faulted whole' faulted' : ℕ) (old new : V) → started' ≡ started → whole' ≡ whole → faulted' ≡ faulted + 1
-      → HearsOfNone turns HasEnded old new → StillHears turns HasEnded whole faulted old (live_of started number_of) whole' faulted' new (live_of started' number_of)
+  pub one_counted : {S : Type 0} (started started' : List S) (number_of : S → ℕ) (whole faulted whole' faulted' : ℕ) (old new : V) → started' ≡ started
+      → whole' ≡ whole → faulted' ≡ faulted + 1
+      → HearsOfNone turns HasEnded old new → StillHears turns HasEnded whole faulted old (live_of started number_of) whole' faulted' new
+      (live_of started' number_of)
   one_counted started started' number_of whole faulted whole' faulted' old new same same' one none first h =
       same_running started started' number_of whole (faulted + 1) whole' faulted' first new same same' one
       (none whole faulted (live_of started number_of) first h)
 
   -- one session more runs
-  pub one_started : {S : Type 0} (before started started' : List S) (number_of : S → ℕ) (number whole faulted whole' faulted' : ℕ) (old new : V) → started ≡ before → whole' ≡ whole → faulted' ≡ faulted
+  pub one_started : {S : Type 0} (before started started' : List S) (number_of : S → ℕ) (number whole faulted whole' faulted' : ℕ) (old new : V)
+      → started ≡ before → whole' ≡ whole → faulted' ≡ faulted
       → IsOneMore number (live_of started number_of) (live_of started' number_of) → HearsOfJobs turns HasEnded number old new
       → StillHears turns HasEnded whole faulted old (live_of before number_of) whole' faulted' new (live_of started' number_of)
   one_started {S} before started started' number_of number whole faulted whole' faulted' old new same same' same'' one jobs first h =
@@ -91,12 +98,14 @@ module _ {V : Type 0} (turns : V → Turn → V → Type 0) (HasEnded : Finished
       (subst (λ (l : List S). IsOneMore number (live_of l number_of) (live_of started' number_of)) same one) first h)
 
 -- one of them is joined
-pub one_joined : {S : Type 0} (started started' : List S) (number_of : S → ℕ) (place : ℕ) (x : S) → place < length started → x ≡ get_or started place x → started' ≡ swap_remove started place x
+pub one_joined : {S : Type 0} (started started' : List S) (number_of : S → ℕ) (place : ℕ) (x : S) → place < length started → x ≡ get_or started place x
+    → started' ≡ swap_remove started place x
     → IsOneMore (number_of x) (live_of started' number_of) (live_of started number_of)
 one_joined {S} started started' number_of place x there is is' m =
     let f : S → ℕ = λ s. is_same m (number_of s) in
     let e = sum_by-swap_remove f started place x there in
-    let e' : sum_by f (swap_remove started place x) + f x ≡ sum_by f started = subst (λ (y : S). sum_by f (swap_remove started place x) + f y ≡ sum_by f started) (sym is) e in
+    let e' : sum_by f (swap_remove started place x) + f x ≡ sum_by f started =
+    subst (λ (y : S). sum_by f (swap_remove started place x) + f y ≡ sum_by f started) (sym is) e in
     subst (λ (l : List S). sum_by f started ≡ sum_by f l + f x) (sym is') (sym e')
 
 none_live : {S : Type 0} (started : List S) (number_of : S → ℕ) → length started ≡ 0 → (n : ℕ) → live_of started number_of n ≡ 0
@@ -104,9 +113,29 @@ none_live [] number_of none n = refl
 none_live (s ∷ started) number_of none n = omega (arith, none)
 
 -- no session runs at first, and none at last
-pub hears_all : {V S : Type 0} (turns : V → Turn → V → Type 0) (HasEnded : Finished → Type 0) (started started' : List S) (number_of : S → ℕ) (none_yet none_yet' whole faulted : ℕ) (service last : V)
+pub hears_all : {V S : Type 0} (turns : V → Turn → V → Type 0) (HasEnded : Finished → Type 0) (started started' : List S) (number_of : S → ℕ)
+    (none_yet none_yet' whole faulted : ℕ) (service last : V)
     → (none_yet ≡ 0) × (none_yet' ≡ 0) → length started ≡ 0 → length started' ≡ 0
-    → StillHears turns HasEnded none_yet none_yet' service (live_of started number_of) whole faulted last (live_of started' number_of) → HearsAll turns HasEnded service whole faulted
+    → StillHears turns HasEnded none_yet none_yet' service (live_of started number_of) whole faulted last (live_of started' number_of)
+    → HearsAll turns HasEnded service whole faulted
 hears_all turns HasEnded started started' number_of none_yet none_yet' whole faulted service last is none none' still =
-    let h = still service (record { calls = []; called = refl; each = λ n. omega (arith, none_live started number_of none n); in_order = λ n. _; without = 0; all = omega (arith, is.0, is.1); whole_ones = is.0 }) in
-    (last, record { calls = h.calls; called = h.called; each = λ n. omega (arith, h.each n, none_live started' number_of none' n); in_order = h.in_order; without = h.without; all = h.all; whole_ones = h.whole_ones })
+    let h = still service (record {
+      calls = [];
+      called = refl;
+      each = λ n. omega (arith, none_live started number_of none n);
+      in_order = λ n. _;
+      without = 0;
+      all = omega (arith, is.0, is.1);
+      whole_ones = is.0;
+    }) in (
+      last,
+      record {
+        calls = h.calls;
+        called = h.called;
+        each = λ n. omega (arith, h.each n, none_live started' number_of none' n);
+        in_order = h.in_order;
+        without = h.without;
+        all = h.all;
+        whole_ones = h.whole_ones;
+      },
+    )

@@ -14,5 +14,7 @@ abbrev refused : Error → Result TcpListener Error
 refused error = Err error
 
 -- there is a cause only where the listener that was asked for was refused
-abbrev pub IsCaused : {A : Type 0} → (Result TcpListener Error → Type 0) → List ℕ → List ℕ → Result A ServeFault → Type 0
-IsCaused listens old new result = (new ≡ old) ⊎ ((error : Error) × listens (refused error) × FailsByNetwork result)
+abbrev pub IsCaused : {A : Type 0} → (Result TcpListener Error → Type 0) → List ℕ → List ℕ
+    → Result A ServeFault → Type 0
+IsCaused listens old new result = (new ≡ old)
+    ⊎ ((error : Error) × listens (refused error) × FailsByNetwork result)

@@ -18,12 +18,13 @@ abbrev pub no_options : SessionOptions
 no_options = record { line_limit = standard_limit; editing = Remote; idle = 0; longest = 0 }
 
 -- of makers of such jobs: what is known of the jobs of each
-abbrev pub facts_of : {M J : Type 0} → (J → Type 0) → (M → J → M → Type 0) → (J → Entry → Reaction → J → Type 0)
+abbrev pub facts_of : {M J : Type 0} → (J → Type 0) → (M → J → M → Type 0)
+    → (J → Entry → Reaction → J → Type 0)
     → (J → Reaction → J → Type 0) → (J → Option Entry → Type 0) → M → JobFacts J
 facts_of fresh gives reacts steps refuses jobs = job_facts (begins fresh gives jobs) reacts steps refuses
 
--- What is known of a server: of the jobs that a maker gives and how many are to come, the options of its sessions,
--- which makers its service gives them, and what a connection that gets no session was told.
+-- What is known of a server: of the jobs that a maker gives and how many are to come, the options of its
+-- sessions, which makers its service gives them, and what a connection that gets no session was told.
 pub record ServerFacts (M J : Type 0) : Type 1 where
   pub facts : M → JobFacts J
   pub left : M → Option ℕ
@@ -37,8 +38,8 @@ server_of facts left options made turned =
     record { facts = facts; left = left; options = options; made = made; turned = turned }
 
 module _ {M J : Type 0} (server : ServerFacts M J) where
-  -- a session that was joined: what made its jobs, the connection that it was to run over, and what its thread gave
-  -- back
+  -- a session that was joined: what made its jobs, the connection that it was to run over, and what its thread
+  -- gave back
   pub record Joined : Type 0 where
     pub jobs : M
     pub made : ∥ server.made jobs ∥₁
@@ -50,8 +51,8 @@ module _ {M J : Type 0} (server : ServerFacts M J) where
   abbrev pub HasEnded : Finished → Type 0
   HasEnded finished = ((joined : Joined) × (finished ≡ finished_as joined.ran)) ⊎ (finished ≡ not_started)
 
-  -- So many sessions were joined that ended whole; of those that were faulted, each was joined or could not be
-  -- started; of those that were refused, each connection was told so.
+  -- So many sessions were joined that ended whole; of those that were faulted, each was joined or could not
+  -- be started; of those that were refused, each connection was told so.
   pub record CountsSessions (whole faulted refused : ℕ) : Type 0 where
     pub whole_ones : List ((joined : Joined) × IsWhole (finished_as joined.ran))
     pub faulted_ones : List ((joined : Joined) × ¬ IsWhole (finished_as joined.ran))

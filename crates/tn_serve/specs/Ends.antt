@@ -59,7 +59,8 @@ abbrev pub IfAny : {A : Type 0} → (A → Type 0) → Option A → Type 0
 IfAny P None = ⊥
 IfAny P (Some x) = P x
 
--- each connection of a number below this count was accepted, and where it says so, it was told that no more are to come
+-- each connection of a number below this count was accepted, and where it says so, it was told that no more
+-- are to come
 pub record AcceptsUntil (accepts : ℕ → Result (TcpStream × SocketAddr) Error → Type 0) (ended : Type 0)
     (accepted : Accepted) : Type 0 where
   pub all : AcceptsAll accepts accepted.count

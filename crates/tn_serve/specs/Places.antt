@@ -25,4 +25,5 @@ HasNoPlace roster per_host from_host = (held_count roster ≡ roster.limit) ⊎ 
 
 -- the same sessions run, or one more, over this connection
 abbrev pub RunsOver : {S : Type 0} → (S → TcpStream) → TcpStream → List S → List S → Type 0
-RunsOver {S} stream_of stream old new = (new ≡ old) ⊎ ((s : S) × (new ≡ old ++ s ∷ []) × (stream_of s ≡ stream))
+RunsOver {S} stream_of stream old new =
+    (new ≡ old) ⊎ ((s : S) × (new ≡ old ++ s ∷ []) × (stream_of s ≡ stream))

@@ -23,12 +23,13 @@ terminal_of options =
       editing = options.editing;
     }
 
--- A server's session ran with such jobs, wrote what is in this log, and gave back this. Of the connection nothing was
--- known before, but that it tells no size.
-abbrev pub RunsWriting : {J : Type 0} → JobFacts J → Option ℕ → SessionOptions → WriteLog → SessionResult → Type 0
+-- A server's session ran with such jobs, wrote what is in this log, and gave back this. Of the connection
+-- nothing was known before, but that it tells no size.
+abbrev pub RunsWriting : {J : Type 0} → JobFacts J → Option ℕ → SessionOptions → WriteLog → SessionResult
+    → Type 0
 RunsWriting facts to_make options log result =
-    RunningSession facts to_make (terminal_of options) (record { bytes = None; failures = None; sizes = Some [] })
-    (wrote log) result
+    RunningSession facts to_make (terminal_of options)
+    (record { bytes = None; failures = None; sizes = Some [] }) (wrote log) result
 
 -- the same, of what it gave back: all that was read from the connection stands in the ports
 abbrev pub RunsServer : {J : Type 0} → JobFacts J → Option ℕ → SessionOptions → Conversed → Type 0
@@ -39,8 +40,8 @@ RunsServer facts to_make options conversed =
 abbrev pub connection_of : Conversed → TcpStream
 connection_of conversed = conversed.connection.value
 
--- What the thread of a session gives back: where that came to its report, such a session ran over this connection,
--- in which never too many entries waited; else why it did not.
+-- What the thread of a session gives back: where that came to its report, such a session ran over this
+-- connection, in which never too many entries waited; else why it did not.
 abbrev pub IsPromised : {J : Type 0} → JobFacts J → Option ℕ → SessionOptions → TcpStream → Ran → Type 0
 IsPromised facts to_make options stream ran =
     IfErr ran.ended IsRefusal

@@ -76,9 +76,9 @@ module _ {V : Type 0} (turns : V → Turn → V → Type 0) (HasEnded : Finished
   IsCalled (turn ∷ earlier) now =
       (before : V) × IsCalled earlier before × turns before turn now × TellsSo HasEnded turn
 
-  -- So many sessions are counted, without a fault and with one, and as often as a number is live, its session has jobs
-  -- and has not ended: each session that got jobs ends once, and is counted then as it was heard; a connection that never
-  -- got any is counted as one with a fault.
+  -- So many sessions are counted, without a fault and with one, and as often as a number is live, its session
+  -- has jobs and has not ended: each session that got jobs ends once, and is counted then as it was heard; a
+  -- connection that never got any is counted as one with a fault.
   pub record Hears (whole faulted : ℕ) (now : V) (live : ℕ → ℕ) : Type 0 where
     pub calls : List Turn
     pub called : IsCalled calls now
@@ -96,7 +96,8 @@ module _ {V : Type 0} (turns : V → Turn → V → Type 0) (HasEnded : Finished
   -- what was so up to the old service, is so up to the new one
   abbrev pub StillHears : ℕ → ℕ → V → (ℕ → ℕ) → ℕ → ℕ → V → (ℕ → ℕ) → Type 0
   StillHears whole faulted now live whole' faulted' now' live' = (first : V)
-      → Hears turns HasEnded first whole faulted now live → Hears turns HasEnded first whole' faulted' now' live'
+      → Hears turns HasEnded first whole faulted now live
+      → Hears turns HasEnded first whole' faulted' now' live'
 
   -- one more session has jobs
   abbrev pub HearsOfJobs : ℕ → V → V → Type 0
@@ -105,7 +106,8 @@ module _ {V : Type 0} (turns : V → Turn → V → Type 0) (HasEnded : Finished
 
   -- one more connection is counted
   abbrev pub HearsOfNone : V → V → Type 0
-  HearsOfNone old new = (whole faulted : ℕ) (live : ℕ → ℕ) → StillHears whole faulted old live whole (faulted + 1) new live
+  HearsOfNone old new = (whole faulted : ℕ) (live : ℕ → ℕ)
+      → StillHears whole faulted old live whole (faulted + 1) new live
 
   -- one more session has ended
   abbrev pub HearsOfEnd : ℕ → Finished → V → V → Type 0

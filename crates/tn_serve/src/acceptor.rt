@@ -67,8 +67,8 @@ impl Accepted {
     }
 }
 
-/// What the thread that accepts promises: it gives back of how many connections it was asked for each, and whether it
-/// was told that no more are to come.
+/// What the thread that accepts promises: it gives back of how many connections it was asked for each, and
+/// whether it was told that no more are to come.
 #[derive(Drop)]
 pub(crate) struct AcceptorSays<H, U> {
     pub(crate) rt: Snapshot<H>,
@@ -105,8 +105,8 @@ impl<H: Host + Network, U: Until + Drop + Send + 'static> Acceptor<H, U> {
         }
     }
 
-    // Runs until the last connection was accepted, none is to come any more, the listener is broken, or nobody
-    // listens any more.
+    // Runs until the last connection was accepted, none is to come any more, the listener is broken, or
+    // nobody listens any more.
     fn run(self) -> Accepted
         ensures { AcceptsUntil (H.accepts self.rt self.listener) (U.ends self.until) result }
     {
@@ -141,9 +141,9 @@ impl<H: Host + Network, U: Until + Drop + Send + 'static> Acceptor<H, U> {
         }
     }
 
-    // The connection of this number, or none where it is told that none is to come any more. One that its peer closed
-    // before it was accepted is skipped. Where the machine has no descriptor or no memory for one, that is told once and
-    // tried again after a pause.
+    // The connection of this number, or none where it is told that none is to come any more. One that its
+    // peer closed before it was accepted is skipped. Where the machine has no descriptor or no memory for
+    // one, that is told once and tried again after a pause.
     fn next(&self, number: u64) -> io::Result<Option<(TcpStream, SocketAddr)>>
         ensures came { IfOk result (λ next. IfSome next (λ came.
             H.accepts self.now.rt self.now.listener number (Ok came))) }

@@ -26,7 +26,8 @@ pub struct Notes {
 }
 
 impl Notes {
-    /// Has it noted that a line of so many bytes may have been cut. While too much is to be noted, that is dropped.
+    /// Has it noted that a line of so many bytes may have been cut. While too much is to be noted, that is
+    /// dropped.
     pub fn note_cut<R: Wait>(&self, rt: &R, bytes: usize) {
         let _ = self.events.try_send(rt, Event::Cut(self.number, bytes));
     }

@@ -83,8 +83,8 @@ pub(crate) fn note_cut<C: Clock, E: Write>(
     let _ = errors.write_all(&line);
 }
 
-/// A session has ended so, and this passed over its connection. Where its service was not reached, the causes are
-/// lines that begin with `tn: `.
+/// A session has ended so, and this passed over its connection. Where its service was not reached, the causes
+/// are lines that begin with `tn: `.
 pub(crate) fn note_end<C: Clock, E: Write>(
     clock: &C,
     alloc: Global,

@@ -1,6 +1,7 @@
 //! Each connection has a session in threads of its own.
 
-ghost use Rattle.std.specs.Prelude.{◌≡◌, ◌⊎◌, ◌<◌, ◌≤◌, ◌+◌, ◌^◌, ◌-◌, true, IfOk, IfSome, IfNone, IsErrOf, vec_items, vec_len};
+ghost use Rattle.std.specs.Prelude.{◌≡◌, ◌⊎◌, ◌<◌, ◌≤◌, ◌+◌, ◌^◌, ◌-◌, true, IfOk, IfSome, IfNone, IsErrOf};
+ghost use Rattle.std.specs.Prelude.{vec_items, vec_len};
 ghost use Rattle.tn_serve.specs.Causes.{IsCaused};
 ghost use Rattle.tn_serve.specs.Counted.{CountsSessions, HasEnded, StillCounts, facts_of, server_of};
 ghost use Rattle.tn_serve.specs.Ends.{ServesAll, ServesUntil};
@@ -44,14 +45,14 @@ use tn_sockets::{Hook, Host, Standing};
 /// How many events wait at most for the loop.
 const EVENTS: usize = 16;
 
-/// Serves an address, or a name that has one, until so many connections were accepted, or `until` tells that no
-/// more are to come, and all their sessions have ended. Each connection has a session in threads of its own, with
-/// the jobs that the service makes for it, as long as there are no more of them, and no more from its address,
-/// than there may be; one more is told `full` and closed.
-/// One that ends in a fault is reported in two lines on `errors`, the second a note of how it ended, and
-/// changes nothing else. Where it cannot listen, `causes` gets a line. Each session is a call of
-/// `serve_connection`; the clauses below count them, and say what the network was asked for. None makes it ask
-/// `until`. It takes eight, since what is lent and what is given here go together nowhere else.
+/// Serves an address, or a name that has one, until so many connections were accepted, or `until` tells that
+/// no more are to come, and all their sessions have ended. Each connection has a session in threads of its
+/// own, with the jobs that the service makes for it, as long as there are no more of them, and no more from
+/// its address, than there may be; one more is told `full` and closed. One that ends in a fault is reported
+/// in two lines on `errors`, the second a note of how it ended, and changes nothing else. Where it cannot
+/// listen, `causes` gets a line. Each session is a call of `serve_connection`; the clauses below count them,
+/// and say what the network was asked for. None makes it ask `until`. It takes eight, since what is lent and
+/// what is given here go together nowhere else.
 pub fn serve<H, U, V, E>(
     rt: H,
     alloc: Global,
@@ -100,7 +101,8 @@ pub fn serve_on<H: Host + Network, V: Service + Drop, E: Write>(
     ensures heard { IfOk result (λ served. HearsAll V.turns (HasEnded (server_of
         (facts_of V.Job.fresh V.Jobs.gives V.Job.reacts V.Job.steps V.Job.refuses) V.Jobs.left serving.options
         (V.makes service) (WasTurnedAway (H.dismisses rt)))) service served.whole served.faulted) }
-    ensures accepted { IfOk result (λ served. Accepts (H.shares rt listener.now) (H.accepts rt) served.accepted) }
+    ensures accepted { IfOk result (λ served.
+        Accepts (H.shares rt listener.now) (H.accepts rt) served.accepted) }
     ensures limit { IsErrOf result ServeFault.Limit → ¬ IsLimit serving.sessions }
     ensures bad_limit { (¬ IsLimit serving.sessions) → IsErrOf result ServeFault.Limit }
 {
@@ -133,7 +135,8 @@ fn serve_as<
     ensures heard { IfOk result (λ served. HearsAll V.turns (HasEnded (server_of
         (facts_of V.Job.fresh V.Jobs.gives V.Job.reacts V.Job.steps V.Job.refuses) V.Jobs.left O.options O.made O.turned))
         service served.whole served.faulted) }
-    ensures accepted { IfOk result (λ served. Accepts (H.shares rt listener.now) (H.accepts rt) served.accepted) }
+    ensures accepted { IfOk result (λ served.
+        Accepts (H.shares rt listener.now) (H.accepts rt) served.accepted) }
     ensures limit { IsErrOf result ServeFault.Limit → ¬ IsLimit serving.sessions }
     ensures bad_limit { (¬ IsLimit serving.sessions) → IsErrOf result ServeFault.Limit }
 {
@@ -554,8 +557,8 @@ impl<H: Host + Network, V: Service, O: Asked<V::Jobs>> Open<H, V, O> {
         );
     }
 
-    // Reports a session that ended in a fault. Its end is noted, as that of one whose service was not reached for
-    // these causes, and of any other where that is wanted.
+    // Reports a session that ended in a fault. Its end is noted, as that of one whose service was not reached
+    // for these causes, and of any other where that is wanted.
     fn tell_end<E: Write>(
         &self,
         caller: &Caller,

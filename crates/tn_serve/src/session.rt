@@ -60,7 +60,8 @@ where
             stream: Snapshot::of(&self.stream),
         };
         let work = move || -> Ran
-            ensures { IsPromised (job_facts (begins M.Job.fresh M.gives self.jobs) M.Job.reacts M.Job.steps M.Job.refuses)
+            ensures { IsPromised (job_facts (begins M.Job.fresh M.gives self.jobs) M.Job.reacts M.Job.steps
+                M.Job.refuses)
                 (M.left self.jobs) self.options self.stream result }
         {
             let ran = self.run();

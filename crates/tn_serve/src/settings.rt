@@ -13,8 +13,8 @@ pub struct SessionOptions {
     pub line_limit: Limit,
     /// Which side the client is asked to edit at.
     pub editing: Editing,
-    /// After how many seconds in which the client sends nothing that reaches the terminal a session ends as by a
-    /// hang-up, or 0 for never.
+    /// After how many seconds in which the client sends nothing that reaches the terminal a session ends as
+    /// by a hang-up, or 0 for never.
     pub idle: u32,
     /// After how many seconds a session ends as by a hang-up, or 0 for never.
     pub longest: u32,

@@ -5,8 +5,8 @@ use std::collections::VecDeque;
 use std::net::TcpStream;
 use std::time::{Clock, Duration, Instant};
 
-/// For how many seconds such a connection is kept open. One that is closed at once could lose the word that it was
-/// told, where its peer sends something.
+/// For how many seconds such a connection is kept open. One that is closed at once could lose the word that
+/// it was told, where its peer sends something.
 const OPEN: u64 = 1;
 
 /// How many of them are kept open at most.
@@ -54,7 +54,8 @@ impl TurnedAway {
         let _ = self.kept.push_back(turned);
     }
 
-    /// Closes those that had their time. Returns for how long the others are kept at most, if there are others.
+    /// Closes those that had their time. Returns for how long the others are kept at most, if there are
+    /// others.
     pub(crate) fn close<C: Clock>(&mut self, clock: &C) -> Option<Duration> {
         for _ in 0..KEPT_OPEN {
             if !self.has_past(clock) {

@@ -2,8 +2,8 @@
 
 ghost use Rattle.std.specs.Prelude.{◌≡◌, true};
 
-/// Who is asked whether a server is to accept no more connections: before each of them, and about once a second. It
-/// is asked in the thread that accepts. Of what it tells nothing else gives the relation.
+/// Who is asked whether a server is to accept no more connections: before each of them, and about once a
+/// second. It is asked in the thread that accepts. Of what it tells nothing else gives the relation.
 pub trait Until {
     // it told that no more are to come
     ghost ends: { Self → Type 0 };

@@ -13,7 +13,8 @@ pub nothing_asked : (on : Bool) → asked_mask_while on 0 ≡ 0
 nothing_asked true = refl
 nothing_asked false = refl
 
-pub begins : (canon : Canon) (end : End) → end.terminal ≡ new_terminal canon.settings canon.limit → end.table ≡ canon.settings.chars → end.terms.options ≡ opening_options → end.terms.wish ≡ 0 → end.modes ≡ no_mode → end.pulled ≡ false → LeadsTo (begun canon) end
+pub begins : (canon : Canon) (end : End) → end.terminal ≡ new_terminal canon.settings canon.limit → end.table ≡ canon.settings.chars
+    → end.terms.options ≡ opening_options → end.terms.wish ≡ 0 → end.modes ≡ no_mode → end.pulled ≡ false → LeadsTo (begun canon) end
 begins canon end terminal table options wish modes pulled = record {
   settings = ap (λ t. t.settings) terminal;
   table = table;

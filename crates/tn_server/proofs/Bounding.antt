@@ -1,5 +1,6 @@
 -- How much a server end sends at most.
-use Rattle.std.proofs.Common.{◌≡◌, ◌≢◌, ℕ, ◌+◌, ◌*◌, ◌≤◌, ◌==◌, nat_le, Bool, true, false, not, ◌&&◌, ◌||◌, Option, Some, None, Result, Ok, Err, List, [], ◌∷◌, ◌++◌, length, map, take, drop, refl, sym, ◌∙◌, ap, arith, if◌then◌else◌, length-take, take-append-drop}
+use Rattle.std.proofs.Common.{◌≡◌, ◌≢◌, ℕ, ◌+◌, ◌*◌, ◌≤◌, ◌==◌, nat_le, Bool, true, false, not, ◌&&◌, ◌||◌, Option, Some, None, Result, Ok, Err, List, [], ◌∷◌}
+use Rattle.std.proofs.Common.{◌++◌, length, map, take, drop, refl, sym, ◌∙◌, ap, arith, if◌then◌else◌, length-take, take-append-drop}
 use Rattle.std.proofs.lemmas.List.{map-append, length-map}
 use Rattle.std.proofs.lemmas.Nat.{and_le_r}
 use Rattle.tn_codes.specs.Masks.{trimmed_octets}
@@ -37,13 +38,16 @@ use Rattle.tn_pty.specs.Terminal.{queue_with, output_symbol, output_symbols, fit
 use Rattle.tn_pty.specs.Typing.{symbols_in, echo_symbols, command_shows}
 use Rattle.tn_wire.specs.Prefixes.{IsRead}
 use Rattle.tn_wire.specs.Words.{word_items, payload_items, mode_items, list_items}
-use Rattle.tn_wire.proofs.lemmas.Sizes.{size, size-append, size-one, size-word, size-mode, size-list, size-plain_triple, size-table, octets_size, answers-size, says_under, size-came, size-least, size-sub, size-params, doubled_most}
+use Rattle.tn_wire.proofs.lemmas.Sizes.{size, size-append, size-one, size-word, size-mode, size-list, size-plain_triple, size-table, octets_size, answers-size}
+use Rattle.tn_wire.proofs.lemmas.Sizes.{says_under, size-came, size-least, size-sub, size-params, doubled_most}
 use Rattle.tn_server.specs.Bounds.{max_said, HasAllowedCharacters, max_of_calls, bytes_due}
 use Rattle.tn_server.specs.Events.{History, Event, begun, next, got, took, wrote, pulled, wished, char_set, echo_set, mask_set, items}
 use Rattle.tn_server.specs.Lines.{line}
 use Rattle.tn_server.specs.Screen.{shows, queue, sends_ga, none_waits, due}
-use Rattle.tn_server.specs.Terms.{Terms, terms, options, flags, chars, mode, settings, linemode, echoes, payload_at, options_after, wish_at, wish_after, mask_told, mode_sent, asks_echo, asked_mask_of, wants_echo, terms_by, chars_after, opening_options}
-use Rattle.tn_server.specs.Replies.{asked_word_items, table_items, new_table_items, echo_items, items_by, items_at, list_replies, triple_items, forward_payload, data_of, replies, items_said}
+use Rattle.tn_server.specs.Terms.{Terms, terms, options, flags, chars, mode, settings, linemode, echoes, payload_at, options_after, wish_at, wish_after}
+use Rattle.tn_server.specs.Terms.{mask_told, mode_sent, asks_echo, asked_mask_of, wants_echo, terms_by, chars_after, opening_options}
+use Rattle.tn_server.specs.Replies.{asked_word_items, table_items, new_table_items, echo_items, items_by, items_at, list_replies, triple_items, forward_payload}
+use Rattle.tn_server.specs.Replies.{data_of, replies, items_said}
 use Rattle.tn_server.specs.declared.wishes.Editing.{Editing}
 use Rattle.tn_server.proofs.lemmas.Terms.{differ_self, told_again, table_again, says_nothing, echo_keeps_linemode}
 
@@ -167,7 +171,8 @@ module _ (stays : (c : Characters) (ts : List Triple) → AreAllowed c → AreAl
 
   -- any other says at most a MODE and a word for ECHO
   said_besides : (f : Flags) (c : Characters) (t : Terms) (option : ℕ) (params : List ℕ) → list_replies c (payload_at t.options (Sub option params)) ≡ []
-      → size (items_at f c t (got (Sub option params)) ++ list_replies c (payload_at t.options (Sub option params))) ≤ length (spelling (Sub option params)) + 30
+      → size (items_at f c t (got (Sub option params)) ++ list_replies c (payload_at t.options (Sub option params))) ≤ length (spelling (Sub option params))
+      + 30
   said_besides f c t option params none =
       let said : List Item = items_at f c t (got (Sub option params)) in
       omega (
@@ -179,8 +184,10 @@ module _ (stays : (c : Characters) (ts : List Triple) → AreAllowed c → AreAl
       )
 
   -- what is said to it is no longer than it is and the whole table
-  said_to : (f : Flags) (c : Characters) (t : Terms) (option : ℕ) (params : List ℕ) (p : Option Payload) → AreAllowed c → payload_at t.options (Sub option params) ≡ p
-      → size (items_at f c t (got (Sub option params)) ++ list_replies c (payload_at t.options (Sub option params))) ≤ length (spelling (Sub option params)) + 30
+  said_to : (f : Flags) (c : Characters) (t : Terms) (option : ℕ) (params : List ℕ) (p : Option Payload) → AreAllowed c
+      → payload_at t.options (Sub option params) ≡ p
+      → size (items_at f c t (got (Sub option params)) ++ list_replies c (payload_at t.options (Sub option params))) ≤ length (spelling (Sub option params))
+      + 30
   said_to f c t option params (Some (Slc ts)) allowed e =
       let said : List Item = items_at f c t (got (Sub option params)) in
       let nothing : said ≡ [] = rw e (says_nothing f c t None refl) in
@@ -207,7 +214,8 @@ module _ (stays : (c : Characters) (ts : List Triple) → AreAllowed c → AreAl
   pub said_at_most : (h : History) (item : Item) → AreAllowed (chars h) → size (replies h (got item)) ≤ max_said item
   said_at_most h (Byte b) allowed = silent_at (items_at (flags h) (chars h) (terms h) (got (Byte b))) (says_nothing (flags h) (chars h) (terms h) None refl)
   said_at_most h Newline allowed = silent_at (items_at (flags h) (chars h) (terms h) (got Newline)) (says_nothing (flags h) (chars h) (terms h) None refl)
-  said_at_most h (Cmd command) allowed = silent_at (items_at (flags h) (chars h) (terms h) (got (Cmd command))) (says_nothing (flags h) (chars h) (terms h) None refl)
+  said_at_most h (Cmd command) allowed = silent_at (items_at (flags h) (chars h) (terms h) (got (Cmd command)))
+      (says_nothing (flags h) (chars h) (terms h) None refl)
   said_at_most h (Neg verb option) allowed =
       let said : List Item = items_at (flags h) (chars h) (terms h) (got (Neg verb option)) in
       omega (arith, size-append said [], size-word_at (flags h) (chars h) (terms h) verb option allowed)
@@ -277,12 +285,23 @@ credit_after h item =
 module _ (stays : (c : Characters) (ts : List Triple) → AreAllowed c → AreAllowed (server_after c ts))
     (names : (c : Characters) (t a : Triple) → AreAllowed c → server_answer c t ≡ Some a → Answers t a) where
   item_pays : (h : History) (item : Item) → AreAllowed (chars h)
-      → size (replies h (got item)) + size (map data_of (shows (settings h) (edits (mode h)) (echoes (options h)) (line h) item)) + credit (linemode (options (next h (got item))))
+      → size (replies h (got item)) + size (map data_of (shows (settings h) (edits (mode h)) (echoes (options h)) (line h) item))
+      + credit (linemode (options (next h (got item))))
       ≤ weight item + credit (linemode (options h))
   item_pays h (Byte b) allowed =
-      omega (arith, said_at_most stays names h (Byte b) allowed, size-echo_symbols (not (edits (mode h)) && echoes (options h)) (settings h) b (line h), credit_after h (Byte b))
+      omega (
+        arith,
+        said_at_most stays names h (Byte b) allowed,
+        size-echo_symbols (not (edits (mode h)) && echoes (options h)) (settings h) b (line h),
+        credit_after h (Byte b),
+      )
   item_pays h Newline allowed =
-      omega (arith, said_at_most stays names h Newline allowed, size-echo_symbols (not (edits (mode h)) && echoes (options h)) (settings h) 10 (line h), credit_after h Newline)
+      omega (
+        arith,
+        said_at_most stays names h Newline allowed,
+        size-echo_symbols (not (edits (mode h)) && echoes (options h)) (settings h) 10 (line h),
+        credit_after h Newline,
+      )
   item_pays h (Cmd command) allowed =
       omega (arith, said_at_most stays names h (Cmd command) allowed, size-command command, credit_after h (Cmd command))
   item_pays h (Neg verb option) allowed =
@@ -299,7 +318,8 @@ size-ga false = omega arith
 size-mask : (mask : Option Mask) → size (payload_items (forward_payload mask)) ≤ 71
 size-mask (Some mask) =
     let octets : List ℕ = trimmed_octets (take 32 mask.0) in
-    let whole : size (payload_items (forward_payload (Some mask))) ≡ length (doubled_bytes (253 ∷ 2 ∷ octets)) + 5 = size-sub 34 (253 ∷ 2 ∷ octets) (λ e. omega (arith, e)) in
+    let whole : size (payload_items (forward_payload (Some mask))) ≡ length (doubled_bytes (253 ∷ 2 ∷ octets)) + 5 =
+    size-sub 34 (253 ∷ 2 ∷ octets) (λ e. omega (arith, e)) in
     omega (
       arith,
       whole,
@@ -351,7 +371,8 @@ credit_most true = omega arith
 credit_most false = omega arith
 
 -- what an event adds
-grows : (h : History) (e : Event) (gain : ℕ) → size (replies h e) + size (map data_of (queue (next h e))) + credit (linemode (options (next h e))) ≤ size (map data_of (queue h)) + gain + credit (linemode (options h))
+grows : (h : History) (e : Event) (gain : ℕ) → size (replies h e) + size (map data_of (queue (next h e)))
+    + credit (linemode (options (next h e))) ≤ size (map data_of (queue h)) + gain + credit (linemode (options h))
     → bytes_due (next h e) + credit (linemode (options (next h e))) ≤ bytes_due h + gain + credit (linemode (options h))
 grows h e gain few = omega (arith, few, size-append (items_said h) (replies h e))
 
@@ -399,7 +420,12 @@ module _ (stays : (c : Characters) (ts : List Triple) → AreAllowed c → AreAl
       omega (
         arith,
         bounded h has,
-        grows h (wrote bytes) (2 * length bytes) (omega (arith, size-output (settings h).flags n bytes, ap size (map-append data_of (queue h) xs), size-append (map data_of (queue h)) (map data_of xs))),
+        grows h (wrote bytes) (2 * length bytes) (omega (
+          arith,
+          size-output (settings h).flags n bytes,
+          ap size (map-append data_of (queue h) xs),
+          size-append (map data_of (queue h)) (map data_of xs),
+        )),
       )
   bounded (next h (pulled n)) has =
       omega (arith, bounded h has, grows h (pulled n) 0 (omega (arith, size-pulled n (queue h))))
@@ -408,7 +434,11 @@ module _ (stays : (c : Characters) (ts : List Triple) → AreAllowed c → AreAl
         arith,
         bounded h has,
         grows h (wished editing) 10
-            (omega (arith, size-by_same (flags h) (chars h) (terms h) (Some editing) false, ap credit (linemode_kept (flags h) (terms h) (options h) (Some editing) false))),
+            (omega (
+              arith,
+              size-by_same (flags h) (chars h) (terms h) (Some editing) false,
+              ap credit (linemode_kept (flags h) (terms h) (options h) (Some editing) false),
+            )),
       )
   bounded (next h (char_set func value)) has =
       omega (arith, bounded h has.0, grows h (char_set func value) 9 (omega (arith, character_pays h func value has.1)))

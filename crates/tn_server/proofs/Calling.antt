@@ -1,5 +1,6 @@
 -- Where the owner's calls lead.
-use Rattle.std.proofs.Common.{◌≡◌, ℕ, ◌+◌, nat_lt, Bool, true, false, not, ◌&&◌, ◌||◌, Option, Some, None, is_some, List, [], ◌∷◌, ◌++◌, length, take, refl, sym, ap, ◌∙◌, subst, arith, append-nil, append_assoc, length-append, if◌then◌else◌}
+use Rattle.std.proofs.Common.{◌≡◌, ℕ, ◌+◌, nat_lt, Bool, true, false, not, ◌&&◌, ◌||◌, Option, Some, None, is_some, List, [], ◌∷◌, ◌++◌, length, take, refl}
+use Rattle.std.proofs.Common.{sym, ap, ◌∙◌, subst, arith, append-nil, append_assoc, length-append, if◌then◌else◌}
 use Rattle.std.proofs.lemmas.Bool.{lt-ltb, le-ltb}
 use Rattle.tn_discipline.specs.Characters.{Characters}
 use Rattle.tn_discipline.specs.declared.reads.Entry.{Entry}
@@ -16,7 +17,8 @@ use Rattle.tn_option.specs.Options.{Options, state_of, is_yes}
 use Rattle.tn_option.specs.declared.q_method.Side.TheVariants.{Us}
 use Rattle.tn_pty.specs.Terminal.{Terminal, fitting_count, output_symbols}
 use Rattle.tn_server.specs.Events.{History, next, took, wrote, pulled, wished, echo_set, mask_set}
-use Rattle.tn_server.specs.Terms.{Terms, terms, terms_by, flags, chars, settings, asked_mask, asked_mask_of, asked_mask_while, changes, mask_after, linemode, mask_for, asks_echo, options_with_echo, wants_echo, mask_told}
+use Rattle.tn_server.specs.Terms.{Terms, terms, terms_by, flags, chars, settings, asked_mask, asked_mask_of, asked_mask_while, changes, mask_after, linemode}
+use Rattle.tn_server.specs.Terms.{mask_for, asks_echo, options_with_echo, wants_echo, mask_told}
 use Rattle.tn_wire.specs.Words.{differ, payload_items, mode_items}
 use Rattle.tn_server.specs.Lines.{entries, taken_count}
 use Rattle.tn_server.specs.Screen.{queue, due}
@@ -29,7 +31,11 @@ use Rattle.tn_server.proofs.lemmas.Terms.{differ_self, told_again, table_again, 
 use Rattle.tn_server.proofs.Turning.{sound, with_all}
 use Rattle.tn_server.proofs.Wishing.{wish_done, wish_said, wished_closed}
 
-pub goes_wrote : (old : End) (new : Terminal) (bytes before : List ℕ) → new ≡ record (old.terminal) { queue = old.terminal.queue ++ output_symbols old.terminal.settings.flags (take (fitting_count old.terminal.queue bytes) bytes) } → Advances old (wrote bytes) before before (record old { terminal = new })
+pub goes_wrote : (old : End) (new : Terminal) (bytes before : List ℕ)
+    → new ≡ record (old.terminal) {
+      queue = old.terminal.queue ++ output_symbols old.terminal.settings.flags
+          (take (fitting_count old.terminal.queue bytes) bytes);
+    } → Advances old (wrote bytes) before before (record old { terminal = new })
 goes_wrote old new bytes before is = record {
   said = [];
   appended = sym (append-nil before);
@@ -52,12 +58,16 @@ goes_wrote old new bytes before is = record {
   closed = ap (λ t. t.closed) is;
 }
   where
-    written : (x y : Settings) (p q : List Symbol) → x ≡ y → p ≡ q → p ++ output_symbols x.flags (take (fitting_count p bytes) bytes) ≡ q ++ output_symbols y.flags (take (fitting_count q bytes) bytes)
+    written : (x y : Settings) (p q : List Symbol) → x ≡ y → p ≡ q
+        → p ++ output_symbols x.flags (take (fitting_count p bytes) bytes) ≡ q ++ output_symbols y.flags (take (fitting_count q bytes) bytes)
     written x y p q a b = rw (a, b) refl
 
-pub goes_wrote_some : (old : End) (new : Terminal) (n : ℕ) (bytes before : List ℕ) → n ≡ fitting_count old.terminal.queue bytes → new ≡ record (old.terminal) { queue = old.terminal.queue ++ output_symbols old.terminal.settings.flags (take n bytes) } → Advances old (wrote bytes) before before (record old { terminal = new })
+pub goes_wrote_some : (old : End) (new : Terminal) (n : ℕ) (bytes before : List ℕ) → n ≡ fitting_count old.terminal.queue bytes
+    → new ≡ record (old.terminal) { queue = old.terminal.queue ++ output_symbols old.terminal.settings.flags (take n bytes) }
+    → Advances old (wrote bytes) before before (record old { terminal = new })
 goes_wrote_some old new n bytes before count is =
-    goes_wrote old new bytes before (is ∙ ap (λ (m : ℕ). record (old.terminal) { queue = old.terminal.queue ++ output_symbols old.terminal.settings.flags (take m bytes) }) count)
+    goes_wrote old new bytes before (is ∙ ap (λ (m : ℕ). record (old.terminal)
+    { queue = old.terminal.queue ++ output_symbols old.terminal.settings.flags (take m bytes) }) count)
 
 some_left : (read rest : List Entry) (r : Entry) (n : ℕ) (es : List Entry) → length read ≡ n → es ≡ read ++ r ∷ rest → nat_lt n (length es) ≡ true
 some_left read rest r n es e f = lt-ltb n (length es) (let g = ap length f in omega (arith, e, g, length-append read (r ∷ rest)))
@@ -74,7 +84,8 @@ not_taken_if true n e = cc
 not_taken_if false n e = refl
 
 -- an entry that waits is taken
-pub goes_took : (old : End) (new : Terminal) (r : Entry) (before : List ℕ) → old.terminal.entries ≡ r ∷ new.entries → new ≡ record (old.terminal) { entries = new.entries } → Advances old took before before (record old { terminal = new })
+pub goes_took : (old : End) (new : Terminal) (r : Entry) (before : List ℕ) → old.terminal.entries ≡ r ∷ new.entries
+    → new ≡ record (old.terminal) { entries = new.entries } → Advances old took before before (record old { terminal = new })
 goes_took old new r before first is = record {
   said = [];
   appended = sym (append-nil before);
@@ -101,13 +112,16 @@ goes_took old new r before first is = record {
 }
 
 -- none waits, and GA is said or not
-pub goes_idle : (old : End) (ga : Bool) (before after : List ℕ) → old.terminal.entries ≡ [] → ga ≡ (not (is_yes (state_of old.terms.options Us 3)) && old.pulled) → after ≡ before ++ spells (if ga then Cmd Ga ∷ [] else []) → Advances old took before after (record old { pulled = if ga then false else old.pulled })
+pub goes_idle : (old : End) (ga : Bool) (before after : List ℕ) → old.terminal.entries ≡ []
+    → ga ≡ (not (is_yes (state_of old.terms.options Us 3)) && old.pulled) → after ≡ before ++ spells (if ga then Cmd Ga ∷ [] else [])
+    → Advances old took before after (record old { pulled = if ga then false else old.pulled })
 goes_idle old ga before after none is said = record {
   said = if ga then Cmd Ga ∷ [] else [];
   appended = said;
   replies = λ h s.
       let o = ap (λ (t : Terms). t.options) s.terms in
-      rw (none_left s.read (taken_count h) (entries h) s.count (s.waits ∙ ap (λ (xs : List Entry). s.read ++ xs) none ∙ append-nil s.read), ← o, ← s.due, ← is) refl;
+      rw (none_left s.read (taken_count h) (entries h) s.count (s.waits ∙ ap (λ (xs : List Entry). s.read ++ xs) none ∙ append-nil s.read), ← o, ← s.due, ← is)
+      refl;
   leads = λ h s.
       let left = none_left s.read (taken_count h) (entries h) s.count (s.waits ∙ ap (λ (xs : List Entry). s.read ++ xs) none ∙ append-nil s.read) in
       let o = ap (λ (t : Terms). t.options) s.terms in
@@ -130,16 +144,19 @@ goes_idle old ga before after none is said = record {
 }
 
 -- a wish changes the terms alone
-stands_wished : (h : History) (old : End) (editing : Editing) → LeadsTo h old → LeadsTo (next h (wished editing)) (with_all old (terms_by old.terminal.settings.flags old.terms old.terms.options (Some editing) false) None old.terminal)
+stands_wished : (h : History) (old : End) (editing : Editing) → LeadsTo h old
+    → LeadsTo (next h (wished editing)) (with_all old (terms_by old.terminal.settings.flags old.terms old.terms.options (Some editing) false) None old.terminal)
 stands_wished h old editing s =
     let f = old.terminal.settings.flags in
     let o = old.terms.options in
     let all = terms_by f old.terms o (Some editing) false in
     let is_flags = ap (λ (x : Settings). x.flags) s.settings in
     let is_terms : all ≡ terms (next h (wished editing)) =
-    ap (λ (x : Flags). terms_by x old.terms o (Some editing) false) is_flags ∙ ap (λ (t : Terms). terms_by (flags h) t t.options (Some editing) false) s.terms in
+    ap (λ (x : Flags). terms_by x old.terms o (Some editing) false) is_flags ∙ ap (λ (t : Terms). terms_by (flags h) t t.options (Some editing) false) s.terms
+    in
     let stays : changes o all.options ≡ false =
-    ap (λ (b : Bool). differ (linemode o) b) (echo_keeps_linemode (asks_echo o o (mask_told old.terms o all.wish) false) (wants_echo (asked_mask_of o all.wish) f) o) ∙ differ_self (linemode o) in
+    ap (λ (b : Bool). differ (linemode o) b) (echo_keeps_linemode (asks_echo o o (mask_told old.terms o all.wish) false)
+    (wants_echo (asked_mask_of o all.wish) f) o) ∙ differ_self (linemode o) in
     record {
       settings = s.settings;
       table = s.table;
@@ -159,7 +176,8 @@ stands_wished h old editing s =
       due = s.due;
     }
 
-pub goes_wished : (old new : End) (editing : Editing) (before after : List ℕ) → new ≡ end_after_wish old (mask_for old.terminal.settings.flags editing) → after ≡ before ++ spells (says_wished old (mask_for old.terminal.settings.flags editing)) → Advances old (wished editing) before after new
+pub goes_wished : (old new : End) (editing : Editing) (before after : List ℕ) → new ≡ end_after_wish old (mask_for old.terminal.settings.flags editing)
+    → after ≡ before ++ spells (says_wished old (mask_for old.terminal.settings.flags editing)) → Advances old (wished editing) before after new
 goes_wished old new editing before after is said =
     let mask = mask_for old.terminal.settings.flags editing in
     record {
@@ -172,7 +190,8 @@ goes_wished old new editing before after is said =
           ∙ ap (λ (t : Terms). items_by (flags h) (chars h) t t.options (Some editing) false) s.terms)
           ∙ wish_said old editing mask refl (sound h old s);
       leads = λ h s.
-          subst (LeadsTo (next h (wished editing))) (wish_done old editing mask None old.terminal refl refl refl refl (sound h old s) ∙ sym is) (stands_wished h old editing s);
+          subst (LeadsTo (next h (wished editing))) (wish_done old editing mask None old.terminal refl refl refl refl (sound h old s) ∙ sym is)
+          (stands_wished h old editing s);
       closed = ap (λ (e : End). e.terminal.closed) is ∙ wished_closed old mask;
     }
 
@@ -185,18 +204,29 @@ abbrev with_echo : Flags → Bool → Flags
 with_echo f on = record f { echo = on }
 
 -- the terms once the flag ECHO is set
-echo_terms : (f : Flags) (t : Terms) → terms_by f t t.options None true ≡ record { options = options_with_echo true (wants_echo (asked_mask_of t.options t.wish) f) t.options; wish = t.wish }
+echo_terms : (f : Flags) (t : Terms) → terms_by f t t.options None true
+    ≡ record { options = options_with_echo true (wants_echo (asked_mask_of t.options t.wish) f) t.options; wish = t.wish }
 echo_terms f t =
-    ap (λ (b : Bool). record { options = options_with_echo b (wants_echo (asked_mask_of t.options t.wish) f) t.options; wish = t.wish }) (or_true (changes t.options t.options) (is_some (mask_told t t.options t.wish)))
+    ap (λ (b : Bool). record { options = options_with_echo b (wants_echo (asked_mask_of t.options t.wish) f) t.options; wish = t.wish })
+    (or_true (changes t.options t.options) (is_some (mask_told t t.options t.wish)))
 
-echo_says : (f : Flags) (c : Characters) (t : Terms) → items_by f c t t.options None true ≡ echo_items true (wants_echo (asked_mask_of t.options t.wish) f) t.options
+echo_says : (f : Flags) (c : Characters) (t : Terms) → items_by f c t t.options None true
+    ≡ echo_items true (wants_echo (asked_mask_of t.options t.wish) f) t.options
 echo_says f c t =
-    ap (λ (b : Bool). new_table_items (linemode t.options) (linemode t.options) c ++ (mode_items (mask_told t t.options t.wish) ++ echo_items b (wants_echo (asked_mask_of t.options t.wish) f) t.options)) (or_true (changes t.options t.options) (is_some (mask_told t t.options t.wish)))
-    ∙ ap (λ (xs : List Item). xs ++ (mode_items (mask_told t t.options t.wish) ++ echo_items true (wants_echo (asked_mask_of t.options t.wish) f) t.options)) (table_again (linemode t.options) c)
-    ∙ ap (λ (told : Option ℕ). mode_items told ++ echo_items true (wants_echo (asked_mask_of t.options t.wish) f) t.options) (told_again (linemode t.options) t.wish)
+    ap (λ (b : Bool). new_table_items (linemode t.options) (linemode t.options) c
+    ++ (mode_items (mask_told t t.options t.wish) ++ echo_items b (wants_echo (asked_mask_of t.options t.wish) f) t.options))
+    (or_true (changes t.options t.options) (is_some (mask_told t t.options t.wish)))
+    ∙ ap (λ (xs : List Item). xs ++ (mode_items (mask_told t t.options t.wish) ++ echo_items true (wants_echo (asked_mask_of t.options t.wish) f) t.options))
+    (table_again (linemode t.options) c)
+    ∙ ap (λ (told : Option ℕ). mode_items told ++ echo_items true (wants_echo (asked_mask_of t.options t.wish) f) t.options)
+    (told_again (linemode t.options) t.wish)
 
 -- the flag ECHO is set
-pub goes_echo : (old : End) (o : Options) (new : Terminal) (on : Bool) (before after : List ℕ) → o ≡ options_with_echo true (wants_echo old.modes.asked (with_echo old.terminal.settings.flags on)) old.terms.options → new ≡ record (old.terminal) { settings = record { flags = with_echo old.terminal.settings.flags on; chars = old.terminal.settings.chars } } → after ≡ before ++ spells (echo_items true (wants_echo old.modes.asked (with_echo old.terminal.settings.flags on)) old.terms.options) → Advances old (echo_set on) before after (record old { terms = record { options = o; wish = old.terms.wish }; terminal = new })
+pub goes_echo : (old : End) (o : Options) (new : Terminal) (on : Bool) (before after : List ℕ)
+    → o ≡ options_with_echo true (wants_echo old.modes.asked (with_echo old.terminal.settings.flags on)) old.terms.options
+    → new ≡ record (old.terminal) { settings = record { flags = with_echo old.terminal.settings.flags on; chars = old.terminal.settings.chars } }
+    → after ≡ before ++ spells (echo_items true (wants_echo old.modes.asked (with_echo old.terminal.settings.flags on)) old.terms.options)
+    → Advances old (echo_set on) before after (record old { terms = record { options = o; wish = old.terms.wish }; terminal = new })
 goes_echo old o new on before after asks is said = record {
   said = echo_items true (wants_echo old.modes.asked (with_echo old.terminal.settings.flags on)) old.terms.options;
   appended = said;
@@ -214,7 +244,8 @@ goes_echo old o new on before after asks is said = record {
       let f = with_echo old.terminal.settings.flags on in
       let now : Terms = record { options = o; wish = old.terms.wish } in
       let settles : now ≡ terms_by f old.terms old.terms.options None true =
-      ap (λ (x : Options). record { options = x; wish = old.terms.wish }) (asks ∙ ap (λ (a : ℕ). options_with_echo true (wants_echo a f) old.terms.options) sounds.masks)
+      ap (λ (x : Options). record { options = x; wish = old.terms.wish })
+      (asks ∙ ap (λ (a : ℕ). options_with_echo true (wants_echo a f) old.terms.options) sounds.masks)
       ∙ sym (echo_terms f old.terms) in
       let is_terms : now ≡ terms (next h (echo_set on)) =
       settles ∙ ap (λ (x : Flags). terms_by (with_echo x on) old.terms old.terms.options None true) is_flags
@@ -243,7 +274,11 @@ goes_echo old o new on before after asks is said = record {
 }
 
 -- the same, seen from what was negotiated
-pub goes_echoed : (old : End) (x : Settings) (n : Negotiation) (new : Terminal) (on : Bool) (before after : List ℕ) → x ≡ old.terminal.settings → n ≡ record (negotiation_of old) { options = options_with_echo true (wants_echo old.modes.asked (with_echo x.flags on)) old.terms.options } → new ≡ record (old.terminal) { settings = record { flags = with_echo x.flags on; chars = old.terminal.settings.chars } } → after ≡ before ++ spells (echo_items true (wants_echo old.modes.asked (with_echo x.flags on)) old.terms.options) → Advances old (echo_set on) before after (record (with_negotiated old n) { terminal = new })
+pub goes_echoed : (old : End) (x : Settings) (n : Negotiation) (new : Terminal) (on : Bool) (before after : List ℕ) → x ≡ old.terminal.settings
+    → n ≡ record (negotiation_of old) { options = options_with_echo true (wants_echo old.modes.asked (with_echo x.flags on)) old.terms.options }
+    → new ≡ record (old.terminal) { settings = record { flags = with_echo x.flags on; chars = old.terminal.settings.chars } }
+    → after ≡ before ++ spells (echo_items true (wants_echo old.modes.asked (with_echo x.flags on)) old.terms.options)
+    → Advances old (echo_set on) before after (record (with_negotiated old n) { terminal = new })
 goes_echoed old x n new on before after same is set said =
     let f = ap (λ (y : Settings). y.flags) same in
     rw is (goes_echo old (options_with_echo true (wants_echo old.modes.asked (with_echo x.flags on)) old.terms.options) new on before after
@@ -261,16 +296,45 @@ goes_pulled_none old before = record {
   said = [];
   appended = sym (append-nil before);
   replies = λ h s. refl;
-  leads = λ h s. record { settings = s.settings; table = s.table; terms = s.terms; modes = s.modes; limit = s.limit; line = s.line; ahead = s.ahead; read = s.read; count = s.count; waits = s.waits; queue = s.queue; size = s.size; due = s.due ∙ sym (or_false (due h)) };
+  leads = λ h s. record {
+    settings = s.settings;
+    table = s.table;
+    terms = s.terms;
+    modes = s.modes;
+    limit = s.limit;
+    line = s.line;
+    ahead = s.ahead;
+    read = s.read;
+    count = s.count;
+    waits = s.waits;
+    queue = s.queue;
+    size = s.size;
+    due = s.due ∙ sym (or_false (due h));
+  };
   closed = refl;
 }
 
 -- a forward mask is sent
-pub goes_mask : (old : End) (mask : Option Mask) (before after : List ℕ) → after ≡ before ++ spells (payload_items (forward_payload mask)) → Advances old (mask_set mask) before after old
+pub goes_mask : (old : End) (mask : Option Mask) (before after : List ℕ) → after ≡ before ++ spells (payload_items (forward_payload mask))
+    → Advances old (mask_set mask) before after old
 goes_mask old mask before after said = record {
   said = payload_items (forward_payload mask);
   appended = said;
   replies = λ h s. refl;
-  leads = λ h s. record { settings = s.settings; table = s.table; terms = s.terms; modes = s.modes; limit = s.limit; line = s.line; ahead = s.ahead; read = s.read; count = s.count; waits = s.waits; queue = s.queue; size = s.size; due = s.due };
+  leads = λ h s. record {
+    settings = s.settings;
+    table = s.table;
+    terms = s.terms;
+    modes = s.modes;
+    limit = s.limit;
+    line = s.line;
+    ahead = s.ahead;
+    read = s.read;
+    count = s.count;
+    waits = s.waits;
+    queue = s.queue;
+    size = s.size;
+    due = s.due;
+  };
   closed = refl;
 }

@@ -25,7 +25,8 @@ use Rattle.tn_server.proofs.Standings.{role_is, replies_got}
 use Rattle.tn_server.proofs.Turning.{sound, words_said}
 use Rattle.tn_server.proofs.Wishing.{sub_said}
 
-pub typed_cause : (h : History) (old : End) (item : Item) (r : Role) (f : PtyFault) → role_at old.terminal.settings (edits old.modes.current) item ≡ r → IsKeyCause old.terminal r f → LeadsTo h old → IsCause h item (Pty f)
+pub typed_cause : (h : History) (old : End) (item : Item) (r : Role) (f : PtyFault) → role_at old.terminal.settings (edits old.modes.current) item ≡ r
+    → IsKeyCause old.terminal r f → LeadsTo h old → IsCause h item (Pty f)
 typed_cause h old item r pty.Closed is x s = tt
 typed_cause h old item r pty.TooFarAhead is x s = (
   ap gives_entry (sym (role_is h old item s) ∙ is) ∙ x.0,
@@ -43,14 +44,17 @@ says_some h e said is some = λ none. some (sym is ∙ none)
 
 pub word_cause : (h : History) (old : End) (verb : Verb) (option : ℕ) → says_words old verb option ≢ [] → LeadsTo h old → IsCause h (Neg verb option) Memory
 word_cause h old verb option some s =
-    inl (says_some h (got (Neg verb option)) (says_words old verb option) (replies_got h old (Neg verb option) s ∙ words_said old verb option (sound h old s)) some)
+    inl (says_some h (got (Neg verb option)) (says_words old verb option)
+    (replies_got h old (Neg verb option) s ∙ words_said old verb option (sound h old s)) some)
 
 list_here : (o p : Options) (item : Item) → o ≡ p → IsList (payload_at o item) → IsList (payload_at p item)
 list_here o p item is l = subst (λ (x : Options). IsList (payload_at x item)) is l
 
-pub sub_cause : (h : History) (old : End) (option : ℕ) (params : List ℕ) → MayWantMemory old (payload_at old.terms.options (Sub option params)) → LeadsTo h old → IsCause h (Sub option params) Memory
+pub sub_cause : (h : History) (old : End) (option : ℕ) (params : List ℕ) → MayWantMemory old (payload_at old.terms.options (Sub option params)) → LeadsTo h old
+    → IsCause h (Sub option params) Memory
 sub_cause h old option params (inl some) s =
     let payload = payload_at old.terms.options (Sub option params) in
-    inl (says_some h (got (Sub option params)) (says_sub old payload) (replies_got h old (Sub option params) s ∙ sub_said old option params payload refl (sound h old s)) some)
+    inl (says_some h (got (Sub option params)) (says_sub old payload)
+    (replies_got h old (Sub option params) s ∙ sub_said old option params payload refl (sound h old s)) some)
 sub_cause h old option params (inr list) s =
     inr (list_here old.terms.options (options h) (Sub option params) (ap (λ (t : Terms). t.options) s.terms) list)

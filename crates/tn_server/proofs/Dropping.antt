@@ -13,15 +13,18 @@ none_left : (done left : List Item) → done ++ left ≡ [] → left ≡ []
 none_left [] left e = e
 none_left (item ∷ done) left e = cc
 
-wants : (h : History) (left : List Item) (here : DecoderState) (back : List ℕ) (fault : ServerFault) → left ≡ [] → IsStopCause h left here back fault → WantsMemory here back
+wants : (h : History) (left : List Item) (here : DecoderState) (back : List ℕ) (fault : ServerFault) → left ≡ [] → IsStopCause h left here back fault
+    → WantsMemory here back
 wants h [] here back fault none cause = cause.1
 wants h (item ∷ left) here back fault none cause = absurd (cc)
 
-never_wants : (old here : DecoderState) (piece front back : List ℕ) (items : List Item) → piece ≡ front ++ back → IsLetGo old piece → nvt.Advances old front items here → WantsMemory here back → ⊥
+never_wants : (old here : DecoderState) (piece front back : List ℕ) (items : List Item) → piece ≡ front ++ back → IsLetGo old piece
+    → nvt.Advances old front items here → WantsMemory here back → ⊥
 never_wants old here piece front [] items whole g adds wanted = wanted
 never_wants old here piece front (byte ∷ back) items whole g adds wanted = keeps_nothing old here piece front back byte items whole g adds wanted
 
-pub dropping_goes_on : (h : History) (old new : End) (piece before after : List ℕ) (fault : ServerFault) → LeadsTo h old → IsLetGo old.decoder piece → StopsWithin old piece fault before after new → ⊥
+pub dropping_goes_on : (h : History) (old new : End) (piece before after : List ℕ) (fault : ServerFault) → LeadsTo h old → IsLetGo old.decoder piece
+    → StopsWithin old piece fault before after new → ⊥
 dropping_goes_on h old new piece before after fault leads g s =
     let runs : old.decoder ≢ failed = λ e. let other : overlong g.came ≡ failed = sym g.letting_go ∙ e in cc in
     let none = gives_nothing old.decoder s.here piece s.front s.back (s.done ++ s.left) s.whole g s.reads in

@@ -21,14 +21,17 @@ use Rattle.tn_wire.proofs.lemmas.Cutting.{spelled_on}
 use Rattle.tn_server.proofs.Passing.{gets_none, gets_one, gets_both, stands_decoder, stops_at}
 
 -- ONE CALL
-pub took_item : (a b : Lent) (item : Item) → IsSameLoan a b → Advances a.end.now (got item) a.out.now.items b.out.now.items b.end.now → b.end.now.failed ≡ a.end.now.failed → b.cause ≡ a.cause → TakesItems a (item ∷ []) b
+pub took_item : (a b : Lent) (item : Item) → IsSameLoan a b → Advances a.end.now (got item) a.out.now.items b.out.now.items b.end.now
+    → b.end.now.failed ≡ a.end.now.failed → b.cause ≡ a.cause → TakesItems a (item ∷ []) b
 took_item a b item same goes runs cause =
     record { same = same; gets = gets_one a.end.now b.end.now item a.out.now.items b.out.now.items goes; failed = runs; cause = cause }
 
-pub refused_item : (a b : Lent) (item : Item) → IsSameLoan a b → RefusesItem a.end.now item b.cause a.out.now.items b.out.now.items b.end.now → IsOfItem b.cause → (b.cause ≡ Pty Closed → a.end.now.terminal.closed ≡ true) → RefusesItems a (item ∷ []) b
+pub refused_item : (a b : Lent) (item : Item) → IsSameLoan a b → RefusesItem a.end.now item b.cause a.out.now.items b.out.now.items b.end.now → IsOfItem b.cause
+    → (b.cause ≡ Pty Closed → a.end.now.terminal.closed ≡ true) → RefusesItems a (item ∷ []) b
 refused_item a b item same r of shut = record {
   same = same;
-  stops = stops_at a.end.now a.end.now b.end.now (item ∷ []) [] [] item b.cause a.out.now.items a.out.now.items b.out.now.items refl (gets_none a.end.now a.out.now.items) r;
+  stops = stops_at a.end.now a.end.now b.end.now (item ∷ []) [] [] item b.cause a.out.now.items a.out.now.items b.out.now.items refl
+      (gets_none a.end.now a.out.now.items) r;
   is_of_item = of;
   shut = shut;
 }
@@ -50,22 +53,41 @@ cause_all a b calls t =
     taken_all TakesItems RefusesItems (λ x _ y. y.cause ≡ x.cause) (λ x. refl) (λ x y z xs ys u e. e ∙ u.cause) a b calls t
 
 -- whatever the decoder answered
-pub same_loan : (r : Result (Unit {0}) NvtFault) (old new : DecoderState) (piece : List ℕ) (a b : Lent) → OnOk r (FeedsTo TakesItems old piece a b new) → (IsErrOf r nvt.Refused → RefusesRest TakesItems RefusesItems old piece a b) → (IsErrOf r nvt.Memory → StopsForMemory TakesItems old piece a b) → (IsErrOf r nvt.Failed → b ≡ a) → IsSameLoan a b
-same_loan = kept_by_all TakesItems RefusesItems IsSameLoan (λ x. record { end = refl; out = refl }) (λ x y z p q. record { end = q.end ∙ p.end; out = q.out ∙ p.out }) (λ x y xs t. t.same) (λ x y xs t. t.same)
+pub same_loan : (r : Result (Unit {0}) NvtFault) (old new : DecoderState) (piece : List ℕ) (a b : Lent) → OnOk r (FeedsTo TakesItems old piece a b new)
+    → (IsErrOf r nvt.Refused → RefusesRest TakesItems RefusesItems old piece a b) → (IsErrOf r nvt.Memory → StopsForMemory TakesItems old piece a b)
+    → (IsErrOf r nvt.Failed → b ≡ a) → IsSameLoan a b
+same_loan = kept_by_all TakesItems RefusesItems IsSameLoan (λ x. record { end = refl; out = refl })
+    (λ x y z p q. record { end = q.end ∙ p.end; out = q.out ∙ p.out }) (λ x y xs t. t.same) (λ x y xs t. t.same)
 
 -- the end was lent without its decoder
 lends : (h : History) (old : End) (held : DecoderState) (a : Lent) → a.end.now ≡ record old { decoder = held } → LeadsTo h old → LeadsTo h a.end.now
 lends h old held a began s = subst (LeadsTo h) (sym began) (stands_decoder h old held s)
 
 stands_failed : (h : History) (old : End) (d : DecoderState) → LeadsTo h old → LeadsTo h (record old { decoder = d; failed = true })
-stands_failed h old d s = record { settings = s.settings; table = s.table; terms = s.terms; modes = s.modes; limit = s.limit; line = s.line; ahead = s.ahead; read = s.read; count = s.count; waits = s.waits; queue = s.queue; size = s.size; due = s.due }
+stands_failed h old d s = record {
+  settings = s.settings;
+  table = s.table;
+  terms = s.terms;
+  modes = s.modes;
+  limit = s.limit;
+  line = s.line;
+  ahead = s.ahead;
+  read = s.read;
+  count = s.count;
+  waits = s.waits;
+  queue = s.queue;
+  size = s.size;
+  due = s.due;
+}
 
 -- it comes back, and has failed
-comes_back : (h : History) (b : Lent) (d : DecoderState) (new : End) → new ≡ record b.end.now { decoder = d; failed = true } → LeadsTo h b.end.now → LeadsTo h new
+comes_back : (h : History) (b : Lent) (d : DecoderState) (new : End) → new ≡ record b.end.now { decoder = d; failed = true } → LeadsTo h b.end.now
+    → LeadsTo h new
 comes_back h b d new is s = subst (LeadsTo h) (sym is) (stands_failed h b.end.now d s)
 
 -- a piece that was read to its end
-pub feeds_of : (old new : End) (held d : DecoderState) (piece after : List ℕ) (a b : Lent) → a.end.now ≡ record old { decoder = held } → FeedsTo TakesItems old.decoder piece a b d → new ≡ record b.end.now { decoder = d } → after ≡ b.out.now.items → Feeds old piece a.out.now.items after new
+pub feeds_of : (old new : End) (held d : DecoderState) (piece after : List ℕ) (a b : Lent) → a.end.now ≡ record old { decoder = held }
+    → FeedsTo TakesItems old.decoder piece a b d → new ≡ record b.end.now { decoder = d } → after ≡ b.out.now.items → Feeds old piece a.out.now.items after new
 feeds_of old new held d piece after a b began hands is outs =
     let items = all_of (calls_of hands.parts) in
     let g = gets_all a b (calls_of hands.parts) hands.taken in
@@ -81,18 +103,22 @@ feeds_of old new held d piece after a b began hands is outs =
     }
 
 -- what was taken, what was done of the refused call, and what was left of it and after it
-four_parts : (taken done left unseen : List Item) (item : Item) (call : List Item) → call ≡ done ++ item ∷ left → taken ++ (call ++ unseen) ≡ (taken ++ done) ++ (item ∷ left ++ unseen)
+four_parts : (taken done left unseen : List Item) (item : Item) (call : List Item) → call ≡ done ++ item ∷ left
+    → taken ++ (call ++ unseen) ≡ (taken ++ done) ++ (item ∷ left ++ unseen)
 four_parts taken done left unseen item call is =
     ap (λ (xs : List Item). taken ++ (xs ++ unseen)) is
     ∙ ap (λ (xs : List Item). taken ++ xs) (append_assoc done (item ∷ left) unseen)
     ∙ sym (append_assoc taken done (item ∷ left ++ unseen))
 
-halts_at : (old new : End) (held d : DecoderState) (piece after : List ℕ) (a b : Lent) → a.end.now ≡ record old { decoder = held } → RefusesRest TakesItems RefusesItems old.decoder piece a b → new ≡ record b.end.now { decoder = d; failed = true } → after ≡ b.out.now.items → StopsWithin old piece b.cause a.out.now.items after new
+halts_at : (old new : End) (held d : DecoderState) (piece after : List ℕ) (a b : Lent) → a.end.now ≡ record old { decoder = held }
+    → RefusesRest TakesItems RefusesItems old.decoder piece a b → new ≡ record b.end.now { decoder = d; failed = true } → after ≡ b.out.now.items
+    → StopsWithin old piece b.cause a.out.now.items after new
 halts_at old new held d piece after a b began r is outs =
     let t = r.given_up.stops in
     let done = all_of r.done ++ t.done in
     let unseen = all_of r.unseen in
-    let g : AdvancesAll a.end.now done a.out.now.items t.between t.mid = gets_both _ _ _ (all_of r.done) t.done _ _ _ (gets_all a r.middle r.done r.taken) t.gets in
+    let g : AdvancesAll a.end.now done a.out.now.items t.between t.mid =
+    gets_both _ _ _ (all_of r.done) t.done _ _ _ (gets_all a r.middle r.done r.taken) t.gets in
     let stood : (h : History) → LeadsTo h old → LeadsTo (gets h done) t.mid = λ h s. g.leads h (lends h old held a began s) in
     record {
       front = bytes_of r.parts;
@@ -101,7 +127,8 @@ halts_at old new held d piece after a b began r is outs =
       done = done;
       left = t.item ∷ t.left ++ unseen;
       here = r.here;
-      reads = subst (λ (xs : List Item). decoder_words.Advances old.decoder (bytes_of r.parts) xs r.here) (refused_items TakesItems RefusesItems old.decoder piece a b r ∙ four_parts (all_of r.done) t.done t.left unseen t.item r.left t.whole) r.adds;
+      reads = subst (λ (xs : List Item). decoder_words.Advances old.decoder (bytes_of r.parts) xs r.here)
+          (refused_items TakesItems RefusesItems old.decoder piece a b r ∙ four_parts (all_of r.done) t.done t.left unseen t.item r.left t.whole) r.adds;
       said = g.said;
       part = t.refuses.said;
       appended = outs ∙ spelled_on g.said t.refuses.said a.out.now.items t.between b.out.now.items g.appended t.refuses.appended;
@@ -111,7 +138,9 @@ halts_at old new held d piece after a b began r is outs =
       leads = λ h s. comes_back (gets h done) b d new is (t.refuses.leads (gets h done) (stood h s));
     }
 
-halts_after : (old new : End) (held d : DecoderState) (piece after : List ℕ) (a b : Lent) → a.end.now ≡ record old { decoder = held } → StopsForMemory TakesItems old.decoder piece a b → new ≡ record b.end.now { decoder = d; failed = true } → after ≡ b.out.now.items → StopsWithin old piece Memory a.out.now.items after new
+halts_after : (old new : End) (held d : DecoderState) (piece after : List ℕ) (a b : Lent) → a.end.now ≡ record old { decoder = held }
+    → StopsForMemory TakesItems old.decoder piece a b → new ≡ record b.end.now { decoder = d; failed = true } → after ≡ b.out.now.items
+    → StopsWithin old piece Memory a.out.now.items after new
 halts_after old new held d piece after a b began w is outs =
     let items = all_of (calls_of w.parts) in
     let g = gets_all a b (calls_of w.parts) w.taken in
@@ -133,7 +162,8 @@ halts_after old new held d piece after a b began w is outs =
     }
 
 -- a decoder that has failed reads nothing
-halts_unread : (old new : End) (held d : DecoderState) (piece after : List ℕ) (a b : Lent) → a.end.now ≡ record old { decoder = held } → old.decoder ≡ failed → b ≡ a → new ≡ record b.end.now { decoder = d; failed = true } → after ≡ b.out.now.items → StopsWithin old piece Memory a.out.now.items after new
+halts_unread : (old new : End) (held d : DecoderState) (piece after : List ℕ) (a b : Lent) → a.end.now ≡ record old { decoder = held } → old.decoder ≡ failed
+    → b ≡ a → new ≡ record b.end.now { decoder = d; failed = true } → after ≡ b.out.now.items → StopsWithin old piece Memory a.out.now.items after new
 halts_unread old new held d piece after a b began dead same is outs = record {
   front = [];
   back = piece;
@@ -151,15 +181,21 @@ halts_unread old new held d piece after a b began dead same is outs = record {
   leads = λ h s. comes_back h b d new is (subst (λ (x : Lent). LeadsTo h x.end.now) (sym same) (lends h old held a began s));
 }
 
-pub halts_of : (r : Result (Unit {0}) NvtFault) (e : NvtFault) → r ≡ Err e → (old new : End) (held d : DecoderState) (piece after : List ℕ) (a b : Lent) → a.cause ≡ Memory → a.end.now ≡ record old { decoder = held } → (IsErrOf r nvt.Refused → RefusesRest TakesItems RefusesItems old.decoder piece a b) → (IsErrOf r nvt.Memory → StopsForMemory TakesItems old.decoder piece a b) → (IsErrOf r nvt.Failed ↔ (old.decoder ≡ failed)) → (IsErrOf r nvt.Failed → b ≡ a) → new ≡ record b.end.now { decoder = d; failed = true } → after ≡ b.out.now.items → StopsWithin old piece b.cause a.out.now.items after new
-halts_of r nvt.Refused e old new held d piece after a b none began refused memory dead same is outs = halts_at old new held d piece after a b began (refused e) is outs
+pub halts_of : (r : Result (Unit {0}) NvtFault) (e : NvtFault) → r ≡ Err e → (old new : End) (held d : DecoderState) (piece after : List ℕ) (a b : Lent)
+    → a.cause ≡ Memory → a.end.now ≡ record old { decoder = held } → (IsErrOf r nvt.Refused → RefusesRest TakesItems RefusesItems old.decoder piece a b)
+    → (IsErrOf r nvt.Memory → StopsForMemory TakesItems old.decoder piece a b) → (IsErrOf r nvt.Failed ↔ (old.decoder ≡ failed))
+    → (IsErrOf r nvt.Failed → b ≡ a) → new ≡ record b.end.now { decoder = d; failed = true } → after ≡ b.out.now.items
+    → StopsWithin old piece b.cause a.out.now.items after new
+halts_of r nvt.Refused e old new held d piece after a b none began refused memory dead same is outs =
+    halts_at old new held d piece after a b began (refused e) is outs
 halts_of r nvt.Memory e old new held d piece after a b none began refused memory dead same is outs =
     let w = memory e in
     let cause = cause_all a b (calls_of w.parts) w.taken ∙ none in
     subst (λ (f : ServerFault). StopsWithin old piece f a.out.now.items after new) (sym cause) (halts_after old new held d piece after a b began w is outs)
 halts_of r nvt.Failed e old new held d piece after a b none began refused memory dead same is outs =
     let cause = ap (λ (x : Lent). x.cause) (same e) ∙ none in
-    subst (λ (f : ServerFault). StopsWithin old piece f a.out.now.items after new) (sym cause) (halts_unread old new held d piece after a b began (dead.0 e) (same e) is outs)
+    subst (λ (f : ServerFault). StopsWithin old piece f a.out.now.items after new) (sym cause)
+    (halts_unread old new held d piece after a b began (dead.0 e) (same e) is outs)
 
 -- why a piece was refused
 record IsCauseOf (old : End) (f : ServerFault) : Type 0 where
@@ -171,7 +207,9 @@ for_memory old f is =
     let here : IsCauseOf old Memory = record { is_of_item = tt; shut = λ e. absurd (cc) } in
     subst (IsCauseOf old) (sym is) here
 
-for_any : (r : Result (Unit {0}) NvtFault) (e : NvtFault) → r ≡ Err e → (old : DecoderState) (piece : List ℕ) (a b : Lent) → a.cause ≡ Memory → (IsErrOf r nvt.Refused → RefusesRest TakesItems RefusesItems old piece a b) → (IsErrOf r nvt.Memory → StopsForMemory TakesItems old piece a b) → (IsErrOf r nvt.Failed → b ≡ a) → IsCauseOf a.end.now b.cause
+for_any : (r : Result (Unit {0}) NvtFault) (e : NvtFault) → r ≡ Err e → (old : DecoderState) (piece : List ℕ) (a b : Lent) → a.cause ≡ Memory
+    → (IsErrOf r nvt.Refused → RefusesRest TakesItems RefusesItems old piece a b) → (IsErrOf r nvt.Memory → StopsForMemory TakesItems old piece a b)
+    → (IsErrOf r nvt.Failed → b ≡ a) → IsCauseOf a.end.now b.cause
 for_any r nvt.Refused e old piece a b none refused memory same =
     let f = refused e in
     record { is_of_item = f.given_up.is_of_item; shut = λ c. sym (gets_all a f.middle f.done f.taken).closed ∙ f.given_up.shut c }
@@ -207,7 +245,9 @@ pub record IsRefusal (old : End) (f : ServerFault) : Type 0 where
   pub of_piece : IsOfPiece f
   pub shut : IsErrOf {T = Unit {0}} (Err f) (Pty Closed) → old.terminal.closed ≡ true
 
-pub is_refusal : (r : Result (Unit {0}) NvtFault) (e : NvtFault) → r ≡ Err e → (old : DecoderState) (piece : List ℕ) (a b : Lent) → a.cause ≡ Memory → (IsErrOf r nvt.Refused → RefusesRest TakesItems RefusesItems old piece a b) → (IsErrOf r nvt.Memory → StopsForMemory TakesItems old piece a b) → (IsErrOf r nvt.Failed → b ≡ a) → IsRefusal a.end.now b.cause
+pub is_refusal : (r : Result (Unit {0}) NvtFault) (e : NvtFault) → r ≡ Err e → (old : DecoderState) (piece : List ℕ) (a b : Lent) → a.cause ≡ Memory
+    → (IsErrOf r nvt.Refused → RefusesRest TakesItems RefusesItems old piece a b) → (IsErrOf r nvt.Memory → StopsForMemory TakesItems old piece a b)
+    → (IsErrOf r nvt.Failed → b ≡ a) → IsRefusal a.end.now b.cause
 is_refusal r e is old piece a b none refused memory same =
     let c = for_any r e is old piece a b none refused memory same in
     record { runs = never_failed b.cause c.is_of_item; of_piece = of_piece b.cause c.is_of_item; shut = λ f. c.shut (same_fault b.cause (Pty Closed) f) }

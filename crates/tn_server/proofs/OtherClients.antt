@@ -1,5 +1,6 @@
 -- What a server makes of clients of other makers.
-use Rattle.std.proofs.Common.{◌≡◌, ℕ, ◌+◌, ◌≤◌, ◌<◌, ◌==◌, Bool, true, false, not, nat_le, Option, Some, None, List, [], ◌∷◌, ◌++◌, map, length, refl, sym, ap, ◌∙◌, if◌then◌else◌, append-nil, append_assoc, arith, ◌&&◌}
+use Rattle.std.proofs.Common.{◌≡◌, ℕ, ◌+◌, ◌≤◌, ◌<◌, ◌==◌, Bool, true, false, not, nat_le, Option, Some, None, List, [], ◌∷◌, ◌++◌, map, length, refl, sym, ap}
+use Rattle.std.proofs.Common.{◌∙◌, if◌then◌else◌, append-nil, append_assoc, arith, ◌&&◌}
 use Rattle.std.specs.Prelude.{All}
 use Rattle.std.proofs.lemmas.Bool.Decides.{nat_tests}
 use Rattle.std.proofs.lemmas.List.{length-append}
@@ -28,7 +29,8 @@ use Rattle.tn_option.specs.Options.{state_of, is_yes}
 use Rattle.tn_option.specs.declared.q_method.Side.TheVariants.{Them}
 use Rattle.tn_server.specs.Events.{got, took, wrote, pulled, wished, char_set, echo_set, mask_set, History, begun, next, items, gets, limit, opening_settings}
 use Rattle.tn_server.specs.Lines.{role_of_byte, role_at, roles, entries, half}
-use Rattle.tn_server.specs.OtherClients.{AcknowledgesNoEdit, KeepsCharacters, StaysRemote, opening_canon, roles_of_items, keys_of, IsNoCommand, line_items, AreOrdinary}
+use Rattle.tn_server.specs.OtherClients.{AcknowledgesNoEdit, KeepsCharacters, StaysRemote, opening_canon, roles_of_items, keys_of, IsNoCommand, line_items}
+use Rattle.tn_server.specs.OtherClients.{AreOrdinary}
 use Rattle.tn_server.specs.Terms.{Terms, terms, linemode, options, flags, chars, settings, mode, mask_after, chars_after, changes, payload_at}
 use Rattle.tn_server.proofs.lemmas.Histories.{gets-push}
 use Rattle.tn_server.proofs.lemmas.Terms.{differ_self, terms_stay}
@@ -37,7 +39,8 @@ use Rattle.tn_server.proofs.lemmas.Terms.{differ_self, terms_stay}
 pub edits-mode_of : (mask : ℕ) → edits (mode_of mask) ≡ edits mask
 edits-mode_of mask = ap (λ (n : ℕ). not (n == 0)) (and_assoc 1 mask 3)
 
-acknowledged : (b : Bool) (m mask : ℕ) → is_acknowledged mask ≡ b → edits m ≡ false → (is_acknowledged mask ≡ true → edits mask ≡ false) → edits (if b then mode_of mask else m) ≡ false
+acknowledged : (b : Bool) (m mask : ℕ) → is_acknowledged mask ≡ b → edits m ≡ false → (is_acknowledged mask ≡ true → edits mask ≡ false)
+    → edits (if b then mode_of mask else m) ≡ false
 acknowledged true m mask is before none = edits-mode_of mask ∙ none is
 acknowledged false m mask is before none = before
 
@@ -82,7 +85,8 @@ same_chars (begun canon) s = refl
 same_chars (next h (got (Sub option params))) s =
     let c = (opening_settings h).chars in
     ap (λ (x : Characters). chars_after x (payload_at (options h) (Sub option params))) (same_chars h s.0)
-    ∙ chars_kept c (payload_at (options h) (Sub option params)) (under_keeps c (is_yes (state_of (options h) Them option) && nat_le (length params) 512) (payload_of option params) s.1.1)
+    ∙ chars_kept c (payload_at (options h) (Sub option params)) (under_keeps c (is_yes (state_of (options h) Them option) && nat_le (length params) 512)
+    (payload_of option params) s.1.1)
 same_chars (next h (got (Byte b))) s = same_chars h s.0
 same_chars (next h (got Newline)) s = same_chars h s.0
 same_chars (next h (got (Cmd c))) s = same_chars h s.0
@@ -108,7 +112,8 @@ same_flags (next h (char_set f v)) = same_flags h
 same_flags (next h (mask_set mask)) = same_flags h
 
 -- THE ROLES: of an item that comes
-echo_is_no_matter : (s : Settings) (echo : Bool) (item : Item) → role_at (record { flags = record (s.flags) { echo = echo }; chars = s.chars }) false item ≡ role_at s false item
+echo_is_no_matter : (s : Settings) (echo : Bool) (item : Item) →
+    role_at (record { flags = record (s.flags) { echo = echo }; chars = s.chars }) false item ≡ role_at s false item
 echo_is_no_matter s echo (Byte b) = refl
 echo_is_no_matter s echo Newline = refl
 echo_is_no_matter s echo (Cmd c) = refl
@@ -123,7 +128,8 @@ role_then h s item =
     ∙ ap (λ (f : Flags). role_at (record { flags = f; chars = o.chars }) false item) (same_flags h)
     ∙ echo_is_no_matter o (flags h).echo item
 
-roles_of_items-push : (s : Settings) (xs : List Item) (item : Item) → roles_of_items s (xs ++ item ∷ []) ≡ roles_of_items s xs ++ roles_from (role_at s false item)
+roles_of_items-push : (s : Settings) (xs : List Item) (item : Item)
+    → roles_of_items s (xs ++ item ∷ []) ≡ roles_of_items s xs ++ roles_from (role_at s false item)
 roles_of_items-push s [] item = append-nil (roles_from (role_at s false item))
 roles_of_items-push s (x ∷ xs) item =
     ap (λ rs. roles_from (role_at s false x) ++ rs) (roles_of_items-push s xs item)
@@ -196,11 +202,13 @@ none_gained : (full : Bool) → (if full then [] else let none : List Entry = []
 none_gained true = refl
 none_gained false = refl
 
-one_role : (h : History) (b : ℕ) → edits (mode h) ≡ true → literal_role (chars h) b ≡ role.Ordinary b → roles (next h (got (Byte b))) ≡ roles h ++ role.Ordinary b ∷ []
+one_role : (h : History) (b : ℕ) → edits (mode h) ≡ true → literal_role (chars h) b ≡ role.Ordinary b
+    → roles (next h (got (Byte b))) ≡ roles h ++ role.Ordinary b ∷ []
 one_role h b edit ordinary =
     ap (λ (r : Role). roles h ++ roles_from r) (ap (λ (e : Bool). role_of_byte (settings h) e b) edit ∙ ordinary)
 
-one_half : (h : History) (b : ℕ) → edits (mode h) ≡ true → literal_role (chars h) b ≡ role.Ordinary b → length (half h) < max_counted (limit h) → half (next h (got (Byte b))) ≡ half h ++ b ∷ []
+one_half : (h : History) (b : ℕ) → edits (mode h) ≡ true → literal_role (chars h) b ≡ role.Ordinary b → length (half h) < max_counted (limit h)
+    → half (next h (got (Byte b))) ≡ half h ++ b ∷ []
 one_half h b edit ordinary room =
     ap (λ rs. half_of (limit h) rs) (one_role h b edit ordinary)
     ∙ half-next (limit h) (roles h) (role.Ordinary b)
@@ -213,7 +221,8 @@ one_entries h b edit ordinary =
     ∙ ap (λ es. entries h ++ es) (none_gained (length (half h) == max_counted (limit h)))
     ∙ append-nil (entries h)
 
-typed : (bytes : List ℕ) (h : History) → edits (mode h) ≡ true → AreOrdinary (chars h) bytes → length (half h) + length bytes ≤ max_counted (limit h) → Typed h bytes
+typed : (bytes : List ℕ) (h : History) → edits (mode h) ≡ true → AreOrdinary (chars h) bytes → length (half h) + length bytes ≤ max_counted (limit h)
+    → Typed h bytes
 typed [] h edit ordinary room = record { half_is = sym (append-nil (half h)); entries_are = refl; mode_is = refl; chars_are = refl }
 typed (b ∷ bytes) h edit ordinary room =
     let more = next h (got (Byte b)) in
@@ -234,7 +243,8 @@ text_of : (bytes : List ℕ) → line_of (bytes ++ 10 ∷ []) ≡ Text (bytes ++
 text_of [] = refl
 text_of (b ∷ bytes) = refl
 
-module _ (h : History) (bytes : List ℕ) (edit : edits (mode h) ≡ true) (none : half h ≡ []) (ordinary : AreOrdinary (chars h) bytes) (fits : length bytes ≤ max_counted (limit h)) where
+module _ (h : History) (bytes : List ℕ) (edit : edits (mode h) ≡ true) (none : half h ≡ []) (ordinary : AreOrdinary (chars h) bytes)
+    (fits : length bytes ≤ max_counted (limit h)) where
   all_typed : Typed h bytes
   all_typed = let zero_long : length (half h) ≡ 0 = ap length none in typed bytes h edit ordinary (omega arith)
 

@@ -1,5 +1,6 @@
 -- What waits at a server end is bounded.
-use Rattle.std.proofs.Common.{◌≡◌, ℕ, ◌≤◌, ◌+◌, nat_le, ◌&&◌, Bool, true, false, List, ◌++◌, length, map, take, refl, ap, arith, length-append, length-drop, if◌then◌else◌}
+use Rattle.std.proofs.Common.{◌≡◌, ℕ, ◌≤◌, ◌+◌, nat_le, ◌&&◌, Bool, true, false, List, ◌++◌, length, map, take, refl, ap, arith, length-append, length-drop}
+use Rattle.std.proofs.Common.{if◌then◌else◌}
 use Rattle.std.proofs.lemmas.Bool.{leb-true}
 use Rattle.std.specs.Prelude.{All}
 use Rattle.std.proofs.lemmas.List.{length-take, length-map}
@@ -17,7 +18,8 @@ use Rattle.tn_server.specs.Terms.{settings, mode, options, echoes}
 use Rattle.tn_server.specs.Calls.{End, LeadsTo}
 use Rattle.tn_server.proofs.lemmas.Ends.{waits_are}
 
-fits_with : (b : Bool) (symbols more : List Symbol) → nat_le (length symbols + length more) queue_symbols ≡ b → length symbols ≤ queue_symbols → length (if b then symbols ++ more else symbols) ≤ queue_symbols
+fits_with : (b : Bool) (symbols more : List Symbol) → nat_le (length symbols + length more) queue_symbols ≡ b → length symbols ≤ queue_symbols
+    → length (if b then symbols ++ more else symbols) ≤ queue_symbols
 fits_with true symbols more fits few = omega (arith, leb-true (length symbols + length more) queue_symbols fits, length-append symbols more)
 fits_with false symbols more fits few = few
 
@@ -29,7 +31,13 @@ queue_fits (next h (got item)) =
 queue_fits (next h (wrote bytes)) =
     let n = fitting_count (queue h) bytes in
     let shown = take n bytes in
-    omega (arith, queue_fits h, length-append (queue h) (map (output_symbol (settings h).flags) shown), length-map shown (output_symbol (settings h).flags), length-take n bytes)
+    omega (
+      arith,
+      queue_fits h,
+      length-append (queue h) (map (output_symbol (settings h).flags) shown),
+      length-map shown (output_symbol (settings h).flags),
+      length-take n bytes,
+    )
 queue_fits (next h (pulled n)) = omega (arith, queue_fits h, length-drop n (queue h))
 queue_fits (next h _) = queue_fits h
 

@@ -44,7 +44,8 @@ gets_one old new item before after e = record {
 }
 
 -- more items
-pub gets_both : (old mid new : End) (xs ys : List Item) (before between after : List ℕ) → AdvancesAll old xs before between mid → AdvancesAll mid ys between after new → AdvancesAll old (xs ++ ys) before after new
+pub gets_both : (old mid new : End) (xs ys : List Item) (before between after : List ℕ) → AdvancesAll old xs before between mid
+    → AdvancesAll mid ys between after new → AdvancesAll old (xs ++ ys) before after new
 gets_both old mid new xs ys before between after g k = record {
   said = g.said ++ k.said;
   appended = spelled_on g.said k.said before between after g.appended k.appended;
@@ -54,13 +55,42 @@ gets_both old mid new xs ys before between after g k = record {
 }
 
 pub stands_decoder : (h : History) (old : End) (d : DecoderState) → LeadsTo h old → LeadsTo h (record old { decoder = d })
-stands_decoder h old d s = record { settings = s.settings; table = s.table; terms = s.terms; modes = s.modes; limit = s.limit; line = s.line; ahead = s.ahead; read = s.read; count = s.count; waits = s.waits; queue = s.queue; size = s.size; due = s.due }
+stands_decoder h old d s = record {
+  settings = s.settings;
+  table = s.table;
+  terms = s.terms;
+  modes = s.modes;
+  limit = s.limit;
+  line = s.line;
+  ahead = s.ahead;
+  read = s.read;
+  count = s.count;
+  waits = s.waits;
+  queue = s.queue;
+  size = s.size;
+  due = s.due;
+}
 
 pub stands_shut : (h : History) (old : End) → LeadsTo h old → LeadsTo h (record old { terminal = shut_terminal old.terminal })
-stands_shut h old s = record { settings = s.settings; table = s.table; terms = s.terms; modes = s.modes; limit = s.limit; line = s.line; ahead = s.ahead; read = s.read; count = s.count; waits = s.waits; queue = s.queue; size = s.size; due = s.due }
+stands_shut h old s = record {
+  settings = s.settings;
+  table = s.table;
+  terms = s.terms;
+  modes = s.modes;
+  limit = s.limit;
+  line = s.line;
+  ahead = s.ahead;
+  read = s.read;
+  count = s.count;
+  waits = s.waits;
+  queue = s.queue;
+  size = s.size;
+  due = s.due;
+}
 
 -- a key or a command that was refused
-pub refuses_shut : (old new : End) (item : Item) (fault : ServerFault) → IsShut old new → ((h : History) → LeadsTo h old → IsCause h item fault) → (before : List ℕ) → RefusesItem old item fault before before new
+pub refuses_shut : (old new : End) (item : Item) (fault : ServerFault) → IsShut old new → ((h : History) → LeadsTo h old → IsCause h item fault)
+    → (before : List ℕ) → RefusesItem old item fault before before new
 refuses_shut old new item fault shut' cause before = record {
   said = [];
   appended = sym (append-nil before);
@@ -74,7 +104,8 @@ refuses_shut old new item fault shut' cause before = record {
     stays h s (inr closed) = subst (LeadsTo h) (sym closed) (stands_shut h old s)
 
 -- what answers an item was cut
-pub refuses_cut : (old new : End) (item : Item) (fault : ServerFault) (whole : List Item) (before after : List ℕ) → (IsSound old → says_got old item ≡ whole) → AppendsPrefix whole before after → new ≡ old → ((h : History) → LeadsTo h old → IsCause h item fault) → RefusesItem old item fault before after new
+pub refuses_cut : (old new : End) (item : Item) (fault : ServerFault) (whole : List Item) (before after : List ℕ) → (IsSound old → says_got old item ≡ whole)
+    → AppendsPrefix whole before after → new ≡ old → ((h : History) → LeadsTo h old → IsCause h item fault) → RefusesItem old item fault before after new
 refuses_cut old new item fault whole before after says c same cause = record {
   said = c.part;
   appended = c.appended;
@@ -83,13 +114,18 @@ refuses_cut old new item fault whole before after says c same cause = record {
   leads = λ h s. subst (LeadsTo h) (sym same) s;
 }
 
-pub refuses_sub : (old new : End) (option : ℕ) (params before after : List ℕ) → AppendsPrefix (says_sub old (payload_at old.terms.options (Sub option params))) before after → new ≡ old → MayWantMemory old (payload_at old.terms.options (Sub option params)) → RefusesItem old (Sub option params) Memory before after new
+pub refuses_sub : (old new : End) (option : ℕ) (params before after : List ℕ)
+    → AppendsPrefix (says_sub old (payload_at old.terms.options (Sub option params))) before after → new ≡ old
+    → MayWantMemory old (payload_at old.terms.options (Sub option params)) → RefusesItem old (Sub option params) Memory before after new
 refuses_sub old new option params before after cut same grows =
     let payload = payload_at old.terms.options (Sub option params) in
-    refuses_cut old new (Sub option params) Memory (says_sub old payload) before after (sub_said old option params payload refl) cut same (λ h s. sub_cause h old option params grows s)
+    refuses_cut old new (Sub option params) Memory (says_sub old payload) before after (sub_said old option params payload refl) cut same
+    (λ h s. sub_cause h old option params grows s)
 
 -- an item was refused, after these
-pub stops_at : (old mid new : End) (items done left : List Item) (item : Item) (fault : ServerFault) (before between after : List ℕ) → items ≡ done ++ item ∷ left → AdvancesAll old done before between mid → RefusesItem mid item fault between after new → StopsWithinItems old items fault before after new
+pub stops_at : (old mid new : End) (items done left : List Item) (item : Item) (fault : ServerFault) (before between after : List ℕ)
+    → items ≡ done ++ item ∷ left → AdvancesAll old done before between mid → RefusesItem mid item fault between after new
+    → StopsWithinItems old items fault before after new
 stops_at old mid new items done left item fault before between after is g r = record {
   done = done;
   item = item;
@@ -105,11 +141,14 @@ stops_at old mid new items done left item fault before between after is g r = re
 pub goes_byte : (old new : End) (byte : ℕ) → new ≡ end_after_byte old byte → (before : List ℕ) → Advances old (got (Byte byte)) before before new
 goes_byte old new byte is = goes_typed old new (Byte byte) (λ _. refl) (λ _. refl) (λ _. refl) is
 
-pub refuses_byte : (old new : End) (byte : ℕ) (f : PtyFault) → IsShut old new → IsKeyCause old.terminal (role_of_typed old byte) f → (before : List ℕ) → RefusesItem old (Byte byte) (Pty f) before before new
-refuses_byte old new byte f shut' cause before = refuses_shut old new (Byte byte) (Pty f) shut' (λ h s. typed_cause h old (Byte byte) (role_of_typed old byte) f refl cause s) before
+pub refuses_byte : (old new : End) (byte : ℕ) (f : PtyFault) → IsShut old new → IsKeyCause old.terminal (role_of_typed old byte) f → (before : List ℕ)
+    → RefusesItem old (Byte byte) (Pty f) before before new
+refuses_byte old new byte f shut' cause before = refuses_shut old new (Byte byte) (Pty f) shut'
+    (λ h s. typed_cause h old (Byte byte) (role_of_typed old byte) f refl cause s) before
 
 -- a terminal that was shut was so from the beginning
-pub shut_then : (old mid : End) (r : Role) (f : PtyFault) → mid.terminal.closed ≡ old.terminal.closed → IsKeyCause mid.terminal r f → IsErrOf {T = Unit {0}} (Err f) Closed → old.terminal.closed ≡ true
+pub shut_then : (old mid : End) (r : Role) (f : PtyFault) → mid.terminal.closed ≡ old.terminal.closed → IsKeyCause mid.terminal r f
+    → IsErrOf {T = Unit {0}} (Err f) Closed → old.terminal.closed ≡ true
 shut_then old mid r Closed kept cause is = sym kept ∙ cause
 shut_then old mid r TooFarAhead kept cause is = cc
 shut_then old mid r pty.Memory kept cause is = cc

@@ -1,5 +1,6 @@
 -- Bytes of data that come in runs.
-use Rattle.std.proofs.Common.{◌≡◌, inl, inr, ℕ, Bool, true, false, Result, Ok, Err, OnOk, IfErr, IsErrOf, List, [], ◌∷◌, map, refl, sym, ap, ◌∙◌, subst, if◌then◌else◌}
+use Rattle.std.proofs.Common.{◌≡◌, inl, inr, ℕ, Bool, true, false, Result, Ok, Err, OnOk, IfErr, IsErrOf, List, [], ◌∷◌, map, refl, sym, ap, ◌∙◌, subst}
+use Rattle.std.proofs.Common.{if◌then◌else◌}
 use Rattle.std.proofs.lemmas.List.{map-append}
 use Rattle.std.proofs.lemmas.Result.{IfErr-weaker}
 use Rattle.tn_discipline.specs.declared.termios.Settings.{Settings}
@@ -37,7 +38,8 @@ role_by_mode : (edit echo : Bool) (s : Settings) (byte : ℕ) → role_of_byte s
 role_by_mode true echo s byte = refl
 role_by_mode false echo s byte = refl
 
-byte_by_mode : (edit echo : Bool) (t : Terminal) (byte : ℕ) → terminal_after t (role_of_byte t.settings edit byte) (byte_shows t.settings edit echo t.line byte) ≡ after_byte (input_of edit echo) t byte
+byte_by_mode : (edit echo : Bool) (t : Terminal) (byte : ℕ) → terminal_after t (role_of_byte t.settings edit byte) (byte_shows t.settings edit echo t.line byte)
+    ≡ after_byte (input_of edit echo) t byte
 byte_by_mode true echo t byte = refl
 byte_by_mode false echo t byte = refl
 
@@ -49,7 +51,8 @@ run_goes : (bytes : List ℕ) (old : End) (before : List ℕ) → AdvancesAll ol
 run_goes [] old before = gets_none old before
 run_goes (b ∷ bytes) old before =
     let mid : End = record old { terminal = after_byte (input_at old) old.terminal b } in
-    let one : mid ≡ end_after_byte old b = sym (ap (λ (t : Terminal). record old { terminal = t }) (byte_by_mode (edits old.modes.current) (echoes old.terms.options) old.terminal b)) in
+    let one : mid ≡ end_after_byte old b = sym (ap (λ (t : Terminal). record old { terminal = t })
+    (byte_by_mode (edits old.modes.current) (echoes old.terms.options) old.terminal b)) in
     gets_both old mid (end_after_run mid bytes) (Byte b ∷ []) (map Byte bytes) before before before
     (gets_one old mid (Byte b) before before (goes_byte old mid b one before)) (run_goes bytes mid before)
 
@@ -71,7 +74,8 @@ refused_cause t new r pty.TooFarAhead x = (x.1, x.2)
 refused_cause t new r pty.Memory x = (x.1, x.0.room (text_is_entry t.line r (gives_entry r) refl x.1))
 
 -- and so of a key that is typed while the client does not edit
-pub refused_key : (old : End) (new : Terminal) (byte : ℕ) {T : Type 0} (r : Result T PtyFault) → edits old.modes.current ≡ false → IfErr r (λ f. Refuses old.terminal (role_of_key old.terminal.settings byte) f new) → IfErr r (λ f. IsKeyCause old.terminal (role_of_typed old byte) f)
+pub refused_key : (old : End) (new : Terminal) (byte : ℕ) {T : Type 0} (r : Result T PtyFault) → edits old.modes.current ≡ false
+    → IfErr r (λ f. Refuses old.terminal (role_of_key old.terminal.settings byte) f new) → IfErr r (λ f. IsKeyCause old.terminal (role_of_typed old byte) f)
 refused_key old new byte r edit refused =
     let key : Role = role_of_key old.terminal.settings byte in
     let role : key ≡ role_of_typed old byte = ap (λ (e : Bool). role_of_byte old.terminal.settings e byte) (sym edit) in
@@ -85,22 +89,27 @@ role_there old done byte =
     ∙ ap (λ s. role_of_input (input_at old) s byte) (input-settings (input_at old) old.terminal done)
 
 module _ (old new : End) (bytes : List ℕ) (input : Input) (is_input : input ≡ input_at old) (same : new ≡ record old { terminal = new.terminal }) where
-  pub run_done : {T E : Type 0} (r : Result T E) → OnOk r (new.terminal ≡ after_all input old.terminal bytes) → OnOk r ((before : List ℕ) → AdvancesAll old (map Byte bytes) before before new)
+  pub run_done : {T E : Type 0} (r : Result T E) → OnOk r (new.terminal ≡ after_all input old.terminal bytes)
+      → OnOk r ((before : List ℕ) → AdvancesAll old (map Byte bytes) before before new)
   run_done (Ok x) is =
-      let whole : new ≡ end_after_run old bytes = same ∙ ap (λ (t : Terminal). record old { terminal = t }) (is ∙ ap (λ i. after_all i old.terminal bytes) is_input) in
+      let whole : new ≡ end_after_run old bytes = same ∙ ap (λ (t : Terminal). record old { terminal = t })
+      (is ∙ ap (λ i. after_all i old.terminal bytes) is_input) in
       λ before. subst (λ (e : End). AdvancesAll old (map Byte bytes) before before e) (sym whole) (run_goes bytes old before)
   run_done (Err e) is = tt
 
-  stops : (f : PtyFault) → StopsWithin (input_at old) old.terminal bytes f new.terminal → (before : List ℕ) → StopsWithinItems old (map Byte bytes) (Pty f) before before new
+  stops : (f : PtyFault) → StopsWithin (input_at old) old.terminal bytes f new.terminal → (before : List ℕ)
+      → StopsWithinItems old (map Byte bytes) (Pty f) before before new
   stops f s before =
       let mid = end_after_run old s.done in
       let r = role_of_input (input_at old) old.terminal.settings s.byte in
-      let cause : IsKeyCause mid.terminal (role_of_typed mid s.byte) f = subst (λ x. IsKeyCause mid.terminal x f) (sym (role_there old s.done s.byte)) (refused_cause mid.terminal new.terminal r f s.refused) in
+      let cause : IsKeyCause mid.terminal (role_of_typed mid s.byte) f =
+      subst (λ x. IsKeyCause mid.terminal x f) (sym (role_there old s.done s.byte)) (refused_cause mid.terminal new.terminal r f s.refused) in
       stops_at old mid new (map Byte bytes) (map Byte s.done) (map Byte s.left) (Byte s.byte) (Pty f) before before before
       (ap (map Byte) s.whole ∙ map-append Byte s.done (s.byte ∷ s.left)) (run_goes s.done old before)
       (refuses_byte mid new s.byte f (refused_shut mid new r f s.refused same) cause before)
 
-  pub run_stops : {T : Type 0} (r : Result T PtyFault) → IfErr r (λ fault. StopsWithin input old.terminal bytes fault new.terminal) → IfErr r (λ fault. (before : List ℕ) → StopsWithinItems old (map Byte bytes) (Pty fault) before before new)
+  pub run_stops : {T : Type 0} (r : Result T PtyFault) → IfErr r (λ fault. StopsWithin input old.terminal bytes fault new.terminal)
+      → IfErr r (λ fault. (before : List ℕ) → StopsWithinItems old (map Byte bytes) (Pty fault) before before new)
   run_stops (Ok x) s = tt
   run_stops (Err f) s = λ before. stops f (subst (λ i. StopsWithin i old.terminal bytes f new.terminal) is_input s) before
 
@@ -110,6 +119,7 @@ module _ (old new : End) (bytes : List ℕ) (input : Input) (is_input : input �
       let r = role_of_input input old.terminal.settings s.byte in
       shut_then old mid r f (input-closed input old.terminal s.done) (refused_cause mid.terminal new.terminal r f s.refused) is
 
-  pub run_shut : (r : Result (Unit {0}) PtyFault) → IfErr r (λ fault. StopsWithin input old.terminal bytes fault new.terminal) → IsErrOf r pty.Closed → old.terminal.closed ≡ true
+  pub run_shut : (r : Result (Unit {0}) PtyFault) → IfErr r (λ fault. StopsWithin input old.terminal bytes fault new.terminal) → IsErrOf r pty.Closed
+      → old.terminal.closed ≡ true
   run_shut (Ok x) s is = cc
   run_shut (Err f) s is = was_shut f s is

@@ -1,5 +1,6 @@
 -- Symbols that are spelled one after another.
-use Rattle.std.proofs.Common.{◌≡◌, ◌≤◌, ℕ, zero, suc, ◌+◌, ◌==◌, ◌||◌, false, Some, List, [], ◌∷◌, ◌++◌, length, map, take, drop, slice_get, refl, ap, sym, ◌∙◌, inl, inr, arith, append_assoc, append-nil, take-add}
+use Rattle.std.proofs.Common.{◌≡◌, ◌≤◌, ℕ, zero, suc, ◌+◌, ◌==◌, ◌||◌, false, Some, List, [], ◌∷◌, ◌++◌, length, map, take, drop, slice_get, refl, ap, sym, ◌∙◌}
+use Rattle.std.proofs.Common.{inl, inr, arith, append_assoc, append-nil, take-add}
 use Rattle.std.proofs.lemmas.List.{map-append}
 use Rattle.std.proofs.lemmas.Bool.{cases_Bool, or_parts}
 use Rattle.tn_discipline.specs.declared.echo.Symbol.{Symbol}
@@ -15,7 +16,8 @@ use Rattle.tn_server.specs.Replies.{data_of}
 abbrev pub shown_still : Terminal → List Symbol → Terminal
 shown_still terminal symbols = record terminal { queue = symbols }
 
-pub spelled_more : (before : List ℕ) (queue : List Symbol) (i : ℕ) (symbol : Symbol) → slice_get (drop i queue) 0 ≡ Some symbol → (before ++ spells (map data_of (take i queue))) ++ spelling (data_of symbol) ≡ before ++ spells (map data_of (take (suc i) queue))
+pub spelled_more : (before : List ℕ) (queue : List Symbol) (i : ℕ) (symbol : Symbol) → slice_get (drop i queue) 0 ≡ Some symbol
+    → (before ++ spells (map data_of (take i queue))) ++ spelling (data_of symbol) ≡ before ++ spells (map data_of (take (suc i) queue))
 spelled_more before queue i symbol e =
     let front = spells (map data_of (take i queue)) in
     let one : spells (map data_of (symbol ∷ [])) ≡ spelling (data_of symbol) = append-nil (spelling (data_of symbol)) in
@@ -26,7 +28,8 @@ spelled_more before queue i symbol e =
     ∙ ap (λ xs. before ++ spells (map data_of xs)) (sym (take-suc queue i symbol e))
 
 -- a run up to a CR or an IAC is spelled as it is
-pub spelled_run : (n : ℕ) (queue : List Symbol) → n ≤ length (leading_run 13 255 queue) → spells (map data_of (take n queue)) ≡ take n (leading_run 13 255 queue)
+pub spelled_run : (n : ℕ) (queue : List Symbol) → n ≤ length (leading_run 13 255 queue)
+    → spells (map data_of (take n queue)) ≡ take n (leading_run 13 255 queue)
 spelled_run zero queue within = refl
 spelled_run (suc n) [] within = absurd (omega (arith, within))
 spelled_run (suc n) (Newline ∷ rest) within = absurd (omega (arith, within))
@@ -42,13 +45,16 @@ spelled_run (suc n) (Byte x ∷ rest) within =
     ]
 
 -- a run, and the symbol behind it
-pub spelled_next : (before : List ℕ) (queue : List Symbol) (n : ℕ) (symbol : Symbol) → n ≤ length (leading_run 13 255 queue) → slice_get (drop n queue) 0 ≡ Some symbol → (before ++ take n (leading_run 13 255 queue)) ++ spelling (data_of symbol) ≡ before ++ spells (map data_of (take (suc n) queue))
+pub spelled_next : (before : List ℕ) (queue : List Symbol) (n : ℕ) (symbol : Symbol) → n ≤ length (leading_run 13 255 queue)
+    → slice_get (drop n queue) 0 ≡ Some symbol → (before ++ take n (leading_run 13 255 queue)) ++ spelling (data_of symbol) ≡ before
+    ++ spells (map data_of (take (suc n) queue))
 spelled_next before queue n symbol within e =
     ap (λ xs. (before ++ xs) ++ spelling (data_of symbol)) (sym (spelled_run n queue within))
     ∙ spelled_more before queue n symbol e
 
 -- symbols, and those behind them
-pub spelled_both : (before : List ℕ) (queue : List Symbol) (i n : ℕ) → (before ++ spells (map data_of (take i queue))) ++ spells (map data_of (take n (drop i queue))) ≡ before ++ spells (map data_of (take (i + n) queue))
+pub spelled_both : (before : List ℕ) (queue : List Symbol) (i n : ℕ)
+    → (before ++ spells (map data_of (take i queue))) ++ spells (map data_of (take n (drop i queue))) ≡ before ++ spells (map data_of (take (i + n) queue))
 spelled_both before queue i n =
     let front = map data_of (take i queue) in
     let back = map data_of (take n (drop i queue)) in

@@ -26,7 +26,8 @@ use Rattle.tn_server.specs.Calls.{End, LeadsTo}
 use Rattle.tn_server.specs.Steps.{end_after_item, says_got}
 use Rattle.tn_server.proofs.lemmas.Ends.{line_is}
 
-same_settings : (f g : Flags) (c d : Characters) (o p : Options) (item : Item) → f ≡ g → c ≡ d → o ≡ p → ◌≡◌ {A = Settings} (record { flags = f; chars = chars_after c (payload_at o item) }) (record { flags = g; chars = chars_after d (payload_at p item) })
+same_settings : (f g : Flags) (c d : Characters) (o p : Options) (item : Item) → f ≡ g → c ≡ d → o ≡ p
+    → ◌≡◌ {A = Settings} (record { flags = f; chars = chars_after c (payload_at o item) }) (record { flags = g; chars = chars_after d (payload_at p item) })
 same_settings f g c d o p item a b e = rw (a, b, e) refl
 
 same_chars : (c d : Characters) (o p : Options) (item : Item) → c ≡ d → o ≡ p → chars_after c (payload_at o item) ≡ chars_after d (payload_at p item)
@@ -38,19 +39,22 @@ same_terms f g t u item a b = ap (λ (x : Flags). terms_after x t (got item)) a 
 abbrev modes_of : Options → Terms → ℕ → Option Payload → Modes
 modes_of o t current payload = record { asked = asked_mask_of t.options t.wish; current = mask_after (changes o t.options) current payload }
 
-same_modes : (o p : Options) (t u : Terms) (m n : ℕ) (item : Item) → o ≡ p → t ≡ u → m ≡ n → modes_of o t m (payload_at o item) ≡ modes_of p u n (payload_at p item)
+same_modes : (o p : Options) (t u : Terms) (m n : ℕ) (item : Item) → o ≡ p → t ≡ u → m ≡ n
+    → modes_of o t m (payload_at o item) ≡ modes_of p u n (payload_at p item)
 same_modes o p t u m n item a b e = rw (a, b, e) refl
 
 same_role : (s t : Settings) (m n : ℕ) (item : Item) → s ≡ t → m ≡ n → role_at s (edits m) item ≡ role_at t (edits n) item
 same_role s t m n item a b = rw (a, b) refl
 
-same_queue : (s t : Settings) (m n : ℕ) (o p : Options) (l k : HalfLine) (q r : List Symbol) (item : Item) → s ≡ t → m ≡ n → o ≡ p → l ≡ k → q ≡ r → queue_with q (shows s (edits m) (echoes o) l item) ≡ queue_with r (shows t (edits n) (echoes p) k item)
+same_queue : (s t : Settings) (m n : ℕ) (o p : Options) (l k : HalfLine) (q r : List Symbol) (item : Item) → s ≡ t → m ≡ n → o ≡ p → l ≡ k → q ≡ r
+    → queue_with q (shows s (edits m) (echoes o) l item) ≡ queue_with r (shows t (edits n) (echoes p) k item)
 same_queue s t m n o p l k q r item a b c d e = rw (a, b, c, d, e) refl
 
 same_size : (z w : ℕ × ℕ) (o p : Options) (item : Item) → z ≡ w → o ≡ p → size_after z (payload_at o item) ≡ size_after w (payload_at p item)
 same_size z w o p item a b = rw (a, b) refl
 
-same_says : (f g : Flags) (c d : Characters) (t u : Terms) (item : Item) → f ≡ g → c ≡ d → t ≡ u → items_at f c t (got item) ++ list_replies c (payload_at t.options item) ≡ items_at g d u (got item) ++ list_replies d (payload_at u.options item)
+same_says : (f g : Flags) (c d : Characters) (t u : Terms) (item : Item) → f ≡ g → c ≡ d → t ≡ u
+    → items_at f c t (got item) ++ list_replies c (payload_at t.options item) ≡ items_at g d u (got item) ++ list_replies d (payload_at u.options item)
 same_says f g c d t u item a b e =
     ap (λ (x : Flags). items_at x c t (got item) ++ list_replies c (payload_at t.options item)) a
     ∙ ap (λ (x : Characters). items_at g x t (got item) ++ list_replies x (payload_at t.options item)) b

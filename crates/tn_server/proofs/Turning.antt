@@ -16,13 +16,15 @@ use Rattle.tn_option.specs.Options.{Options, options_after_word}
 use Rattle.tn_pty.specs.Terminal.{Terminal, queue_with}
 use Rattle.tn_pty.specs.Typing.{terminal_after}
 use Rattle.tn_server.specs.Events.{History, next, got}
-use Rattle.tn_server.specs.Terms.{Terms, terms_by, mask_told, asks_echo, wants_echo, asked_mask_of, asked_mask_while, changes, mask_after, chars_after, payload_at, wish_in, options_after, linemode, echoes, wish_after}
+use Rattle.tn_server.specs.Terms.{Terms, terms_by, mask_told, asks_echo, wants_echo, asked_mask_of, asked_mask_while, changes, mask_after, chars_after}
+use Rattle.tn_server.specs.Terms.{payload_at, wish_in, options_after, linemode, echoes, wish_after}
 use Rattle.tn_wire.specs.Words.{differ}
 use Rattle.tn_server.specs.Lines.{role_at}
 use Rattle.tn_server.specs.Screen.{shows, size_after}
 use Rattle.tn_server.specs.Replies.{items_at, items_by, reply_items, list_replies}
 use Rattle.tn_server.specs.Calls.{End, LeadsTo, Advances}
-use Rattle.tn_server.specs.Steps.{end_after_item, says_got, terms_of_event, terminal_after_item, end_after_word, says_words, end_after_wish, mask_wished, end_after_mode, with_negotiated, negotiation_after}
+use Rattle.tn_server.specs.Steps.{end_after_item, says_got, terms_of_event, terminal_after_item, end_after_word, says_words, end_after_wish, mask_wished}
+use Rattle.tn_server.specs.Steps.{end_after_mode, with_negotiated, negotiation_after}
 use Rattle.tn_server.specs.declared.terms.Negotiation.{Negotiation}
 use Rattle.tn_server.specs.declared.wishes.Editing.{Editing}
 use Rattle.tn_server.proofs.lemmas.Terms.{terms_stay, says_nothing, differ_self, echo_keeps_linemode}
@@ -40,7 +42,9 @@ sound h old s = record {
   chars = s.table ∙ ap (λ (x : Settings). x.chars) (sym s.settings);
 }
 
-pub goes_from : (old new : End) (item : Item) (before after : List ℕ) (said : List Item) → after ≡ before ++ spells said → (IsSound old → says_got old item ≡ said) → (IsSound old → end_after_item old item ≡ new) → new.terminal.closed ≡ old.terminal.closed → Advances old (got item) before after new
+pub goes_from : (old new : End) (item : Item) (before after : List ℕ) (said : List Item) → after ≡ before ++ spells said
+    → (IsSound old → says_got old item ≡ said) → (IsSound old → end_after_item old item ≡ new) → new.terminal.closed ≡ old.terminal.closed
+    → Advances old (got item) before after new
 goes_from old new item before after said appended items_at is closed = record {
   said = said;
   appended = appended;
@@ -72,10 +76,23 @@ with_all old t payload terminal =
     }
 
 -- nothing more is agreed
-pub still : (old : End) (payload : Option Payload) (terminal : Terminal) → Agree old.modes old.terms → with_all old old.terms payload terminal ≡ record old { modes = record { asked = old.modes.asked; current = mask_after false old.modes.current payload }; table = chars_after old.table payload; terminal = terminal }
+pub still : (old : End) (payload : Option Payload) (terminal : Terminal) → Agree old.modes old.terms
+    → with_all old old.terms payload terminal ≡ record old {
+      modes = record { asked = old.modes.asked; current = mask_after false old.modes.current payload };
+      table = chars_after old.table payload;
+      terminal = terminal;
+    }
 still old payload terminal e =
-    ap (λ (b : Bool). record old { modes = record { asked = asked_mask_of old.terms.options old.terms.wish; current = mask_after b old.modes.current payload }; table = chars_after old.table payload; terminal = terminal }) (differ_self (linemode old.terms.options))
-    ∙ ap (λ (a : ℕ). record old { modes = record { asked = a; current = mask_after false old.modes.current payload }; table = chars_after old.table payload; terminal = terminal }) (sym e)
+    ap (λ (b : Bool). record old {
+      modes = record { asked = asked_mask_of old.terms.options old.terms.wish; current = mask_after b old.modes.current payload };
+      table = chars_after old.table payload;
+      terminal = terminal;
+    }) (differ_self (linemode old.terms.options))
+    ∙ ap (λ (a : ℕ). record old {
+      modes = record { asked = a; current = mask_after false old.modes.current payload };
+      table = chars_after old.table payload;
+      terminal = terminal;
+    }) (sym e)
 
 abbrev pub shown_by : End → Item → List Symbol
 shown_by old item = shows old.terminal.settings (edits old.modes.current) (echoes old.terms.options) old.terminal.line item
@@ -92,7 +109,9 @@ set_by old t payload =
     }
 
 -- an item that changes no option and brings this payload, whose wish is none or is not allowed
-quiet_terms : (old : End) (item : Item) (payload : Option Payload) → options_after old.terms.options (got item) ≡ old.terms.options → payload_at old.terms.options item ≡ payload → wish_after old.terminal.settings.flags old.terms.wish (wish_in payload) ≡ old.terms.wish → terms_of_event old (got item) ≡ old.terms
+quiet_terms : (old : End) (item : Item) (payload : Option Payload) → options_after old.terms.options (got item) ≡ old.terms.options
+    → payload_at old.terms.options item ≡ payload → wish_after old.terminal.settings.flags old.terms.wish (wish_in payload) ≡ old.terms.wish
+    → terms_of_event old (got item) ≡ old.terms
 quiet_terms old item payload h p w =
     let f = old.terminal.settings.flags in
     let t = old.terms in
@@ -100,37 +119,57 @@ quiet_terms old item payload h p w =
     ∙ ap (λ (x : Option Payload). terms_by f t t.options (wish_in x) false) p
     ∙ terms_stay f t (wish_in payload) w
 
-quiet_got : (old : End) (item : Item) (payload : Option Payload) → options_after old.terms.options (got item) ≡ old.terms.options → payload_at old.terms.options item ≡ payload → wish_after old.terminal.settings.flags old.terms.wish (wish_in payload) ≡ old.terms.wish → IsSound old → end_after_item old item ≡ record old { modes = record { asked = old.modes.asked; current = mask_after false old.modes.current payload }; table = chars_after old.table payload; terminal = set_by old (typed_by old item) payload }
+quiet_got : (old : End) (item : Item) (payload : Option Payload) → options_after old.terms.options (got item) ≡ old.terms.options
+    → payload_at old.terms.options item ≡ payload → wish_after old.terminal.settings.flags old.terms.wish (wish_in payload) ≡ old.terms.wish → IsSound old
+    → end_after_item old item ≡ record old {
+      modes = record { asked = old.modes.asked; current = mask_after false old.modes.current payload };
+      table = chars_after old.table payload;
+      terminal = set_by old (typed_by old item) payload;
+    }
 quiet_got old item payload h p w s =
-    ap (λ (t : Terms). with_all old t (payload_at old.terms.options item) (terminal_after_item old item (payload_at old.terms.options item))) (quiet_terms old item payload h p w)
+    ap (λ (t : Terms). with_all old t (payload_at old.terms.options item) (terminal_after_item old item (payload_at old.terms.options item)))
+    (quiet_terms old item payload h p w)
     ∙ ap (λ (x : Option Payload). with_all old old.terms x (terminal_after_item old item x)) p
     ∙ still old payload (terminal_after_item old item payload) s.masks
 
-pub quiet_says : (old : End) (item : Item) (payload : Option Payload) → options_after old.terms.options (got item) ≡ old.terms.options → reply_items old.terms.options (got item) ≡ [] → payload_at old.terms.options item ≡ payload → wish_after old.terminal.settings.flags old.terms.wish (wish_in payload) ≡ old.terms.wish → says_got old item ≡ list_replies old.table payload
+pub quiet_says : (old : End) (item : Item) (payload : Option Payload) → options_after old.terms.options (got item) ≡ old.terms.options
+    → reply_items old.terms.options (got item) ≡ [] → payload_at old.terms.options item ≡ payload
+    → wish_after old.terminal.settings.flags old.terms.wish (wish_in payload) ≡ old.terms.wish → says_got old item ≡ list_replies old.table payload
 quiet_says old item payload h b p w =
     let f = old.terminal.settings.flags in
     let t = old.terms in
     let c = old.table in
-    ap (λ (o : Options). (reply_items t.options (got item) ++ items_by f c t o (wish_in (payload_at t.options item)) false) ++ list_replies c (payload_at t.options item)) h
+    ap (λ (o : Options). (reply_items t.options (got item) ++ items_by f c t o (wish_in (payload_at t.options item)) false)
+    ++ list_replies c (payload_at t.options item)) h
     ∙ ap (λ (xs : List Item). (xs ++ items_by f c t t.options (wish_in (payload_at t.options item)) false) ++ list_replies c (payload_at t.options item)) b
     ∙ ap (λ (x : Option Payload). items_by f c t t.options (wish_in x) false ++ list_replies c x) p
     ∙ ap (λ (xs : List Item). xs ++ list_replies c payload) (says_nothing f c t (wish_in payload) w)
 
 -- the settings as they were
-pub unset : (old : End) (t : Terminal) → t.settings ≡ old.terminal.settings → t.width ≡ old.terminal.width → t.height ≡ old.terminal.height → IsSound old → set_by old t None ≡ t
+pub unset : (old : End) (t : Terminal) → t.settings ≡ old.terminal.settings → t.width ≡ old.terminal.width → t.height ≡ old.terminal.height → IsSound old
+    → set_by old t None ≡ t
 unset old t settings width height s =
-    ap (λ (c : Characters). record t { settings = record { flags = old.terminal.settings.flags; chars = c }; width = old.terminal.width; height = old.terminal.height }) s.chars
+    ap (λ (c : Characters). record t {
+      settings = record { flags = old.terminal.settings.flags; chars = c };
+      width = old.terminal.width;
+      height = old.terminal.height;
+    }) s.chars
     ∙ ap (λ (x : Settings). record t { settings = x; width = old.terminal.width; height = old.terminal.height }) (sym settings)
     ∙ ap (λ (w : ℕ). record t { width = w; height = old.terminal.height }) (sym width)
     ∙ ap (λ (w : ℕ). record t { height = w }) (sym height)
 
 -- a byte, a new line or a command
-pub typed_got : (old : End) (item : Item) → options_after old.terms.options (got item) ≡ old.terms.options → payload_at old.terms.options item ≡ None → IsSound old → end_after_item old item ≡ record old { terminal = typed_by old item }
-typed_got old item h p s = quiet_got old item None h p refl s ∙ ap (λ (t : Terminal). record old { terminal = t }) (unset old (typed_by old item) refl refl refl s)
+pub typed_got : (old : End) (item : Item) → options_after old.terms.options (got item) ≡ old.terms.options → payload_at old.terms.options item ≡ None
+    → IsSound old → end_after_item old item ≡ record old { terminal = typed_by old item }
+typed_got old item h p s = quiet_got old item None h p refl s ∙ ap (λ (t : Terminal). record old { terminal = t })
+    (unset old (typed_by old item) refl refl refl s)
 
-pub goes_typed : (old new : End) (item : Item) → ((o : Options) → options_after o (got item) ≡ o) → ((o : Options) → reply_items o (got item) ≡ []) → ((o : Options) → payload_at o item ≡ None) → new ≡ record old { terminal = typed_by old item } → (before : List ℕ) → Advances old (got item) before before new
+pub goes_typed : (old new : End) (item : Item) → ((o : Options) → options_after o (got item) ≡ o) → ((o : Options) → reply_items o (got item) ≡ [])
+    → ((o : Options) → payload_at o item ≡ None) → new ≡ record old { terminal = typed_by old item } → (before : List ℕ)
+    → Advances old (got item) before before new
 goes_typed old new item h b p is before =
-    goes_from old new item before before [] (sym (append-nil before)) (λ s. quiet_says old item None (h old.terms.options) (b old.terms.options) (p old.terms.options) refl)
+    goes_from old new item before before [] (sym (append-nil before))
+    (λ s. quiet_says old item None (h old.terms.options) (b old.terms.options) (p old.terms.options) refl)
     (λ s. typed_got old item (h old.terms.options) (p old.terms.options) s ∙ sym is) (ap (λ (e : End). e.terminal.closed) is)
 
 -- the item types nothing
@@ -144,21 +183,35 @@ pub sub_types_nothing : (old : End) (option : ℕ) (params : List ℕ) → Types
 sub_types_nothing old option params = typed_nothing old.terminal
 
 -- a payload that asks for no editing
-pub unwished : (old : End) (item : Item) (payload : Option Payload) → options_after old.terms.options (got item) ≡ old.terms.options → payload_at old.terms.options item ≡ payload → wish_after old.terminal.settings.flags old.terms.wish (wish_in payload) ≡ old.terms.wish → TypesNothing old item → IsSound old → end_after_item old item ≡ record old { modes = record { asked = old.modes.asked; current = mask_after false old.modes.current payload }; table = chars_after old.table payload; terminal = set_by old old.terminal payload }
+pub unwished : (old : End) (item : Item) (payload : Option Payload) → options_after old.terms.options (got item) ≡ old.terms.options
+    → payload_at old.terms.options item ≡ payload → wish_after old.terminal.settings.flags old.terms.wish (wish_in payload) ≡ old.terms.wish
+    → TypesNothing old item → IsSound old → end_after_item old item
+    ≡ record old {
+      modes = record { asked = old.modes.asked; current = mask_after false old.modes.current payload };
+      table = chars_after old.table payload;
+      terminal = set_by old old.terminal payload;
+    }
 unwished old item payload h p w n s =
     quiet_got old item payload h p w s
-    ∙ ap (λ (t : Terminal). record old { modes = record { asked = old.modes.asked; current = mask_after false old.modes.current payload }; table = chars_after old.table payload; terminal = set_by old t payload }) n
+    ∙ ap (λ (t : Terminal). record old {
+      modes = record { asked = old.modes.asked; current = mask_after false old.modes.current payload };
+      table = chars_after old.table payload;
+      terminal = set_by old t payload;
+    }) n
 
 -- the terminal's own characters
-pub own_chars : (old : End) (w z : ℕ) → IsSound old → record (old.terminal) { settings = record { flags = old.terminal.settings.flags; chars = old.table }; width = w; height = z } ≡ record (old.terminal) { width = w; height = z }
-own_chars old w z s = ap (λ (c : Characters). record (old.terminal) { settings = record { flags = old.terminal.settings.flags; chars = c }; width = w; height = z }) s.chars
+pub own_chars : (old : End) (w z : ℕ) → IsSound old → record (old.terminal)
+    { settings = record { flags = old.terminal.settings.flags; chars = old.table }; width = w; height = z } ≡ record (old.terminal) { width = w; height = z }
+own_chars old w z s = ap (λ (c : Characters). record (old.terminal)
+    { settings = record { flags = old.terminal.settings.flags; chars = c }; width = w; height = z }) s.chars
 
 -- an acknowledgement
 abbrev by_ack : End → ℕ → Bool → Option Bool → End
 by_ack old mask b None = record old { modes = if b then record (old.modes) { current = mode_of mask } else old.modes }
 by_ack old mask b (Some edit) = end_after_wish old (mask_wished old edit)
 
-pub mode_acked : (old : End) (mask : ℕ) → is_acknowledged mask ≡ true → record old { modes = record { asked = old.modes.asked; current = mask_after false old.modes.current (Some (Mode mask)) } } ≡ end_after_mode old mask
+pub mode_acked : (old : End) (mask : ℕ) → is_acknowledged mask ≡ true
+    → record old { modes = record { asked = old.modes.asked; current = mask_after false old.modes.current (Some (Mode mask)) } } ≡ end_after_mode old mask
 mode_acked old mask is =
     ap (λ (b : Bool). record old { modes = record { asked = old.modes.asked; current = if b then mode_of mask else old.modes.current } }) is
     ∙ sym (ap (λ (b : Bool). by_ack old mask b (if b then None else Some (edits mask))) is)
@@ -167,19 +220,49 @@ abbrev pub masks_at : Options → Bool → ℕ → ℕ → Option Payload → Mo
 masks_at before on wish current payload = record { asked = asked_mask_while on wish; current = mask_after (differ (linemode before) on) current payload }
 
 -- what is settled is what the terms say
-pub settled_all : (old : End) (o : Options) (ed : Option Editing) (set : Bool) (payload : Option Payload) (terminal : Terminal) → chars_after old.table payload ≡ old.table → terminal ≡ old.terminal → mask_after (changes old.terms.options o) old.modes.current payload ≡ mask_after (changes old.terms.options o) old.modes.current None → IsSound old → with_all old (terms_by old.terminal.settings.flags old.terms o ed set) payload terminal ≡ with_negotiated old (negotiation_after (linemode old.terms.options) set old.terminal.settings.flags (record { options = o; modes = old.modes; wish = wish_after old.terminal.settings.flags old.terms.wish ed }))
+pub settled_all : (old : End) (o : Options) (ed : Option Editing) (set : Bool) (payload : Option Payload) (terminal : Terminal)
+    → chars_after old.table payload ≡ old.table → terminal ≡ old.terminal
+    → mask_after (changes old.terms.options o) old.modes.current payload ≡ mask_after (changes old.terms.options o) old.modes.current None → IsSound old
+    → with_all old (terms_by old.terminal.settings.flags old.terms o ed set) payload terminal
+    ≡ with_negotiated old (negotiation_after (linemode old.terms.options) set old.terminal.settings.flags
+    (record { options = o; modes = old.modes; wish = wish_after old.terminal.settings.flags old.terms.wish ed }))
 settled_all old o ed set payload terminal c is m s =
     let f = old.terminal.settings.flags in
     let t = old.terms in
     let wish = wish_after f t.wish ed in
     let all = terms_by f t o ed set in
     let n : Negotiation = record { options = o; modes = old.modes; wish = wish } in
-    ap (λ (b : Bool). record old { terms = all; modes = masks_at t.options b wish old.modes.current payload; table = chars_after old.table payload; terminal = terminal }) (echo_keeps_linemode (asks_echo t.options o (mask_told t o wish) set) (wants_echo (asked_mask_of o wish) f) o)
-    ∙ ap (λ (x : ℕ). record old { terms = all; modes = record { asked = asked_mask_of o wish; current = x }; table = chars_after old.table payload; terminal = terminal }) m
-    ∙ ap (λ (x : Modes). record old { terms = all; modes = x; table = chars_after old.table payload; terminal = terminal }) (sym (masks_settle f t old.modes o wish set s.masks))
-    ∙ ap (λ (x : Options). record old { terms = record { options = x; wish = wish }; modes = (negotiation_after (linemode t.options) set f n).modes; table = chars_after old.table payload; terminal = terminal }) (sym (terms_settle f t old.modes o ed set s.masks))
-    ∙ ap (λ (x : Characters). record old { terms = record { options = (negotiation_after (linemode t.options) set f n).options; wish = wish }; modes = (negotiation_after (linemode t.options) set f n).modes; table = x; terminal = terminal }) c
-    ∙ ap (λ (x : Terminal). record old { terms = record { options = (negotiation_after (linemode t.options) set f n).options; wish = wish }; modes = (negotiation_after (linemode t.options) set f n).modes; terminal = x }) is
+    ap (λ (b : Bool). record old {
+      terms = all;
+      modes = masks_at t.options b wish old.modes.current payload;
+      table = chars_after old.table payload;
+      terminal = terminal;
+    }) (echo_keeps_linemode (asks_echo t.options o (mask_told t o wish) set) (wants_echo (asked_mask_of o wish) f) o)
+    ∙ ap (λ (x : ℕ). record old {
+      terms = all;
+      modes = record { asked = asked_mask_of o wish; current = x };
+      table = chars_after old.table payload;
+      terminal = terminal;
+    }) m
+    ∙ ap (λ (x : Modes). record old { terms = all; modes = x; table = chars_after old.table payload; terminal = terminal })
+    (sym (masks_settle f t old.modes o wish set s.masks))
+    ∙ ap (λ (x : Options). record old {
+      terms = record { options = x; wish = wish };
+      modes = (negotiation_after (linemode t.options) set f n).modes;
+      table = chars_after old.table payload;
+      terminal = terminal;
+    }) (sym (terms_settle f t old.modes o ed set s.masks))
+    ∙ ap (λ (x : Characters). record old {
+      terms = record { options = (negotiation_after (linemode t.options) set f n).options; wish = wish };
+      modes = (negotiation_after (linemode t.options) set f n).modes;
+      table = x;
+      terminal = terminal;
+    }) c
+    ∙ ap (λ (x : Terminal). record old {
+      terms = record { options = (negotiation_after (linemode t.options) set f n).options; wish = wish };
+      modes = (negotiation_after (linemode t.options) set f n).modes;
+      terminal = x;
+    }) is
 
 -- an option word
 pub words_got : (old : End) (verb : Verb) (option : ℕ) → IsSound old → end_after_item old (Neg verb option) ≡ end_after_word old verb option
@@ -195,7 +278,8 @@ words_said old verb option s =
     append-nil (said ++ items_by f old.table t (options_after_word t.options verb option) None false)
     ∙ ap (λ (xs : List Item). said ++ xs) (sym (says_settle f old.table t old.modes (options_after_word t.options verb option) None false s.masks))
 
-pub goes_words : (old new : End) (verb : Verb) (option : ℕ) (before after : List ℕ) → new ≡ end_after_word old verb option → after ≡ before ++ spells (says_words old verb option) → Advances old (got (Neg verb option)) before after new
+pub goes_words : (old new : End) (verb : Verb) (option : ℕ) (before after : List ℕ) → new ≡ end_after_word old verb option
+    → after ≡ before ++ spells (says_words old verb option) → Advances old (got (Neg verb option)) before after new
 goes_words old new verb option before after is said =
     goes_from old new (Neg verb option) before after (says_words old verb option) said (words_said old verb option)
     (λ s. words_got old verb option s ∙ sym is) (ap (λ (e : End). e.terminal.closed) is)

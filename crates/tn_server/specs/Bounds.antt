@@ -4,7 +4,8 @@ use Rattle.tn_discipline.specs.Characters.{AreAllowed, char_fault}
 use Rattle.tn_nvt.specs.Spelling.{spelling, spells}
 use Rattle.tn_nvt.specs.declared.items.Item.{Item}
 use Rattle.tn_nvt.specs.declared.items.Item.TheVariants.{Neg, Sub}
-use Rattle.tn_server.specs.Events.{Event, got, took, wrote, pulled, wished, char_set, echo_set, mask_set, History, begun, next}
+use Rattle.tn_server.specs.Events.{Event, got, took, wrote, pulled, wished, char_set, echo_set, mask_set}
+use Rattle.tn_server.specs.Events.{History, begun, next}
 use Rattle.tn_server.specs.Replies.{data_of, items_said}
 use Rattle.tn_server.specs.Screen.{queue}
 use Rattle.tn_server.specs.Terms.{chars}

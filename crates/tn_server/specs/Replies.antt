@@ -1,5 +1,6 @@
 -- What a server end sends, as items; its bytes are their spellings, one after another.
-use Rattle.std.specs.Prelude.{ℕ, Bool, true, false, not, ◌&&◌, Option, Some, None, Result, Ok, Err, List, [], ◌∷◌, ◌++◌, map, take, if◌then◌else◌}
+use Rattle.std.specs.Prelude.{ℕ, Bool, true, false, not, ◌&&◌, Option, Some, None, Result, Ok, Err, List, []}
+use Rattle.std.specs.Prelude.{◌∷◌, ◌++◌, map, take, if◌then◌else◌}
 use Rattle.tn_codes.specs.OptionCodes as option_code
 use Rattle.tn_codes.specs.declared.codes.Command.TheVariants.{Ga}
 use Rattle.tn_codes.specs.declared.codes.Func.{Func}
@@ -19,8 +20,11 @@ use Rattle.tn_nvt.specs.declared.items.Item.TheVariants.{Byte, Newline, Cmd, Neg
 use Rattle.tn_option.specs.Options.{Options, reply_to, answer_to}
 use Rattle.tn_option.specs.declared.q_method.AskFault.{AskFault}
 use Rattle.tn_option.specs.declared.q_method.Side.TheVariants.{Us}
-use Rattle.tn_server.specs.Events.{Event, got, took, wrote, pulled, wished, char_set, echo_set, mask_set, History, begun, next}
-use Rattle.tn_server.specs.Terms.{Terms, terms, options, flags, chars, linemode, payload_at, options_after, asked_mask_of, wish_after, wish_at, wants_echo, mask_told, asks_echo, is_echo_set, chars_after}
+use Rattle.tn_server.specs.Events.{Event, got, took, wrote, pulled, wished, char_set, echo_set, mask_set}
+use Rattle.tn_server.specs.Events.{History, begun, next}
+use Rattle.tn_server.specs.Terms.{Terms, terms, options, flags, chars, linemode, payload_at, options_after}
+use Rattle.tn_server.specs.Terms.{asked_mask_of, wish_after, wish_at, wants_echo, mask_told, asks_echo}
+use Rattle.tn_server.specs.Terms.{is_echo_set, chars_after}
 use Rattle.tn_server.specs.declared.wishes.Editing.{Editing}
 use Rattle.tn_wire.specs.Words.{word_items, payload_items, mode_items, list_items}
 use Rattle.tn_server.specs.Screen.{sends_ga, none_waits, due, queue}

@@ -1,5 +1,6 @@
 -- One event at a server end, as a step from what the end knows now. `Calls` ties these steps to histories.
-use Rattle.std.specs.Prelude.{◌≡◌, ◌<◌, ◌≢◌, ◌⊎◌, ℕ, Bool, true, false, ◌||◌, Option, Some, None, is_some, List, [], ◌++◌, length}
+use Rattle.std.specs.Prelude.{◌≡◌, ◌<◌, ◌≢◌, ◌⊎◌, ℕ, Bool, true, false, ◌||◌, Option, Some, None, is_some}
+use Rattle.std.specs.Prelude.{List, [], ◌++◌, length}
 use Rattle.tn_codes.specs.declared.codes.Command.{Command}
 use Rattle.tn_codes.specs.declared.codes.Verb.{Verb}
 use Rattle.tn_codes.specs.declared.payloads.Payload.{Payload}
@@ -11,7 +12,8 @@ use Rattle.tn_discipline.specs.HalfLine.{GivesText}
 use Rattle.tn_discipline.specs.Keys.{gives_entry}
 use Rattle.tn_discipline.specs.declared.keys.Role.{Role}
 use Rattle.tn_discipline.specs.declared.termios.Flags.{Flags}
-use Rattle.tn_linemode.specs.Modes.{Modes, no_mode, edits, mask_sent, modes_after_wish, modes_after_mode, wish_of_mask}
+use Rattle.tn_linemode.specs.Modes.{Modes, no_mode, edits, mask_sent, modes_after_wish, modes_after_mode}
+use Rattle.tn_linemode.specs.Modes.{wish_of_mask}
 use Rattle.tn_linemode.specs.Exchange.{server_after}
 use Rattle.tn_nvt.specs.declared.items.Item.{Item}
 use Rattle.tn_option.specs.Options.{options_after_word, reply_to}
@@ -21,7 +23,9 @@ use Rattle.tn_pty.specs.declared.pty.PtyFault.{PtyFault}
 use Rattle.tn_pty.specs.declared.pty.PtyFault.TheVariants as pty
 use Rattle.tn_server.specs.Events.{Event, got}
 use Rattle.tn_wire.specs.Words.{IsList, differ, word_items, mode_items}
-use Rattle.tn_server.specs.Terms.{Terms, terms_after, payload_at, asked_mask_of, changes, mask_after, chars_after, echoes, linemode, options_with_echo, wants_echo, mask_for, editing}
+use Rattle.tn_server.specs.Terms.{Terms, terms_after, payload_at, asked_mask_of, changes, mask_after}
+use Rattle.tn_server.specs.Terms.{chars_after, echoes, linemode, options_with_echo, wants_echo, mask_for}
+use Rattle.tn_server.specs.Terms.{editing}
 use Rattle.tn_server.specs.Lines.{role_at, role_of_byte}
 use Rattle.tn_server.specs.Screen.{shows, byte_shows, size_after}
 use Rattle.tn_server.specs.Replies.{items_at, list_replies, new_table_items, echo_items}

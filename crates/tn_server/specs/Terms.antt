@@ -1,5 +1,6 @@
 -- What a server end has agreed on with its client: options, special characters and the mode of editing.
-use Rattle.std.specs.Prelude.{ℕ, Bool, true, false, not, ◌&&◌, ◌||◌, Option, Some, None, is_some, [], ◌∷◌, if◌then◌else◌}
+use Rattle.std.specs.Prelude.{ℕ, Bool, true, false, not, ◌&&◌, ◌||◌, Option, Some, None, is_some, [], ◌∷◌}
+use Rattle.std.specs.Prelude.{if◌then◌else◌}
 use Rattle.tn_codes.specs.OptionCodes as option_code
 use Rattle.tn_codes.specs.declared.payloads.Payload.{Payload}
 use Rattle.tn_codes.specs.declared.payloads.Payload.TheVariants.{Mode, Slc}
@@ -10,7 +11,8 @@ use Rattle.tn_linemode.specs.Modes.{mode_of, is_acknowledged, edits, mask_sent, 
 use Rattle.tn_linemode.specs.Exchange.{server_after}
 use Rattle.tn_nvt.specs.declared.items.Item.{Item}
 use Rattle.tn_nvt.specs.declared.items.Item.TheVariants.{Neg, Sub}
-use Rattle.tn_option.specs.Options.{Options, new_options, options_after_word, options_after_wish, state_of, is_yes}
+use Rattle.tn_option.specs.Options.{Options, new_options, options_after_word, options_after_wish, state_of}
+use Rattle.tn_option.specs.Options.{is_yes}
 use Rattle.tn_option.specs.declared.negotiation.Agree.{Agree}
 use Rattle.tn_option.specs.declared.q_method.Side.TheVariants.{Us, Them}
 use Rattle.tn_wire.specs.Words.{payload_under, differ}

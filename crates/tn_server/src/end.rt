@@ -1,6 +1,8 @@
 //! The server end: the calls that its owner makes.
 
-ghost use Rattle.std.specs.Prelude.{◌≡◌, ◌≢◌, ◌↔◌, ◌⊎◌, ◌&&◌, not, ℕ, List, true, false, Some, None, Err, [], ◌++◌, ◌∷◌, ◌*◌, length, min, IfOk, IfErr, OnOk, OnErr, IsErrOf, MatchOption, option_copied, slice_get};
+ghost use Rattle.std.specs.Prelude.{◌≡◌, ◌≢◌, ◌↔◌, ◌⊎◌, ◌&&◌, not, ℕ, List, true, false, Some, None, Err, []};
+ghost use Rattle.std.specs.Prelude.{◌++◌, ◌∷◌, ◌*◌, length, min, IfOk, IfErr, OnOk, OnErr, IsErrOf};
+ghost use Rattle.std.specs.Prelude.{MatchOption, option_copied, slice_get};
 ghost use Rattle.tn_codes.specs.OptionCodes as option_code;
 ghost use Rattle.tn_discipline.specs.Characters.{char_fault};
 ghost use Rattle.tn_nvt.specs.Room.{LacksRoom};
@@ -11,13 +13,15 @@ ghost use Rattle.tn_option.specs.declared.q_method.Side.TheVariants.{Us};
 ghost use Rattle.tn_pty.specs.Terminal.{fitting_count, first_signal};
 ghost use Rattle.tn_pty.specs.declared.pty.PtyFault.{PtyFault};
 ghost use Rattle.tn_pty.specs.declared.pty.PtyFault.TheVariants.{Closed};
-ghost use Rattle.tn_server.specs.Events.{History, begun, next, took, wrote, pulled, wished, char_set, echo_set, mask_set};
+ghost use Rattle.tn_server.specs.Events.{History, begun, next, took, wrote, pulled, wished, char_set};
+ghost use Rattle.tn_server.specs.Events.{echo_set, mask_set};
 ghost use Rattle.tn_server.specs.Lines.{half, waiting};
 ghost use Rattle.tn_server.specs.Screen.{queue, size, sends_ga, none_waits, due};
 ghost use Rattle.tn_server.specs.Terms.{mode, asked_mask, chars, settings, options, sends_mode};
 ghost use Rattle.tn_server.specs.Replies.{opening};
 ghost use Rattle.tn_server.specs.Faults.{IsOfItem, IsOfPiece, IsFault, SaysSomething};
-ghost use Rattle.tn_server.specs.Calls.{LeadsTo, Advances, ReadsNothing, Feeds, StopsWithin, LacksRoomFor, call_fault, char_fault_at, mask_fault};
+ghost use Rattle.tn_server.specs.Calls.{LeadsTo, Advances, ReadsNothing, Feeds, StopsWithin, LacksRoomFor};
+ghost use Rattle.tn_server.specs.Calls.{call_fault, char_fault_at, mask_fault};
 
 use crate::faults::ServerFault;
 use crate::screen::{SYMBOL_BYTES, spell_front};
@@ -226,7 +230,7 @@ impl ServerEnd {
     }
 
     /// Wishes for editing at one side, and appends what follows: a MODE where LINEMODE is on and the
-    /// mask is not asked for already. Answers whether one was sent. The client acknowledges it before
+    /// mask is not asked for already. Returns whether one was sent. The client acknowledges it before
     /// it is in force. `Failed` after a refused piece, `Memory` where what is said does not fit.
     pub fn wish(&mut self, editing: Editing, out: &mut Vec<u8>) -> Result<bool, ServerFault>
         ensures ok { OnOk result (Advances self.old (wished editing) out.old.items out.new.items self.new) }
@@ -255,7 +259,8 @@ impl ServerEnd {
     }
 
     /// Changes a special character, or disables it, and tells the client by one triple where LINEMODE
-    /// is on and something changed (RFC 1184, section 2.4). `Char` as `Chars::set` refuses it; else as `wish`.
+    /// is on and something changed (RFC 1184, section 2.4). `Char` as `Chars::set` refuses it; else as
+    /// `wish`.
     pub fn set_char(
         &mut self,
         func: Func,
@@ -290,8 +295,8 @@ impl ServerEnd {
         Ok(())
     }
 
-    /// Sets or clears the terminal's flag ECHO, and appends the word for the option ECHO, if one is due. It is
-    /// refused as `wish` is.
+    /// Sets or clears the terminal's flag ECHO, and appends the word for the option ECHO, if one is due. It
+    /// is refused as `wish` is.
     pub fn set_echo(&mut self, on: bool, out: &mut Vec<u8>) -> Result<(), ServerFault>
         ensures ok { OnOk result (Advances self.old (echo_set on) out.old.items out.new.items self.new) }
         ensures keeps { OnOk result (ReadsNothing self.old self.new) }

@@ -1,6 +1,7 @@
 //! What a server end does with an item that came.
 
-ghost use Rattle.std.specs.Prelude.{◌≡◌, ◌≢◌, ◌≤◌, ◌++◌, ℕ, List, true, Some, [], length, map, IfOk, IfErr, OnOk, OnErr, IsErrOf};
+ghost use Rattle.std.specs.Prelude.{◌≡◌, ◌≢◌, ◌≤◌, ◌++◌, ℕ, List, true, Some, [], length, map, IfOk, IfErr};
+ghost use Rattle.std.specs.Prelude.{OnOk, OnErr, IsErrOf};
 ghost use Rattle.tn_codes.specs.Payloads.{max_triples};
 ghost use Rattle.tn_codes.specs.declared.payloads.Payload.TheVariants as payload;
 ghost use Rattle.tn_nvt.specs.Room.{LacksRoom};
@@ -13,7 +14,10 @@ ghost use Rattle.tn_server.specs.Terms.{payload_at, mask_for};
 ghost use Rattle.tn_server.specs.Replies.{list_replies};
 ghost use Rattle.tn_server.specs.Calls.{Advances, AdvancesAll, RefusesItem, StopsWithinItems};
 ghost use Rattle.tn_server.specs.Faults.{IsOfItem};
-ghost use Rattle.tn_server.specs.Steps.{role_of_typed, end_after_byte, end_after_command, IsShut, IsKeyCause, MayWantMemory, end_after_word, says_words, end_after_wish, says_wished, sends_wished, end_after_mode, says_mode_got, end_after_list, end_after_payload, says_sub};
+ghost use Rattle.tn_server.specs.Steps.{role_of_typed, end_after_byte, end_after_command, IsShut, IsKeyCause};
+ghost use Rattle.tn_server.specs.Steps.{MayWantMemory, end_after_word, says_words, end_after_wish};
+ghost use Rattle.tn_server.specs.Steps.{says_wished, sends_wished, end_after_mode, says_mode_got};
+ghost use Rattle.tn_server.specs.Steps.{end_after_list, end_after_payload, says_sub};
 ghost use Rattle.tn_wire.specs.Prefixes.{AppendsPrefix};
 
 use crate::end::ServerEnd;
@@ -122,7 +126,7 @@ impl ServerEnd {
     }
 
     /// Wishes for editing at one side, where the terminal's flags allow it, and says what follows.
-    /// Answers whether a MODE was sent.
+    /// Returns whether a MODE was sent.
     pub(crate) fn wish_for(
         &mut self,
         editing: Editing,

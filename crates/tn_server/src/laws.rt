@@ -1,6 +1,7 @@
 //! Laws of the definitions alone.
 
-ghost use Rattle.std.specs.Prelude.{◌≡◌, ◌≢◌, ◌↔◌, ◌<◌, ◌≤◌, ◌+◌, ◌*◌, ◌∷◌, ◌++◌, ℕ, true, List, All, [], length, map};
+ghost use Rattle.std.specs.Prelude.{◌≡◌, ◌≢◌, ◌↔◌, ◌<◌, ◌≤◌, ◌+◌, ◌*◌, ◌∷◌, ◌++◌, ℕ, true, List, All, []};
+ghost use Rattle.std.specs.Prelude.{length, map};
 ghost use Rattle.std.specs.List.{flat_map};
 ghost use Rattle.tn_discipline.specs.Canon.{Canon, typed_entries, typed_half};
 ghost use Rattle.tn_discipline.specs.Entries.{HasAtMost, entries_of, half_of};
@@ -19,10 +20,12 @@ ghost use Rattle.tn_nvt.specs.Feeding as nvt;
 ghost use Rattle.tn_nvt.specs.declared.items.Item.{Item};
 ghost use Rattle.tn_pty.specs.Terminal.{output_symbols, queue_symbols, max_waiting};
 ghost use Rattle.tn_pty.specs.declared.pty.PtyFault.TheVariants.{TooFarAhead};
-ghost use Rattle.tn_server.specs.Course.{Course, started, fed, called, stream, in_parts, IsCall, ReadsAs, CourseLeadsTo};
+ghost use Rattle.tn_server.specs.Course.{Course, started, fed, called, stream, in_parts, IsCall, ReadsAs};
+ghost use Rattle.tn_server.specs.Course.{CourseLeadsTo};
 ghost use Rattle.tn_server.specs.Events.{Event, got, History, begun, items, gets, opening_settings, limit};
 ghost use Rattle.tn_server.specs.Lines.{entries, half, waiting};
-ghost use Rattle.tn_server.specs.OtherClients.{StaysRemote, opening_canon, roles_of_items, keys_of, IsNoCommand, line_items, AreOrdinary};
+ghost use Rattle.tn_server.specs.OtherClients.{StaysRemote, opening_canon, roles_of_items, keys_of};
+ghost use Rattle.tn_server.specs.OtherClients.{IsNoCommand, line_items, AreOrdinary};
 ghost use Rattle.tn_server.specs.Bounds.{max_said, HasAllowedCharacters, max_of_calls, bytes_due};
 ghost use Rattle.tn_wire.specs.Prefixes.{IsRead};
 ghost use Rattle.tn_server.specs.Replies.{data_of, replies, items_said};
@@ -177,9 +180,9 @@ pub fn dropping_goes_on()
         LeadsTo h old → nvt.IsLetGo old.decoder piece → ¬ StopsWithin old piece fault before after new }
 {}
 
-/// A client that edits nothing, as those of PuTTY, busybox and libtelnet: it acknowledges no EDIT, and neither
-/// it nor the owner changes a special character. Whatever else it says, the entries are the local entries of
-/// its data bytes, its commands having the roles that they have.
+/// A client that edits nothing, as those of PuTTY, busybox and libtelnet: it acknowledges no EDIT, and
+/// neither it nor the owner changes a special character. Whatever else it says, the entries are the local
+/// entries of its data bytes, its commands having the roles that they have.
 pub fn remote_clients()
     ensures entries { (h : History) → StaysRemote h →
         entries h ≡ entries_of (limit h) (roles_of_items (opening_settings h) (items h)) }
@@ -191,8 +194,8 @@ pub fn remote_clients()
         half h ≡ typed_half (opening_canon h) (keys_of (items h)) }
 {}
 
-/// A client that edits, whoever made it: a line of ordinary bytes that fits, sent whole with a new line behind
-/// it where none was begun, is read as that line.
+/// A client that edits, whoever made it: a line of ordinary bytes that fits, sent whole with a new line
+/// behind it where none was begun, is read as that line.
 pub fn whole_lines()
     ensures entries { (h : History) (bytes : List ℕ) → edits (mode h) ≡ true → half h ≡ [] →
         AreOrdinary (chars h) bytes → length bytes ≤ max_counted (limit h) →

@@ -1,6 +1,7 @@
 //! Symbols of the screen as bytes of the stream.
 
-ghost use Rattle.std.specs.Prelude.{◌≡◌, ◌+◌, ◌*◌, ◌<◌, ◌≤◌, ◌++◌, map, take, drop, length, vec_len, vec_capacity};
+ghost use Rattle.std.specs.Prelude.{◌≡◌, ◌+◌, ◌*◌, ◌<◌, ◌≤◌, ◌++◌, map, take, drop, length, vec_len};
+ghost use Rattle.std.specs.Prelude.{vec_capacity};
 ghost use Rattle.tn_nvt.specs.Spelling.{spelling, spells};
 ghost use Rattle.tn_server.specs.Replies.{data_of};
 
@@ -26,7 +27,8 @@ pub(crate) fn spell_front(pair: &mut Pair, count: usize, out: &mut Vec<u8>)
     }
 }
 
-// Moves a run of symbols that are spelled as they are, and the symbol behind it, and returns how many they are.
+// Moves a run of symbols that are spelled as they are, and the symbol behind it, and returns how many they
+// are.
 fn spell_some(pair: &mut Pair, most: usize, out: &mut Vec<u8>) -> usize
     requires some { 0 < most }
     requires enough { most ≤ length pair.old.queue }

@@ -1,6 +1,7 @@
 //! What a server end has agreed on with its client.
 
-ghost use Rattle.std.specs.Prelude.{◌≡◌, ◌≢◌, ◌≤◌, ◌⊎◌, [], ◌++◌, true, is_some, length, vec_capacity, IfOk, OnOk, OnErr};
+ghost use Rattle.std.specs.Prelude.{◌≡◌, ◌≢◌, ◌≤◌, ◌⊎◌, [], ◌++◌, true, is_some, length, vec_capacity, IfOk};
+ghost use Rattle.std.specs.Prelude.{OnOk, OnErr};
 ghost use Rattle.tn_linemode.specs.Modes.{no_mode};
 ghost use Rattle.tn_nvt.specs.Room.{LacksRoom};
 ghost use Rattle.tn_nvt.specs.Spelling.{spells};
@@ -104,7 +105,7 @@ impl Negotiation {
     }
 
     /// Says what follows from new options, a wish or a flag: the table where LINEMODE came on, the MODE
-    /// that was not asked before, and the word for ECHO. Answers whether a MODE was sent.
+    /// that was not asked before, and the word for ECHO. Returns whether a MODE was sent.
     pub(crate) fn settle(
         &mut self,
         alloc: Global,

@@ -1,5 +1,6 @@
 -- What is shown of bytes that come in pieces.
-use Rattle.std.proofs.Common.{◌≡◌, ℕ, ◌==◌, ◌&&◌, Bool, true, false, List, [], ◌∷◌, ◌++◌, refl, sym, ap, ap₂, ◌∙◌, append_assoc, ◌≤◌, length, arith, if◌then◌else◌}
+use Rattle.std.proofs.Common.{◌≡◌, ℕ, ◌==◌, ◌&&◌, Bool, true, false, List, [], ◌∷◌, ◌++◌, refl, sym, ap, ap₂, ◌∙◌, append_assoc, ◌≤◌, length, arith}
+use Rattle.std.proofs.Common.{if◌then◌else◌}
 use Rattle.std.proofs.lemmas.Bool.{eqb-true}
 use Rattle.tn_services.specs.NewLines.{ends_by_return, new_lines, settled, shown_of, waiting}
 
@@ -39,7 +40,8 @@ unfolding settled ends_by_return
 settled_more [] byte bytes = refl
 settled_more (x ∷ []) byte bytes = behind_one (x == 13) x byte bytes refl
 settled_more (x ∷ y ∷ front) byte bytes =
-    sym (with_end (x == 13 && y == 10) x (settled (y ∷ front)) (settled (waiting (ends_by_return (y ∷ front)) ++ byte ∷ bytes)) (settled (y ∷ front ++ byte ∷ bytes))
+    sym (with_end (x == 13 && y == 10) x (settled (y ∷ front)) (settled (waiting (ends_by_return (y ∷ front)) ++ byte ∷ bytes))
+    (settled (y ∷ front ++ byte ∷ bytes))
     (sym (settled_more (y ∷ front) byte bytes)))
 
 pub waits_alone : (b : Bool) → new_lines (waiting b) ≡ waiting b
@@ -116,7 +118,8 @@ at_most_one false = omega arith
 
 -- ONE BYTE MORE
 
-pub byte_settles : (start before after front whole : List ℕ) (byte : ℕ) (waits : Bool) → whole ≡ front ++ byte ∷ [] → before ≡ start ++ settled front → waits ≡ ends_by_return front
+pub byte_settles : (start before after front whole : List ℕ) (byte : ℕ) (waits : Bool) → whole ≡ front ++ byte ∷ [] → before ≡ start ++ settled front
+    → waits ≡ ends_by_return front
     → after ≡ before ++ settled (waiting waits ++ byte ∷ []) → after ≡ start ++ settled whole
 byte_settles start before after front whole byte waits more so holds put =
     let held = settled (waiting (ends_by_return front) ++ byte ∷ []) in
@@ -125,5 +128,6 @@ byte_settles start before after front whole byte waits more so holds put =
     ∙ append_assoc start (settled front) held
     ∙ ap (λ (l : List ℕ). start ++ l) (sym (ap settled more ∙ settled_more front byte []))
 
-pub byte_ends : (front whole : List ℕ) (byte : ℕ) (waits : Bool) → whole ≡ front ++ byte ∷ [] → waits ≡ ends_by_return (byte ∷ []) → waits ≡ ends_by_return whole
+pub byte_ends : (front whole : List ℕ) (byte : ℕ) (waits : Bool) → whole ≡ front ++ byte ∷ [] → waits ≡ ends_by_return (byte ∷ [])
+    → waits ≡ ends_by_return whole
 byte_ends front whole byte waits more is = is ∙ sym (ap ends_by_return more ∙ ends_more front byte [])

@@ -1,5 +1,6 @@
 -- What was shown, one step after another.
-use Rattle.std.proofs.Common.{◌≡◌, ◌≢◌, ◌⊎◌, inl, inr, ⊎_elim, ℕ, Bool, false, List, [], ◌∷◌, ◌++◌, length, Option, Some, None, Err, refl, sym, ap, ap₂, ◌∙◌, subst, append_assoc, append-nil, arith}
+use Rattle.std.proofs.Common.{◌≡◌, ◌≢◌, ◌⊎◌, inl, inr, ⊎_elim, ℕ, Bool, false, List, [], ◌∷◌, ◌++◌, length, Option, Some, None, Err, refl, sym, ap, ap₂, ◌∙◌}
+use Rattle.std.proofs.Common.{subst, append_assoc, append-nil, arith}
 use Rattle.std.proofs.lemmas.List.{append_cancel_right}
 use Rattle.std.specs.Io.KnownBytes.{Consumes, IsAtEnd}
 use Rattle.std.specs.IoError.{error_kind}
@@ -51,20 +52,23 @@ pub record Gave (waited : Bool) (text : List ℕ) (waits : Bool) (old new : Know
   pub came : Consumes old.bytes new.bytes given
   pub shows : ShowsGiven waited given text waits
 
-gave : (waited : Bool) (text : List ℕ) (after : After) (waits : Bool) (old new : KnownReader) → Shows waited text after waits old new → Gave waited text waits old new
+gave : (waited : Bool) (text : List ℕ) (after : After) (waits : Bool) (old new : KnownReader) → Shows waited text after waits old new
+    → Gave waited text waits old new
 gave waited text Stay waits old new shows = record { given = shows.given; came = shows.came; shows = shows.shows }
 gave waited text Done waits old new shows = record { given = []; came = shows.left; shows = shows.shows }
 gave waited text WantsInput waits old new shows = absurd shows
 gave waited text Stop waits old new shows = absurd shows
 
-last_step : (waited : Bool) (text : List ℕ) (after : After) (waits : Bool) (old new : KnownReader) → after ≡ Done → Shows waited text after waits old new → IsAtEnd new.bytes ⊎ IsToFail old.failures
+last_step : (waited : Bool) (text : List ℕ) (after : After) (waits : Bool) (old new : KnownReader) → after ≡ Done → Shows waited text after waits old new
+    → IsAtEnd new.bytes ⊎ IsToFail old.failures
 last_step waited text Done waits old new is shows = shows.why
 last_step waited text Stay waits old new is shows = absurd (let bad = is in cc)
 last_step waited text WantsInput waits old new is shows = absurd shows
 last_step waited text Stop waits old new is shows = absurd shows
 
 -- behind the last one nothing waits
-last_waits : (waited : Bool) (text : List ℕ) (after : After) (waits : Bool) (old new : KnownReader) → after ≡ Done → Shows waited text after waits old new → waits ≡ false
+last_waits : (waited : Bool) (text : List ℕ) (after : After) (waits : Bool) (old new : KnownReader) → after ≡ Done → Shows waited text after waits old new
+    → waits ≡ false
 unfolding ends_by_return
 last_waits waited text Done waits old new is shows = shows.shows.last
 last_waits waited text Stay waits old new is shows = absurd (let bad = is in cc)
@@ -72,14 +76,16 @@ last_waits waited text WantsInput waits old new is shows = absurd shows
 last_waits waited text Stop waits old new is shows = absurd shows
 
 -- what is to fail after a step that goes on was to fail before it
-fails_before : (waited : Bool) (text : List ℕ) (after : After) (waits : Bool) (old new : KnownReader) → after ≡ Stay → Shows waited text after waits old new → IsToFail new.failures → IsToFail old.failures
+fails_before : (waited : Bool) (text : List ℕ) (after : After) (waits : Bool) (old new : KnownReader) → after ≡ Stay → Shows waited text after waits old new
+    → IsToFail new.failures → IsToFail old.failures
 fails_before waited text Stay waits old new is shows fails = still_to_fail 1 (giving shows.given) old.failures new.failures shows.read fails
 fails_before waited text Done waits old new is shows fails = absurd (let bad = is in cc)
 fails_before waited text WantsInput waits old new is shows fails = absurd shows
 fails_before waited text Stop waits old new is shows fails = absurd shows
 
 -- what a step that was given something showed is what is settled of it
-is_settled : (front given text : List ℕ) (waits : Bool) → text ++ waiting waits ≡ new_lines (front ++ given) → waits ≡ ends_by_return (front ++ given) → text ≡ settled (front ++ given)
+is_settled : (front given text : List ℕ) (waits : Bool) → text ++ waiting waits ≡ new_lines (front ++ given) → waits ≡ ends_by_return (front ++ given)
+    → text ≡ settled (front ++ given)
 is_settled front given text waits shown holds =
     append_cancel_right text (settled (front ++ given)) (waiting waits)
     (shown ∙ sym (all (front ++ given)) ∙ ap (λ (w : Bool). settled (front ++ given) ++ waiting w) (sym holds))
@@ -95,7 +101,8 @@ one_read waited [] text waits reads texts shows rest =
 one_read waited (byte ∷ bytes) text waits reads texts shows rest =
     let whole = waiting waited ++ byte ∷ bytes in
     let holds : waits ≡ ends_by_return whole = shows.last ∙ sym (ends_more (waiting waited) byte bytes) in
-    ap₂ (λ (a b : List ℕ). a ++ b) (is_settled (waiting waited) (byte ∷ bytes) text waits shows.shown holds) (rest ∙ ap (λ (w : Bool). shown_of (waiting w) reads) holds)
+    ap₂ (λ (a b : List ℕ). a ++ b) (is_settled (waiting waited) (byte ∷ bytes) text waits shows.shown holds)
+    (rest ∙ ap (λ (w : Bool). shown_of (waiting w) reads) holds)
     ∙ sym (settles whole reads)
 
 -- ONE STEP AFTER ANOTHER
@@ -117,7 +124,8 @@ nothing_came : (waited : Bool) (old : KnownReader) → Came waited old [] waited
 unfolding shown_of
 nothing_came waited old = record { reads = []; each = refl; came = consumes_none old.bytes; shown = sym (waits_alone waited) }
 
-came_more : (waited held : Bool) (old between : KnownReader) (r : Reaction) (reactions : List Reaction) (waits : Bool) (new : KnownReader) → Gave waited r.text held old between → Came held between reactions waits new
+came_more : (waited held : Bool) (old between : KnownReader) (r : Reaction) (reactions : List Reaction) (waits : Bool) (new : KnownReader)
+    → Gave waited r.text held old between → Came held between reactions waits new
     → Came waited old (r ∷ reactions) waits new
 came_more waited held old between r reactions waits new one rest = record {
   reads = one.given ∷ rest.reads;
@@ -128,54 +136,68 @@ came_more waited held old between r reactions waits new one rest = record {
       ∙ one_read waited one.given r.text held rest.reads (texts_of reactions ++ waiting waits) one.shows rest.shown;
 }
 
-shown : (waited : Bool) (old : KnownReader) (reactions : List Reaction) (waits : Bool) (new : KnownReader) → ShowOn waited old reactions waits new → Came waited old reactions waits new
+shown : (waited : Bool) (old : KnownReader) (reactions : List Reaction) (waits : Bool) (new : KnownReader) → ShowOn waited old reactions waits new
+    → Came waited old reactions waits new
 shown waited old [] waits new (holds, is) =
     subst (λ (w : Bool). Came waited old [] w new) (sym holds) (subst (λ (k : KnownReader). Came waited old [] waited k) (sym is) (nothing_came waited old))
 shown waited old (r ∷ reactions) waits new (held, between, one, rest) =
     came_more waited held old between r reactions waits new (gave waited r.text r.after held old between one) (shown held between reactions waits new rest)
 
-all_shown : (waited : Bool) (old : KnownReader) (reactions : List Reaction) (waits : Bool) (new : KnownReader) → ShowOn waited old reactions waits new → EndsAtLast reactions → IsAtEnd new.bytes ⊎ IsToFail old.failures
+all_shown : (waited : Bool) (old : KnownReader) (reactions : List Reaction) (waits : Bool) (new : KnownReader) → ShowOn waited old reactions waits new
+    → EndsAtLast reactions → IsAtEnd new.bytes ⊎ IsToFail old.failures
 all_shown waited old [] waits new is ends = absurd ends
 all_shown waited old (r ∷ []) waits new (held, between, one, rest) ends =
     let P : KnownReader → Type 0 = λ k. IsAtEnd k.bytes ⊎ IsToFail old.failures in
     subst P (sym rest.1) (last_step waited r.text r.after held old between ends one)
 all_shown waited old (r ∷ next ∷ reactions) waits new (held, between, one, rest) (goes_on, ends) =
-    ⊎_elim (λ at. inl at) (λ fails. inr (fails_before waited r.text r.after held old between goes_on one fails)) (all_shown held between (next ∷ reactions) waits new rest ends)
+    ⊎_elim (λ at. inl at) (λ fails. inr (fails_before waited r.text r.after held old between goes_on one fails))
+    (all_shown held between (next ∷ reactions) waits new rest ends)
 
-none_waits : (waited : Bool) (old : KnownReader) (reactions : List Reaction) (waits : Bool) (new : KnownReader) → ShowOn waited old reactions waits new → EndsAtLast reactions → waits ≡ false
+none_waits : (waited : Bool) (old : KnownReader) (reactions : List Reaction) (waits : Bool) (new : KnownReader) → ShowOn waited old reactions waits new
+    → EndsAtLast reactions → waits ≡ false
 none_waits waited old [] waits new is ends = absurd ends
 none_waits waited old (r ∷ []) waits new (held, between, one, rest) ends = rest.0 ∙ last_waits waited r.text r.after held old between ends one
-none_waits waited old (r ∷ next ∷ reactions) waits new (held, between, one, rest) (goes_on, ends) = none_waits held between (next ∷ reactions) waits new rest ends
+none_waits waited old (r ∷ next ∷ reactions) waits new (held, between, one, rest) (goes_on, ends) =
+    none_waits held between (next ∷ reactions) waits new rest ends
 
 -- THE STEPS OF THE JOB
 
 module _ {R W : Type 0} (remaining : R → Option (List ℕ)) (foretold : R → Option Failures) (sizes : R → Option (List WindowSize)) where
   abbrev pub Through : Showing R → List Reaction → Gateway R W → Type 0
-  Through first reactions (side.Shows last) = ShowOn first.waits (known_reader remaining foretold sizes first.reader) reactions last.waits (known_reader remaining foretold sizes last.reader)
+  Through first reactions (side.Shows last) = ShowOn first.waits (known_reader remaining foretold sizes first.reader) reactions last.waits
+      (known_reader remaining foretold sizes last.reader)
   Through first reactions (side.Sends last) = ⊥
 
-  one_more : (first mid : Showing R) (r : Reaction) (reactions : List Reaction) (last : Gateway R W) → Shows first.waits r.text r.after mid.waits (known_reader remaining foretold sizes first.reader) (known_reader remaining foretold sizes mid.reader) → Through mid reactions last → Through first (r ∷ reactions) last
+  one_more : (first mid : Showing R) (r : Reaction) (reactions : List Reaction) (last : Gateway R W)
+      → Shows first.waits r.text r.after mid.waits (known_reader remaining foretold sizes first.reader) (known_reader remaining foretold sizes mid.reader)
+      → Through mid reactions last → Through first (r ∷ reactions) last
   one_more first mid r reactions (side.Shows last) one rest = (mid.waits, known_reader remaining foretold sizes mid.reader, one, rest)
   one_more first mid r reactions (side.Sends last) one rest = absurd rest
 
-  through : (first : Showing R) (reactions : List Reaction) (last : Gateway R W) → FoldsTo (Steps {W = W} remaining foretold sizes) (side.Shows first) reactions last → Through first reactions last
+  through : (first : Showing R) (reactions : List Reaction) (last : Gateway R W)
+      → FoldsTo (Steps {W = W} remaining foretold sizes) (side.Shows first) reactions last → Through first reactions last
   through first [] last is = let P : Gateway R W → Type 0 = λ g. Through first [] g in subst P is (refl, refl)
   through first (r ∷ reactions) last (side.Shows mid, one, rest) =
       one_more first mid r reactions last one (through mid reactions last rest)
   through first (r ∷ reactions) last (side.Sends mid, one, rest) = absurd one
 
-  talk : (first : Showing R) (reactions : List Reaction) (last : Gateway R W) → Through first reactions last → ShowsTalk {W = W} remaining foretold sizes first reactions last
+  talk : (first : Showing R) (reactions : List Reaction) (last : Gateway R W) → Through first reactions last
+      → ShowsTalk {W = W} remaining foretold sizes first reactions last
   talk first reactions (side.Shows last) steps =
-      let came = shown first.waits (known_reader remaining foretold sizes first.reader) reactions last.waits (known_reader remaining foretold sizes last.reader) steps in
+      let came = shown first.waits (known_reader remaining foretold sizes first.reader) reactions last.waits
+      (known_reader remaining foretold sizes last.reader) steps in
       record {
         reads = came.reads;
         each = came.each;
         came = came.came;
         shown = came.shown;
-        none_waits = none_waits first.waits (known_reader remaining foretold sizes first.reader) reactions last.waits (known_reader remaining foretold sizes last.reader) steps;
-        all = all_shown first.waits (known_reader remaining foretold sizes first.reader) reactions last.waits (known_reader remaining foretold sizes last.reader) steps;
+        none_waits = none_waits first.waits (known_reader remaining foretold sizes first.reader) reactions last.waits
+            (known_reader remaining foretold sizes last.reader) steps;
+        all = all_shown first.waits (known_reader remaining foretold sizes first.reader) reactions last.waits
+            (known_reader remaining foretold sizes last.reader) steps;
       }
   talk first reactions (side.Sends last) steps = absurd steps
 
-  pub in_order : (first : Showing R) (reactions : List Reaction) (last : Gateway R W) → FoldsTo (Steps {W = W} remaining foretold sizes) (side.Shows first) reactions last → ShowsTalk {W = W} remaining foretold sizes first reactions last
+  pub in_order : (first : Showing R) (reactions : List Reaction) (last : Gateway R W)
+      → FoldsTo (Steps {W = W} remaining foretold sizes) (side.Shows first) reactions last → ShowsTalk {W = W} remaining foretold sizes first reactions last
   in_order first reactions last steps = talk first reactions last (through first reactions last steps)

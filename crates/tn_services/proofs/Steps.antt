@@ -1,5 +1,6 @@
 -- What one step of the job in the background shows.
-use Rattle.std.proofs.Common.{◌≡◌, ◌≢◌, ◌⊎◌, inr, ℕ, ◌<◌, ◌≤◌, Bool, false, List, [], ◌∷◌, ◌++◌, Option, Some, None, Result, Ok, Err, length, take, refl, sym, ap, ap₂, ◌∙◌, subst, append-nil, arith, length-take-le}
+use Rattle.std.proofs.Common.{◌≡◌, ◌≢◌, ◌⊎◌, inr, ℕ, ◌<◌, ◌≤◌, Bool, false, List, [], ◌∷◌, ◌++◌, Option, Some, None, Result, Ok, Err, length, take, refl, sym}
+use Rattle.std.proofs.Common.{ap, ap₂, ◌∙◌, subst, append-nil, arith, length-take-le}
 use Rattle.std.specs.Io.KnownBytes.{Consumes, IsAtEnd, Keeps, ReadConsumes}
 use Rattle.std.specs.IoError.{error_kind}
 use Rattle.std.specs.declared.io.Error.{Error}
@@ -28,7 +29,8 @@ ends_behind front [] some = absurd (omega (arith, some))
 ends_behind front (byte ∷ bytes) some = ends_more front byte bytes
 
 -- what was given is shown behind what waited
-given_shows : (waited : Bool) (given text : List ℕ) (waits : Bool) → 0 < length given → text ≡ settled (waiting waited ++ given) → waits ≡ ends_by_return (waiting waited ++ given)
+given_shows : (waited : Bool) (given text : List ℕ) (waits : Bool) → 0 < length given → text ≡ settled (waiting waited ++ given)
+    → waits ≡ ends_by_return (waiting waited ++ given)
     → ShowsGiven waited given text waits
 given_shows waited given text waits some is holds = record {
   shown = ap₂ (λ (t : List ℕ) (w : Bool). t ++ waiting w) is holds ∙ all (waiting waited ++ given);
@@ -40,12 +42,14 @@ none_shows : (waited : Bool) (text : List ℕ) (waits : Bool) → text ≡ waiti
 unfolding ends_by_return
 none_shows waited text waits is holds = record {
   shown =
-      ap₂ (λ (t : List ℕ) (w : Bool). t ++ waiting w) is holds ∙ append-nil (waiting waited) ∙ sym (waits_alone waited) ∙ ap new_lines (sym (append-nil (waiting waited)));
+      ap₂ (λ (t : List ℕ) (w : Bool). t ++ waiting w) is holds ∙ append-nil (waiting waited) ∙ sym (waits_alone waited)
+      ∙ ap new_lines (sym (append-nil (waiting waited)));
   last = holds;
 }
 
 -- a read that gave nothing is at the end
-pub ends : (old new : Option (List ℕ)) (r : Result ℕ Error) (n : ℕ) (buf : List ℕ) → r ≡ Ok n → n ≡ 0 → 0 < length buf → ReadConsumes old new r buf → Consumes old new [] × IsAtEnd new
+pub ends : (old new : Option (List ℕ)) (r : Result ℕ Error) (n : ℕ) (buf : List ℕ) → r ≡ Ok n → n ≡ 0 → 0 < length buf → ReadConsumes old new r buf
+    → Consumes old new [] × IsAtEnd new
 ends old new r n buf is none some read =
     let zero : r ≡ Ok 0 = is ∙ ap (λ (k : ℕ). Ok k) none in
     let P : Result ℕ Error → Type 0 = λ x. ReadConsumes old new x buf in
@@ -53,7 +57,8 @@ ends old new r n buf is none some read =
     (at.0, at.1 refl some)
 
 module _ (waited : Bool) (text : List ℕ) (after : After) (waits : Bool) (old new : KnownReader) where
-  pub shows_bytes : (buf : List ℕ) (n : ℕ) → text ≡ settled (waiting waited ++ take n buf) → after ≡ Stay → waits ≡ ends_by_return (waiting waited ++ take n buf) → n ≢ 0 → n ≤ length buf → length buf ≤ 1024
+  pub shows_bytes : (buf : List ℕ) (n : ℕ) → text ≡ settled (waiting waited ++ take n buf) → after ≡ Stay
+      → waits ≡ ends_by_return (waiting waited ++ take n buf) → n ≢ 0 → n ≤ length buf → length buf ≤ 1024
       → Consumes old.bytes new.bytes (take n buf) → ForetellsCall (Ok n) old.failures new.failures → Shows waited text after waits old new
   shows_bytes buf n is stays holds some within few consumes call =
       let long : length (take n buf) ≡ n = length-take-le n buf within in
@@ -67,7 +72,8 @@ module _ (waited : Bool) (text : List ℕ) (after : After) (waits : Bool) (old n
         shows = given_shows waited (take n buf) text waits (omega (arith, long, some)) is holds;
       })
 
-  pub shows_again : (e : Error) → text ≡ waiting waited → after ≡ Stay → waits ≡ false → Keeps old.bytes new.bytes → error_kind e ≡ Interrupted → ForetellsCall (Err e) old.failures new.failures
+  pub shows_again : (e : Error) → text ≡ waiting waited → after ≡ Stay → waits ≡ false → Keeps old.bytes new.bytes → error_kind e ≡ Interrupted
+      → ForetellsCall (Err e) old.failures new.failures
       → Shows waited text after waits old new
   shows_again e is stays holds keeps kind call =
       subst (λ (a : After). Shows waited text a waits old new) (sym stays) (record {
@@ -87,7 +93,8 @@ module _ (waited : Bool) (text : List ℕ) (after : After) (waits : Bool) (old n
         why = why;
       })
 
-  pub shows_failed : (e : Error) → text ≡ waiting waited → after ≡ Done → waits ≡ false → Keeps old.bytes new.bytes → error_kind e ≢ Interrupted → ForetellsCall (Err e) old.failures new.failures
+  pub shows_failed : (e : Error) → text ≡ waiting waited → after ≡ Done → waits ≡ false → Keeps old.bytes new.bytes → error_kind e ≢ Interrupted
+      → ForetellsCall (Err e) old.failures new.failures
       → Shows waited text after waits old new
   shows_failed e is ends holds keeps kind call =
       shows_no_more is ends holds (kept_consumes old.bytes new.bytes keeps) (inr (failed e old.failures new.failures kind call))

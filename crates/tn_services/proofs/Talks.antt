@@ -48,7 +48,8 @@ nothing_more a b c one two = record {
 }
 
 -- where the way is not open
-goes_nowhere : (lines : Lines) (old : Way) (entry : Entry) (a b : KnownWriter) (way : Way) → old ≢ Open → Goes lines old entry (between a b) way → WritesNothing (between a b) × (way ≡ old)
+goes_nowhere : (lines : Lines) (old : Way) (entry : Entry) (a b : KnownWriter) (way : Way) → old ≢ Open → Goes lines old entry (between a b) way
+    → WritesNothing (between a b) × (way ≡ old)
 goes_nowhere lines Open entry a b way shut goes = absurd (shut refl)
 goes_nowhere lines Ended (Text line) a b way shut goes = goes
 goes_nowhere lines Ended Eof a b way shut goes = goes
@@ -61,7 +62,8 @@ goes_nowhere lines Broken (Signal Int) a b way shut goes = goes
 goes_nowhere lines Broken (Signal Quit) a b way shut goes = goes
 goes_nowhere lines Broken (Signal Tstp) a b way shut goes = goes
 
-stays_shut : (lines : Lines) (old : Way) (before : KnownWriter) (entries : List Entry) (new : Way) (after : KnownWriter) → old ≢ Open → GoThrough lines old before entries new after → WritesNothing (between before after) × (new ≡ old)
+stays_shut : (lines : Lines) (old : Way) (before : KnownWriter) (entries : List Entry) (new : Way) (after : KnownWriter) → old ≢ Open
+    → GoThrough lines old before entries new after → WritesNothing (between before after) × (new ≡ old)
 stays_shut lines old before [] new after shut (way_is, writer_is) =
     let P : KnownWriter → Type 0 = λ w. WritesNothing (between before w) in
     (subst P (sym writer_is) (record { bytes = keeps_same before.bytes; calls = refl }), way_is)
@@ -82,13 +84,15 @@ broken_shut is = let bad = is in cc
 abbrev pub Sent : List ℕ → KnownWriter → KnownWriter → Way → Type 0
 Sent bytes before after way = SendsAll bytes (between before after) way
 
-sent_as : (bytes : List ℕ) (before after : KnownWriter) (way new : Way) → new ≡ way → Writes (goes_well way) before.bytes after.bytes bytes → Tells (goes_well way) before.calls after.calls → Sent bytes before after new
+sent_as : (bytes : List ℕ) (before after : KnownWriter) (way new : Way) → new ≡ way → Writes (goes_well way) before.bytes after.bytes bytes
+    → Tells (goes_well way) before.calls after.calls → Sent bytes before after new
 sent_as bytes before after way new is wrote tells =
     let P : Way → Type 0 = λ w. Sent bytes before after w in
     subst P (sym is) (record { wrote = wrote; tells = tells })
 
 -- the end of file, an interrupt or a quit
-ends : (lines : Lines) (before writer : KnownWriter) (entries : List Entry) (way new : Way) (after : KnownWriter) → WritesNothing (between before writer) → way ≡ Ended → GoThrough lines way writer entries new after → Sent [] before after new
+ends : (lines : Lines) (before writer : KnownWriter) (entries : List Entry) (way new : Way) (after : KnownWriter) → WritesNothing (between before writer)
+    → way ≡ Ended → GoThrough lines way writer entries new after → Sent [] before after new
 ends lines before writer entries way new after nothing is rest =
     let Q : Way → Type 0 = λ w. GoThrough lines w writer entries new after in
     let later = stays_shut lines Ended writer entries new after ended_shut (subst Q is rest) in
@@ -96,7 +100,9 @@ ends lines before writer entries way new after nothing is rest =
     sent_as [] before after Ended new later.1 both.0 both.1
 
 -- a line, of which the first bytes went
-breaks : (lines : Lines) (line more : List ℕ) (before writer : KnownWriter) (entries : List Entry) (way new : Way) (after : KnownWriter) → Writes false before.bytes writer.bytes line → Tells false before.calls writer.calls → way ≡ Broken → GoThrough lines way writer entries new after → Sent (line ++ more) before after new
+breaks : (lines : Lines) (line more : List ℕ) (before writer : KnownWriter) (entries : List Entry) (way new : Way) (after : KnownWriter)
+    → Writes false before.bytes writer.bytes line → Tells false before.calls writer.calls → way ≡ Broken → GoThrough lines way writer entries new after
+    → Sent (line ++ more) before after new
 breaks lines line more before writer entries way new after wrote tells is rest =
     let Q : Way → Type 0 = λ w. GoThrough lines w writer entries new after in
     let later = stays_shut lines Broken writer entries new after broken_shut (subst Q is rest) in
@@ -106,14 +112,17 @@ breaks lines line more before writer entries way new after wrote tells is rest =
     (subst P (sym later.0.calls) tells)
 
 -- a line that went, and then the rest
-goes_on : (line more : List ℕ) (before writer after : KnownWriter) (new : Way) → Appends before.bytes writer.bytes line → Tells true before.calls writer.calls → Sent more writer after new → Sent (line ++ more) before after new
+goes_on : (line more : List ℕ) (before writer after : KnownWriter) (new : Way) → Appends before.bytes writer.bytes line → Tells true before.calls writer.calls
+    → Sent more writer after new → Sent (line ++ more) before after new
 goes_on line more before writer after new wrote tells rest = record {
   wrote = writes_more (goes_well new) before.bytes writer.bytes after.bytes line more wrote rest.wrote;
   tells = tells_more (goes_well new) before.calls writer.calls after.calls tells rest.tells;
 }
 
 -- a line, and then what is due of the other entries
-line_due : (lines : Lines) (line more : List ℕ) (before writer : KnownWriter) (entries : List Entry) (way new : Way) (after : KnownWriter) (whole : Bool) → Writes whole before.bytes writer.bytes line → Tells whole before.calls writer.calls → way ≡ way_after whole → GoThrough lines way writer entries new after → (GoThrough lines Open writer entries new after → Sent more writer after new) → Sent (line ++ more) before after new
+line_due : (lines : Lines) (line more : List ℕ) (before writer : KnownWriter) (entries : List Entry) (way new : Way) (after : KnownWriter) (whole : Bool)
+    → Writes whole before.bytes writer.bytes line → Tells whole before.calls writer.calls → way ≡ way_after whole → GoThrough lines way writer entries new after
+    → (GoThrough lines Open writer entries new after → Sent more writer after new) → Sent (line ++ more) before after new
 line_due lines line more before writer entries way new after true wrote tells is rest others =
     let Q : Way → Type 0 = λ w. GoThrough lines w writer entries new after in
     goes_on line more before writer after new wrote tells (others (subst Q is rest))
@@ -121,19 +130,23 @@ line_due lines line more before writer entries way new after false wrote tells i
     breaks lines line more before writer entries way new after wrote tells is rest
 
 -- a line that ends the session, or goes
-open_line : (lines : Lines) (ending : Bool) (line more : List ℕ) (before writer : KnownWriter) (entries : List Entry) (way new : Way) (after : KnownWriter) → GoesLine ending line (between before writer) way → GoThrough lines way writer entries new after → (GoThrough lines Open writer entries new after → Sent more writer after new) → Sent (due_from ending line more) before after new
+open_line : (lines : Lines) (ending : Bool) (line more : List ℕ) (before writer : KnownWriter) (entries : List Entry) (way new : Way) (after : KnownWriter)
+    → GoesLine ending line (between before writer) way → GoThrough lines way writer entries new after
+    → (GoThrough lines Open writer entries new after → Sent more writer after new) → Sent (due_from ending line more) before after new
 open_line lines true line more before writer entries way new after (nothing, is) rest others =
     ends lines before writer entries way new after nothing is rest
 open_line lines false line more before writer entries way new after goes rest others =
     line_due lines line more before writer entries way new after goes.whole goes.wrote goes.tells goes.leaves rest others
 
-pub all_due : (lines : Lines) (before : KnownWriter) (entries : List Entry) (new : Way) (after : KnownWriter) → GoThrough lines Open before entries new after → Sent (due lines entries) before after new
+pub all_due : (lines : Lines) (before : KnownWriter) (entries : List Entry) (new : Way) (after : KnownWriter) → GoThrough lines Open before entries new after
+    → Sent (due lines entries) before after new
 all_due lines before [] new after (way_is, writer_is) =
     let P : KnownWriter → Type 0 = λ w. WritesNothing (between before w) in
     let both = kept before after (subst P (sym writer_is) (record { bytes = keeps_same before.bytes; calls = refl })) in
     sent_as [] before after Open new way_is both.0 both.1
 all_due lines before (Text line ∷ entries) new after (way, writer, goes, rest) =
-    open_line lines (is_ending lines line) (line_said lines.line_end line) (due lines entries) before writer entries way new after goes rest (all_due lines writer entries new after)
+    open_line lines (is_ending lines line) (line_said lines.line_end line) (due lines entries) before writer entries way new after goes rest
+    (all_due lines writer entries new after)
 all_due lines before (Eof ∷ entries) new after (way, writer, goes, rest) =
     ends lines before writer entries way new after goes.0 goes.1 rest
 all_due lines before (Signal Int ∷ entries) new after (way, writer, goes, rest) =
@@ -154,25 +167,30 @@ module _ {R W : Type 0} (contents : W → Option (List ℕ)) (told : W → Optio
       GoThrough first.lines first.way (known_writer contents told first.writer) entries last.way (known_writer contents told last.writer)
   Through first entries (side.Shows last) = ⊥
 
-  one_more : (first mid : Sending W) (entry : Entry) (entries : List Entry) (last : Gateway R W) → Goes first.lines first.way entry (known_writing contents told first.writer mid.writer) mid.way → mid.lines ≡ first.lines → Through mid entries last → Through first (entry ∷ entries) last
+  one_more : (first mid : Sending W) (entry : Entry) (entries : List Entry) (last : Gateway R W)
+      → Goes first.lines first.way entry (known_writing contents told first.writer mid.writer) mid.way → mid.lines ≡ first.lines → Through mid entries last
+      → Through first (entry ∷ entries) last
   one_more first mid entry entries (side.Sends last) goes same rest =
       let P : Lines → Type 0 = λ e. GoThrough e mid.way (known_writer contents told mid.writer) entries last.way (known_writer contents told last.writer) in
       (mid.way, known_writer contents told mid.writer, goes, subst P same rest)
   one_more first mid entry entries (side.Shows last) goes same rest = absurd rest
 
-  through : (first : Sending W) (turns : List (Entry × Reaction)) (last : Gateway R W) → Answers (Reacts {R = R} contents told) (side.Sends first) turns last → Through first (map (λ turn. turn.0) turns) last
+  through : (first : Sending W) (turns : List (Entry × Reaction)) (last : Gateway R W) → Answers (Reacts {R = R} contents told) (side.Sends first) turns last
+      → Through first (map (λ turn. turn.0) turns) last
   through first [] last is =
       let P : Gateway R W → Type 0 = λ g. Through first [] g in subst P is (refl, refl)
   through first (turn ∷ turns) last (side.Sends mid, one, rest) =
       one_more first mid turn.0 (map (λ turn. turn.0) turns) last one.goes one.lines (through mid turns last rest)
   through first (turn ∷ turns) last (side.Shows mid, one, rest) = absurd one
 
-  talk : (first : Sending W) (entries : List Entry) (last : Gateway R W) → first.way ≡ Open → Through first entries last → SendsTalk {R = R} contents told first entries last
+  talk : (first : Sending W) (entries : List Entry) (last : Gateway R W) → first.way ≡ Open → Through first entries last
+      → SendsTalk {R = R} contents told first entries last
   talk first entries (side.Sends last) way_is all =
       let P : Way → Type 0 = λ w. GoThrough first.lines w (known_writer contents told first.writer) entries last.way (known_writer contents told last.writer) in
       all_due first.lines (known_writer contents told first.writer) entries last.way (known_writer contents told last.writer) (subst P way_is all)
   talk first entries (side.Shows last) way_is all = absurd all
 
-  pub in_order : (first : Sending W) (turns : List (Entry × Reaction)) (last : Gateway R W) → first.way ≡ Open → Answers (Reacts {R = R} contents told) (side.Sends first) turns last → SendsTalk {R = R} contents told first (map (λ turn. turn.0) turns) last
+  pub in_order : (first : Sending W) (turns : List (Entry × Reaction)) (last : Gateway R W) → first.way ≡ Open
+      → Answers (Reacts {R = R} contents told) (side.Sends first) turns last → SendsTalk {R = R} contents told first (map (λ turn. turn.0) turns) last
   in_order first turns last way_is answers =
       talk first (map (λ turn. turn.0) turns) last way_is (through first turns last answers)

@@ -33,10 +33,12 @@ steps_tick : (job after : Answerer) (reactions : List Reaction) → AreSteps job
 steps_tick job after [] is = ap (λ (j : Answerer). j.left) is
 steps_tick job after (reaction ∷ reactions) made = (made.0.left, made.1.0, steps_tick made.0 after reactions made.2)
 
-pub fresh_counted : (job after : Answerer) (reactions : List Reaction) → IsFresh job → AreSteps job reactions after → length reactions ≤ job.ticks → reactions ++ ticks after.left ≡ ticks job.ticks
+pub fresh_counted : (job after : Answerer) (reactions : List Reaction) → IsFresh job → AreSteps job reactions after → length reactions ≤ job.ticks
+    → reactions ++ ticks after.left ≡ ticks job.ticks
 fresh_counted job after reactions fresh made few =
     counted job.left after.left reactions (steps_tick job after reactions made) (omega (arith, few, fresh)) ∙ ap ticks fresh
 
-pub fresh_all : (job after : Answerer) (reactions : List Reaction) → IsFresh job → AreSteps job reactions after → length reactions ≡ job.ticks → reactions ≡ ticks job.ticks
+pub fresh_all : (job after : Answerer) (reactions : List Reaction) → IsFresh job → AreSteps job reactions after → length reactions ≡ job.ticks
+    → reactions ≡ ticks job.ticks
 fresh_all job after reactions fresh made whole =
     all_made job.left after.left reactions (steps_tick job after reactions made) (omega (arith, whole, fresh)) ∙ ap ticks fresh

@@ -1,5 +1,6 @@
 -- What was written, and what of it a writer tells.
-use Rattle.std.proofs.Common.{◌≡◌, ℕ, ◌≤◌, nat_le, Bool, true, false, List, [], ◌∷◌, ◌++◌, Option, Some, None, Result, Ok, zero, suc, refl, sym, ap, ◌∙◌, subst, append_assoc, append-nil, take-append-drop, arith, length, take, drop}
+use Rattle.std.proofs.Common.{◌≡◌, ℕ, ◌≤◌, nat_le, Bool, true, false, List, [], ◌∷◌, ◌++◌, Option, Some, None, Result, Ok, zero, suc, refl, sym, ap, ◌∙◌, subst}
+use Rattle.std.proofs.Common.{append_assoc, append-nil, take-append-drop, arith, length, take, drop}
 use Rattle.std.specs.Io.KnownBytes.{Appends, Keeps, WriteAppends}
 use Rattle.tn_session.specs.Turns.{Writes, Tells, max_writes}
 use Rattle.tn_streams.proofs.lemmas.Telling.{accounts_both}
@@ -46,7 +47,8 @@ stops_at a b n bytes h = (take n bytes, drop n bytes, sym (take-append-drop n by
 pub writes_all : (a b : Option (List ℕ)) (n : ℕ) (bytes : List ℕ) → length bytes ≤ n → Appends a b (take n bytes) → Writes true a b bytes
 writes_all a b n bytes all h = rw (take_all n bytes all) at h
 
-pub stops_now : (a b c : Option (List ℕ)) (n k : ℕ) (bytes rest : List ℕ) → k ≡ 0 → Appends a b (take n bytes) → Appends b c (take k rest) → Writes false a c bytes
+pub stops_now : (a b c : Option (List ℕ)) (n k : ℕ) (bytes rest : List ℕ) → k ≡ 0 → Appends a b (take n bytes) → Appends b c (take k rest)
+    → Writes false a c bytes
 stops_now a b c n k bytes rest e one two =
     let P : ℕ → Type 0 = λ m. Appends b c (take m rest) in
     let Q : List ℕ → Type 0 = λ zs. Appends a c zs in
@@ -56,7 +58,8 @@ pub writes_so_many : (b : Bool) (x y : Option (List ℕ)) (n : ℕ) (bytes : Lis
 writes_so_many true x y n bytes e h = let all : length bytes ≤ n = grind arith in writes_all x y n bytes all h
 writes_so_many false x y n bytes e h = stops_at x y n bytes h
 
-pub ok_writes : {E : Type 0} (old new : Option (List ℕ)) (r : Result ℕ E) (n : ℕ) (buf : List ℕ) → r ≡ Ok n → WriteAppends old new r buf → Appends old new (take n buf)
+pub ok_writes : {E : Type 0} (old new : Option (List ℕ)) (r : Result ℕ E) (n : ℕ) (buf : List ℕ) → r ≡ Ok n → WriteAppends old new r buf
+    → Appends old new (take n buf)
 ok_writes {E} old new r n buf e h = let P : Result ℕ E → Type 0 = λ u. WriteAppends old new u buf in subst P e h
 
 -- ONE LINE AFTER ANOTHER

@@ -1,5 +1,6 @@
 -- What the job of a served session answers, and what the one in the background writes.
-use Rattle.std.specs.Prelude.{◌≡◌, ◌-◌, ℕ, nat_le, zero, suc, true, Option, Some, List, [], ◌∷◌, codes, if◌then◌else◌}
+use Rattle.std.specs.Prelude.{◌≡◌, ◌-◌, ℕ, nat_le, zero, suc, true, Option, Some, List, [], ◌∷◌, codes}
+use Rattle.std.specs.Prelude.{if◌then◌else◌}
 use Rattle.std.specs.Str.{bytes_eq}
 use Rattle.tn_discipline.specs.declared.reads.Sig.TheVariants.{Int, Quit, Tstp}
 use Rattle.tn_discipline.specs.declared.reads.Entry.{Entry}

@@ -1,8 +1,10 @@
 -- Which lines may have been cut at the terminal's limit, and what comes of them.
-use Rattle.std.specs.Prelude.{ℕ, ◌+◌, ◌-◌, ◌==◌, ◌&&◌, nat_le, Bool, Option, Some, None, List, length, slice_get, if◌then◌else◌}
+use Rattle.std.specs.Prelude.{ℕ, ◌+◌, ◌-◌, ◌==◌, ◌&&◌, nat_le, Bool, Option, Some, None, List, length}
+use Rattle.std.specs.Prelude.{slice_get, if◌then◌else◌}
 use Rattle.tn_services.specs.declared.cutting.Lines.{Lines}
 
--- how many bytes a line that ends by this one has less than with a line feed: an end of file closes it with none
+-- how many bytes a line that ends by this one has less than with a line feed: an end of file closes it with
+-- none
 abbrev pub missing : Option ℕ → ℕ
 missing None = 1
 missing (Some byte) = if byte == 10 then 0 else 1

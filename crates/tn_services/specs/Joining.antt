@@ -57,8 +57,8 @@ Reacts contents told (side.Sends old) entry reaction (side.Shows new) = ⊥
 Reacts contents told (side.Shows old) entry reaction new =
     (reaction ≡ silent Stay) × (new ≡ side.Shows old)
 
--- memory may run out for a line, on its way to the service or as the word that none is sent any more; and for what is
--- shown, at a step
+-- memory may run out for a line, on its way to the service or as the word that none is sent any more; and for
+-- what is shown, at a step
 abbrev pub MayRefuse : {R W : Type 0} → Gateway R W → Option Entry → Type 0
 MayRefuse (side.Sends sending) (Some entry) = WantsMemory sending entry
 MayRefuse (side.Sends sending) None = ⊥

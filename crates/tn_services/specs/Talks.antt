@@ -29,8 +29,8 @@ abbrev pub due_from : Bool → List ℕ → List ℕ → List ℕ
 due_from true bytes more = []
 due_from false bytes more = bytes ++ more
 
--- what is due to the service: each line once, in order, up to the end of file, an interrupt or a quit, or to a line that
--- ends the session
+-- what is due to the service: each line once, in order, up to the end of file, an interrupt or a quit, or to
+-- a line that ends the session
 abbrev pub due : Lines → List Entry → List ℕ
 due lines [] = []
 due lines (Text line ∷ entries) =

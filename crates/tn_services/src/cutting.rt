@@ -42,7 +42,8 @@ impl Lines {
     }
 }
 
-// How many bytes a line has less than its keys would give with a line feed: an end of file closes it with none.
+// How many bytes a line has less than its keys would give with a line feed: an end of file closes it with
+// none.
 fn missing(last: Option<&u8>) -> usize
     ensures { result ≡ missing (option_copied last.entry) }
 {

@@ -71,8 +71,8 @@ pub struct Joiner<H, N> {
 }
 
 impl<H, N> Joiner<H, N> {
-    /// Jobs that are joined to the service at this host and port, hang up by this hook where it ends, and tell
-    /// `notes` of lines that may have been cut.
+    /// Jobs that are joined to the service at this host and port, hang up by this hook where it ends, and
+    /// tell `notes` of lines that may have been cut.
     pub fn new(rt: H, host: String, port: u16, lines: Lines, hook: Hook, notes: N) -> Joiner<H, N>
         ensures rt { result.rt ≡ rt }
         ensures host { result.host ≡ host }
@@ -343,14 +343,14 @@ impl<H, S, N: HearsCut> HearsCut for Told<H, S, N> {
     }
 }
 
-// Whether the service has taken nothing for longer than it may: then the session ends. What its user may have left can't
-// be seen where what he sent before fills the connection.
+// Whether the service has taken nothing for longer than it may: then the session ends. What its user may have
+// left can't be seen where what he sent before fills the connection.
 fn is_late(looks: u32, patience: usize) -> bool {
     patience > 0 && (looks / LOOKS_A_SECOND) as usize >= patience
 }
 
-// Whether the service is to be told no more than it takes: nothing more comes from the user than came by now, or the
-// service has said all, which ends the session.
+// Whether the service is to be told no more than it takes: nothing more comes from the user than came by now,
+// or the service has said all, which ends the session.
 fn is_to_end(hook: &Hook, said_all: &AtomicBool) -> bool {
     hook.is_over() || hook.has_client_ended() || said_all.load(Ordering::SeqCst)
 }

@@ -1,7 +1,7 @@
-//! The jobs that `tn serve` gives each session. An answerer answers the lines, the ends of file and the signals that its
-//! user makes, and another ticks in the background. A gateway joins the session to a line service: its job in the
-//! foreground sends the service each line that the user enters, and the one in the background shows the user what the
-//! service says.
+//! The jobs that `tn serve` gives each session. An answerer answers the lines, the ends of file and the
+//! signals that its user makes, and another ticks in the background. A gateway joins the session to a line
+//! service: its job in the foreground sends the service each line that the user enters, and the one in the
+//! background shows the user what the service says.
 //!
 //! ```
 //! let reaction = Answerer::new(0).entry(alloc, Entry::Eof)?;
@@ -9,9 +9,9 @@
 //! let jobs = Joiner::new(rt, host, port, lines, hook, notes); // of a connection made for the first job
 //! ```
 //!
-//! They know of no terminal: a session hands them what was typed. A gateway waits for nobody but its reader and its
-//! writer. A session ends its jobs; the end of the service ends the job in the background alone, so that whoever owns
-//! the session's connection hangs up, as a `Joiner` does by its hook.
+//! They know of no terminal: a session hands them what was typed. A gateway waits for nobody but its reader
+//! and its writer. A session ends its jobs; the end of the service ends the job in the background alone, so
+//! that whoever owns the session's connection hangs up, as a `Joiner` does by its hook.
 #![tactic(auto)]
 
 pub use answerers::Answerers;

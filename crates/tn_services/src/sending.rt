@@ -1,7 +1,8 @@
 //! The job in the foreground: each line that the user enters goes to the service.
 
 ghost use Rattle.std.specs.Prelude.{◌≡◌, IfErr, IfOk, OnOk};
-ghost use Rattle.tn_services.specs.Sending.{SendsEntry, WantsMemory, WritesBytes, WritesNothing, ended, say, silent, way_after};
+ghost use Rattle.tn_services.specs.Sending.{SendsEntry, WantsMemory, WritesBytes, WritesNothing, ended, say};
+ghost use Rattle.tn_services.specs.Sending.{silent, way_after};
 ghost use Rattle.tn_lines.specs.LineEnds.{line_said};
 ghost use Rattle.tn_streams.specs.Known.{known_writing};
 
@@ -32,9 +33,9 @@ pub struct Sending<W> {
 }
 
 impl<W: Finish + HearsCut> Sending<W> {
-    /// Answers an entry: a line goes to the service, or ends the session where it may have been cut and that is
-    /// wanted, the end of file ends what goes there, an interrupt and a
-    /// quit end the session too, and a stop does nothing. Out of memory nothing is sent.
+    /// Answers an entry: a line goes to the service, or ends the session where it may have been cut and that
+    /// is wanted, the end of file ends what goes there, an interrupt and a quit end the session too, and a
+    /// stop does nothing. Out of memory nothing is sent.
     pub(crate) fn answer(&mut self, alloc: Global, entry: Entry) -> Result<Reaction, AllocError>
         ensures answers { IfOk result (λ reaction.
             SendsEntry W.contents W.told self.old entry reaction self.new) }

@@ -47,7 +47,8 @@ net_bytes (Resized size) = refl
 net_bytes (Asked control) = refl
 
 -- the keys are what Keys sent
-keys_more : (s : Sender) (m : Message) (xs : List Mail) → brought origin.Keys (all_told xs) ≡ bytes_sent (from Keys xs) → brought origin.Keys (all_told (mail s m ∷ xs)) ≡ bytes_sent (from Keys (mail s m ∷ xs))
+keys_more : (s : Sender) (m : Message) (xs : List Mail) → brought origin.Keys (all_told xs) ≡ bytes_sent (from Keys xs)
+    → brought origin.Keys (all_told (mail s m ∷ xs)) ≡ bytes_sent (from Keys (mail s m ∷ xs))
 keys_more Keys m xs ih = λ i. keys_bytes m i ++ ih i
 keys_more Net m xs ih = ih
 keys_more Desk m xs ih = ih
@@ -61,7 +62,8 @@ keys_all (x ∷ xs) = keys_more x.from x.message xs (keys_all xs)
 some_mail : (x : Mail) (xs : List Mail) → x ∷ xs ≡ [] → ⊥
 some_mail x xs e = cc
 
-net_more : (s : Sender) (m : Message) (xs : List Mail) → from Desk (mail s m ∷ xs) ≡ [] → from Back (mail s m ∷ xs) ≡ [] → brought origin.Net (all_told xs) ≡ bytes_sent (from Net xs) → brought origin.Net (all_told (mail s m ∷ xs)) ≡ bytes_sent (from Net (mail s m ∷ xs))
+net_more : (s : Sender) (m : Message) (xs : List Mail) → from Desk (mail s m ∷ xs) ≡ [] → from Back (mail s m ∷ xs) ≡ []
+    → brought origin.Net (all_told xs) ≡ bytes_sent (from Net xs) → brought origin.Net (all_told (mail s m ∷ xs)) ≡ bytes_sent (from Net (mail s m ∷ xs))
 net_more Net m xs desk back ih = λ i. net_bytes m i ++ ih i
 net_more Keys m xs desk back ih = ih
 net_more Desk m xs desk back ih = absurd (some_mail (mail Desk m) (from Desk xs) desk)
@@ -85,9 +87,11 @@ net_all [] desk back = refl
 net_all (x ∷ xs) desk back = net_more x.from x.message xs desk back (net_all xs (none_later Desk x xs desk) (none_later Back x xs back))
 
 -- a reader's thread sends its pieces, and nothing else that brings bytes
-told_bytes : (s : Sender) (told : List Telling) (close : List Message) → bytes_sent (map (mail s) (told_messages told ++ close)) ≡ concat (pieces_in told) ++ bytes_sent (map (mail s) close)
+told_bytes : (s : Sender) (told : List Telling) (close : List Message)
+    → bytes_sent (map (mail s) (told_messages told ++ close)) ≡ concat (pieces_in told) ++ bytes_sent (map (mail s) close)
 told_bytes s [] close = refl
-told_bytes s (piece_told p ∷ told) close = ap (λ (bs : List ℕ). p ++ bs) (told_bytes s told close) ∙ sym (append_assoc p (concat (pieces_in told)) (bytes_sent (map (mail s) close)))
+told_bytes s (piece_told p ∷ told) close = ap (λ (bs : List ℕ). p ++ bs) (told_bytes s told close)
+    ∙ sym (append_assoc p (concat (pieces_in told)) (bytes_sent (map (mail s) close)))
 told_bytes s (size_told z ∷ told) close = told_bytes s told close
 told_bytes s (control_told c ∷ told) close = told_bytes s told close
 
@@ -102,7 +106,8 @@ ending_bytes Left left e = refl
 ending_bytes (Resized s) left e = refl
 ending_bytes (Asked control) left e = refl
 
-close_bytes : (s : Sender) (may_stop : Bool) (pieces : List (List ℕ)) (left : Option (List ℕ)) (foretold : Option Failures) (close : List Message) → Closes may_stop pieces left foretold close → bytes_sent (map (mail s) close) ≡ []
+close_bytes : (s : Sender) (may_stop : Bool) (pieces : List (List ℕ)) (left : Option (List ℕ)) (foretold : Option Failures) (close : List Message)
+    → Closes may_stop pieces left foretold close → bytes_sent (map (mail s) close) ≡ []
 close_bytes s may_stop pieces left foretold close closes =
     let B : List Message → List ℕ = λ ms. bytes_sent (map (mail s) ms) in
     ⊎_elim
@@ -116,7 +121,8 @@ one_list s a b v e f = is_some a b (sym (sender_share s a v e) ∙ sender_share 
     is_some : {A : Type 0} (x y : A) → Some x ≡ Some y → x ≡ y
     is_some x y eq = cc
 
-reader_bytes : (who : Sender) (may_stop : Bool) (reader : KnownReader) (v : View) (mails : List Mail) → ReaderSends who may_stop reader v → v ≡ sender who mails → (left : Option (List ℕ)) × Consumes reader.bytes left (bytes_sent mails)
+reader_bytes : (who : Sender) (may_stop : Bool) (reader : KnownReader) (v : View) (mails : List Mail) → ReaderSends who may_stop reader v → v ≡ sender who mails
+    → (left : Option (List ℕ)) × Consumes reader.bytes left (bytes_sent mails)
 reader_bytes who may_stop reader v mails (told, left, close, consumed, closes, is, small, sizes) e =
     let pieces = pieces_in told in
     let all : bytes_sent mails ≡ concat pieces =
@@ -125,13 +131,16 @@ reader_bytes who may_stop reader v mails (told, left, close, consumed, closes, i
     let P : List ℕ → Type 0 = λ bs. Consumes reader.bytes left bs in
     (left, subst P (sym all) consumed)
 
-pub keys_brought : (stopped : Bool) (reader : KnownReader) (v : View) (handled mails : List Mail) → ReaderSends Keys stopped reader v → v ≡ sender Keys mails → from Keys handled ≡ mails → (left : Option (List ℕ)) × Consumes reader.bytes left (brought origin.Keys (all_told handled))
+pub keys_brought : (stopped : Bool) (reader : KnownReader) (v : View) (handled mails : List Mail) → ReaderSends Keys stopped reader v → v ≡ sender Keys mails
+    → from Keys handled ≡ mails → (left : Option (List ℕ)) × Consumes reader.bytes left (brought origin.Keys (all_told handled))
 keys_brought stopped reader v handled mails sent e is =
     let r = reader_bytes Keys stopped reader v mails sent e in
     let P : List ℕ → Type 0 = λ bs. Consumes reader.bytes r.0 bs in
     (r.0, subst P (sym (keys_all handled ∙ ap bytes_sent is)) r.1)
 
-pub net_brought : (reader : KnownReader) (v : View) (handled mails : List Mail) → ReaderSends Net false reader v → v ≡ sender Net mails → from Net handled ≡ mails → from Desk handled ≡ [] → from Back handled ≡ [] → (left : Option (List ℕ)) × Consumes reader.bytes left (brought origin.Net (all_told handled))
+pub net_brought : (reader : KnownReader) (v : View) (handled mails : List Mail) → ReaderSends Net false reader v → v ≡ sender Net mails
+    → from Net handled ≡ mails → from Desk handled ≡ [] → from Back handled ≡ [] → (left : Option (List ℕ))
+    × Consumes reader.bytes left (brought origin.Net (all_told handled))
 net_brought reader v handled mails sent e is desk back =
     let r = reader_bytes Net false reader v mails sent e in
     let P : List ℕ → Type 0 = λ bs. Consumes reader.bytes r.0 bs in
@@ -162,7 +171,8 @@ command_asked Left = refl
 command_asked (Resized size) = refl
 
 -- they are those that Keys told
-commands_more : (s : Sender) (m : Message) (xs : List Mail) → commands_in (inputs_brought (all_told xs)) ≡ map command_of (asked_sent (from Keys xs)) → commands_in (inputs_brought (all_told (mail s m ∷ xs))) ≡ map command_of (asked_sent (from Keys (mail s m ∷ xs)))
+commands_more : (s : Sender) (m : Message) (xs : List Mail) → commands_in (inputs_brought (all_told xs)) ≡ map command_of (asked_sent (from Keys xs))
+    → commands_in (inputs_brought (all_told (mail s m ∷ xs))) ≡ map command_of (asked_sent (from Keys (mail s m ∷ xs)))
 commands_more Keys m xs ih =
     flat_map-append command_in (inputs_in m) (inputs_brought (all_told xs))
     ∙ (λ i. command_asked m i ++ ih i)
@@ -175,7 +185,8 @@ commands_all : (xs : List Mail) → commands_in (inputs_brought (all_told xs)) �
 commands_all [] = refl
 commands_all (x ∷ xs) = commands_more x.from x.message xs (commands_all xs)
 
-told_asked : (s : Sender) (told : List Telling) (close : List Message) → asked_sent (map (mail s) (told_messages told ++ close)) ≡ controls_in told ++ asked_sent (map (mail s) close)
+told_asked : (s : Sender) (told : List Telling) (close : List Message)
+    → asked_sent (map (mail s) (told_messages told ++ close)) ≡ controls_in told ++ asked_sent (map (mail s) close)
 told_asked s [] close = refl
 told_asked s (piece_told p ∷ told) close = told_asked s told close
 told_asked s (size_told z ∷ told) close = told_asked s told close
@@ -192,7 +203,8 @@ ending_asks Left left e = refl
 ending_asks (Resized s) left e = refl
 ending_asks (Asked control) left e = absurd e
 
-close_asks : (s : Sender) (may_stop : Bool) (pieces : List (List ℕ)) (left : Option (List ℕ)) (foretold : Option Failures) (close : List Message) → Closes may_stop pieces left foretold close → asked_sent (map (mail s) close) ≡ []
+close_asks : (s : Sender) (may_stop : Bool) (pieces : List (List ℕ)) (left : Option (List ℕ)) (foretold : Option Failures) (close : List Message)
+    → Closes may_stop pieces left foretold close → asked_sent (map (mail s) close) ≡ []
 close_asks s may_stop pieces left foretold close closes =
     let A : List Message → List Control = λ ms. asked_sent (map (mail s) ms) in
     ⊎_elim
@@ -200,9 +212,11 @@ close_asks s may_stop pieces left foretold close closes =
     (λ x. ap A x.2)
     closes
 
-pub commands_brought : (stopped : Bool) (reader : KnownReader) (v : View) (handled mails : List Mail) (sent : ReaderSends Keys stopped reader v) → v ≡ sender Keys mails → from Keys handled ≡ mails → commands_in (inputs_brought (all_told handled)) ≡ map command_of (controls_in sent.0)
+pub commands_brought : (stopped : Bool) (reader : KnownReader) (v : View) (handled mails : List Mail) (sent : ReaderSends Keys stopped reader v)
+    → v ≡ sender Keys mails → from Keys handled ≡ mails → commands_in (inputs_brought (all_told handled)) ≡ map command_of (controls_in sent.0)
 commands_brought stopped reader v handled mails (told, left, close, consumed, closes, is, small, sizes) e of =
     let asked : asked_sent mails ≡ controls_in told =
     ap asked_sent (one_list Keys mails (map (mail Keys) (told_messages told ++ close)) v e is) ∙ told_asked Keys told close
-    ∙ ap (λ (cs : List Control). controls_in told ++ cs) (close_asks Keys stopped (pieces_in told) left reader.failures close closes) ∙ append-nil (controls_in told) in
+    ∙ ap (λ (cs : List Control). controls_in told ++ cs) (close_asks Keys stopped (pieces_in told) left reader.failures close closes)
+    ∙ append-nil (controls_in told) in
     commands_all handled ∙ ap (λ (ms : List Mail). map command_of (asked_sent ms)) of ∙ ap (map command_of) asked

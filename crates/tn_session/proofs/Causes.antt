@@ -25,19 +25,23 @@ abbrev pub HasFailure : List Message → Type 0
 HasFailure [] = ⊥
 HasFailure (m ∷ ms) = (m ≡ ReadFailed) ⊎ HasFailure ms
 
-pub has_split : {A : Type 0} (message : A → Message) (before : List A) (last : A) (after : List A) → message last ≡ ReadFailed → HasFailure (map message (before ++ last ∷ after))
+pub has_split : {A : Type 0} (message : A → Message) (before : List A) (last : A) (after : List A) → message last ≡ ReadFailed
+    → HasFailure (map message (before ++ last ∷ after))
 has_split {A} message [] last after e = inl e
 has_split {A} message (m ∷ before) last after e = inr (has_split message before last after e)
 
-pub has_failure : {K : Type 0} (marked : List (Message × K)) (before : List (Message × K)) (last : Message × K) (after : List (Message × K)) → marked ≡ before ++ last ∷ after → last.0 ≡ ReadFailed → HasFailure (map (λ m. m.0) marked)
-has_failure {K} marked before last after whole e = subst (λ (ms : List (Message × K)). HasFailure (map (λ m. m.0) ms)) (sym whole) (has_split (λ (m : Message × K). m.0) before last after e)
+pub has_failure : {K : Type 0} (marked : List (Message × K)) (before : List (Message × K)) (last : Message × K) (after : List (Message × K))
+    → marked ≡ before ++ last ∷ after → last.0 ≡ ReadFailed → HasFailure (map (λ m. m.0) marked)
+has_failure {K} marked before last after whole e = subst (λ (ms : List (Message × K)). HasFailure (map (λ m. m.0) ms)) (sym whole)
+    (has_split (λ (m : Message × K). m.0) before last after e)
 
 -- it is in the list of its sender
 pub failure_from : (mails : List Mail) → HasFailure (messages_of mails) → (s : Sender) × HasFailure (messages_of (from s mails))
 failure_from [] h = absurd h
 failure_from (x ∷ xs) h =
     let Fails : List Mail → Type 0 = λ l. HasFailure (messages_of l) in
-    ⊎_elim (λ e. (x.from, subst Fails (sym (from_hit x.from x xs (same_self x.from))) (inl e))) (λ more. let later = failure_from xs more in (later.0, by later.0 later.1 (same x.from later.0) refl)) h
+    ⊎_elim (λ e. (x.from, subst Fails (sym (from_hit x.from x xs (same_self x.from))) (inl e)))
+    (λ more. let later = failure_from xs more in (later.0, by later.0 later.1 (same x.from later.0) refl)) h
   where
     by : (s : Sender) → HasFailure (messages_of (from s xs)) → (b : Bool) → same x.from s ≡ b → HasFailure (messages_of (from s (x ∷ xs)))
     by s f true is = subst (λ (l : List Mail). HasFailure (messages_of l)) (sym (from_hit s x xs is)) (inr f)
@@ -73,7 +77,8 @@ never_and true b e = e
 never_and false b e = refl
 
 -- one of these messages was not written
-pub write_failed : (marked before : List (Message × Mark)) (last : Message × Mark) (after : List (Message × Mark)) → marked ≡ before ++ last ∷ after → last.1 ≡ mark.WriteFailed → no_writes_failed marked ≡ false
+pub write_failed : (marked before : List (Message × Mark)) (last : Message × Mark) (after : List (Message × Mark)) → marked ≡ before ++ last ∷ after
+    → last.1 ≡ mark.WriteFailed → no_writes_failed marked ≡ false
 write_failed marked before last after whole e = ap no_writes_failed whole ∙ at before
   where
     at : (front : List (Message × Mark)) → no_writes_failed (front ++ last ∷ after) ≡ false

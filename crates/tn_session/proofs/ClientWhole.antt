@@ -41,7 +41,8 @@ use Rattle.tn_machines.specs.declared.faults.SessionFault.{SessionFault}
 use Rattle.tn_machines.specs.declared.faults.SessionFault.TheVariants as fault
 
 -- the passes before anything was sent
-pub ready_two : (v₀ v₁ v₂ n k : View) → v₀ ≡ everyone → v₁ ≡ record v₀ { net = None } → n ≡ record nobody { net = v₀.net } → v₂ ≡ record v₁ { keys = None } → k ≡ record nobody { keys = v₁.keys } → (v₂ ≡ core_view []) × (n ≡ sender Net []) × (k ≡ sender Keys [])
+pub ready_two : (v₀ v₁ v₂ n k : View) → v₀ ≡ everyone → v₁ ≡ record v₀ { net = None } → n ≡ record nobody { net = v₀.net } → v₂ ≡ record v₁ { keys = None }
+    → k ≡ record nobody { keys = v₁.keys } → (v₂ ≡ core_view []) × (n ≡ sender Net []) × (k ≡ sender Keys [])
 ready_two v₀ v₁ v₂ n k e₀ e₁ en e₂ ek =
     let a₁ = e₁ ∙ ap (λ (v : View). record v { net = None }) e₀ in (
       e₂ ∙ ap (λ (v : View). record v { keys = None }) a₁,
@@ -56,9 +57,11 @@ pub settles_two : (pass net keys p₁ p₂ p₃ n' p₄ k' p₅ : View)
     → k' ≡ record nobody { keys = p₄.keys } → p₅ ≡ record p₄ { keys = None }
     → AreTwoSettled pass net keys n' k' p₅
 settles_two pass net keys p₁ p₂ p₃ n' p₄ k' p₅ e₁ e₂ e₃ held en e₄ ek e₅ h a d epass enet ekeys =
-    let whole : p₂ ≡ record { handled = Some h; net = Some a; desk = Some []; back = Some []; keys = Some d } = e₂ ∙ (λ i. union ((e₁ ∙ (λ j. union (epass j) (enet j))) i) (ekeys i)) in
+    let whole : p₂ ≡ record { handled = Some h; net = Some a; desk = Some []; back = Some []; keys = Some d } =
+    e₂ ∙ (λ i. union ((e₁ ∙ (λ j. union (epass j) (enet j))) i) (ekeys i)) in
     let same = e₃ ∙ whole in
-    let fourth : p₄ ≡ record { handled = Some h; net = None; desk = Some []; back = Some []; keys = Some d } = e₄ ∙ ap (λ (v : View). record v { net = None }) same in (
+    let fourth : p₄ ≡ record { handled = Some h; net = None; desk = Some []; back = Some []; keys = Some d } =
+    e₄ ∙ ap (λ (v : View). record v { net = None }) same in (
       en ∙ ap (λ (v : View). record nobody { net = v.net }) same,
       ek ∙ ap (λ (v : View). record nobody { keys = v.keys }) fourth,
       e₅ ∙ ap (λ (v : View). record v { keys = None }) fourth,
@@ -74,7 +77,9 @@ all_out marked rest all never = by (all_written marked) refl
     by false e = absurd (false_true (never (unwritten marked e)))
 
 -- the transcript, as it was noted
-client_noted : (begin last : Run) (steps : List ((Told × Mark) × List ℕ)) (marked : List (Told × Mark)) (handled : List Mail) (bytes : List ℕ) (noted : Noted) → FoldsTo (IsStep Turns says is_over is_marked_written) begin steps last → map (λ s. s.0) steps ≡ marked → map (λ m. m.0) marked ≡ all_told handled → bytes ≡ total steps → says begin ≡ [] → (all : NotesAll handled (map (λ s. s.1) steps) no_notes noted)
+client_noted : (begin last : Run) (steps : List ((Told × Mark) × List ℕ)) (marked : List (Told × Mark)) (handled : List Mail) (bytes : List ℕ) (noted : Noted)
+    → FoldsTo (IsStep Turns says is_over is_marked_written) begin steps last → map (λ s. s.0) steps ≡ marked → map (λ m. m.0) marked ≡ all_told handled
+    → bytes ≡ total steps → says begin ≡ [] → (all : NotesAll handled (map (λ s. s.1) steps) no_notes noted)
     → (transcript : List Exchange) × (transcript ≡ map (exchange_of brought_by) all.more) × Transcribes Turns brings says begin marked last bytes transcript
 client_noted begin last steps marked handled bytes noted goes of_steps messages whole silent all =
     let of_message : Told × Mark → Told = λ m. m.0 in
@@ -82,7 +87,8 @@ client_noted begin last steps marked handled bytes noted goes of_steps messages 
     let by_marks : List (Told × Mark) → Type 0 = λ ms. Transcribes Turns brings of_client.says begin ms last (total steps) transcript in
     let by_bytes : List ℕ → Type 0 = λ bs. Transcribes Turns brings of_client.says begin marked last bs transcript in (
       transcript,
-      same_steps of_message told_of (λ (t : Told). brought_from origin.Net t.from t.message) steps all.more handled (mapped of_message steps ∙ ap (map of_message) of_steps ∙ messages) all.took all.wrote,
+      same_steps of_message told_of (λ (t : Told). brought_from origin.Net t.from t.message) steps all.more handled
+          (mapped of_message steps ∙ ap (map of_message) of_steps ∙ messages) all.took all.wrote,
       subst by_bytes (sym whole) (subst by_marks of_steps (client_stepped begin last steps goes silent)),
     )
   where
@@ -91,8 +97,10 @@ client_noted begin last steps marked handled bytes noted goes of_steps messages 
     mapped f (s ∷ ss) = ap (λ (l : List Told). f s.0 ∷ l) (mapped f ss)
 
 -- all of a client's session that ran
-pub client_ran : (core last : Core) (stopped : Bool) (keys_reader : KnownTyping) (net_reader : KnownReader) (writer screen : KnownWriting) (pass₀ pass₁ net keys : View) (result : ClientResult)
-    → pass₀ ≡ core_view [] → (acted : CoreHandles core pass₀ pass₁ writer screen result.noted result.told last) → ReaderSends Net false net_reader net → TypingSends Keys stopped keys_reader keys
+pub client_ran : (core last : Core) (stopped : Bool) (keys_reader : KnownTyping) (net_reader : KnownReader) (writer screen : KnownWriting)
+    (pass₀ pass₁ net keys : View) (result : ClientResult)
+    → pass₀ ≡ core_view [] → (acted : CoreHandles core pass₀ pass₁ writer screen result.noted result.told last) → ReaderSends Net false net_reader net
+    → TypingSends Keys stopped keys_reader keys
     → (stopped ≡ true → result.told ≡ putter [] → ⊥)
     → AreTwoSettled pass₁ net keys result.net result.keys result.core → result.report ≡ client_report last.progress
     → IsClientRun core keys_reader net_reader writer screen result
@@ -104,17 +112,20 @@ client_ran core last stopped keys_reader net_reader writer screen pass₀ pass�
     let view : pass₁ ≡ core_view acted.handled = acted.view ∙ ap (λ (w : View). with_handled w acted.handled) ep in
     let s = settled acted.handled ns.mails ks.mails view ns.is ks.is in
     let none = none_over acted.handled s.3.0 ns.mails [] [] ks.mails s.3.1 ns.ends tt tt ks.ends (omega (arith, ns.one, ks.one, acted.lefts)) in
-    let woven : Interleaves acted.handled (four ns.mails [] [] ks.mails) = λ w. ap (from w) (sym (append-nil acted.handled) ∙ ap (λ (l : List Mail). acted.handled ++ l) (sym none)) ∙ s.3.1 w in
+    let woven : Interleaves acted.handled (four ns.mails [] [] ks.mails) =
+    λ w. ap (from w) (sym (append-nil acted.handled) ∙ ap (λ (l : List Mail). acted.handled ++ l) (sym none)) ∙ s.3.1 w in
     let typing : TypingSends Keys stopped keys_reader result.keys = subst (λ (w : View). TypingSends Keys stopped keys_reader w) (ks.is ∙ sym s.1) sk in
     let typed = typing.0 in
     let read : ReaderSends Net false net_reader result.net = subst (λ (w : View). ReaderSends Net false net_reader w) (ns.is ∙ sym s.0) sn in
-    let noted = client_noted begin g.0 acted.goes.steps acted.goes.marked acted.handled acted.goes.bytes result.noted g.5 acted.goes.of_steps acted.goes.whole acted.goes.all_bytes refl acted.noted in
+    let noted = client_noted begin g.0 acted.goes.steps acted.goes.marked acted.handled acted.goes.bytes result.noted g.5 acted.goes.of_steps acted.goes.whole
+    acted.goes.all_bytes refl acted.noted in
     let said = client_said window.width window.height window.limit acted.goes.marked g.0 acted.goes.bytes noted.0 noted.2 in
     let net_first = net_brought net_reader net acted.handled ns.mails sn ns.is (woven Net) (woven Desk) (woven Back) in
     let keys_first = keys_brought stopped keys_reader.reader keys acted.handled ks.mails sk.0 ks.is (woven Keys) in
     let left = (acted.stands begin at).gone (was_left Keys acted.handled ks.mails (woven Keys) ks.one) in
     let is : result.report ≡ client_report g.0.progress = er ∙ ap client_report g.2.progress in
-    let caused = λ (f : SessionFault) (e : result.report.ended ≡ ended.Fault f). fault_cause window.width window.height window.limit acted.goes.marked g.0 f g.1 (sym (ap (λ (o : Report). o.ended) is) ∙ e) in
+    let caused = λ (f : SessionFault) (e : result.report.ended ≡ ended.Fault f).
+    fault_cause window.width window.height window.limit acted.goes.marked g.0 f g.1 (sym (ap (λ (o : Report). o.ended) is) ∙ e) in
     record {
       from_keys = ks.mails;
       from_net = ns.mails;
@@ -142,8 +153,10 @@ client_ran core last stopped keys_reader net_reader writer screen pass₀ pass�
       all_sent = g.3.2;
       sent_whole = λ on. all_out acted.goes.marked g.3.0 g.3.2 (λ e. sym on ∙ ap (λ (p : Progress). p.over) (sym g.2.progress) ∙ acted.goes.over e);
       transcript = said.transcript;
-      was_read = as_read net_reader.bytes _ _ (client_reads begin acted.goes.marked g.0 acted.goes.bytes said ∙ ap (brought origin.Net) acted.goes.whole) net_first;
-      came = client_reads begin acted.goes.marked g.0 acted.goes.bytes said ∙ ap (brought origin.Net) acted.goes.whole ∙ net_all acted.handled (woven Desk) (woven Back) ∙ ap bytes_sent (woven Net) ∙ sym (ap (λ (w : View). came_by w.net) s.0);
+      was_read = as_read net_reader.bytes _ _ (client_reads begin acted.goes.marked g.0 acted.goes.bytes said ∙ ap (brought origin.Net) acted.goes.whole)
+          net_first;
+      came = client_reads begin acted.goes.marked g.0 acted.goes.bytes said ∙ ap (brought origin.Net) acted.goes.whole
+          ∙ net_all acted.handled (woven Desk) (woven Back) ∙ ap bytes_sent (woven Net) ∙ sym (ap (λ (w : View). came_by w.net) s.0);
       was_written = said.writes;
       steps = acted.noted.more;
       noted = acted.noted.noted;
@@ -166,6 +179,8 @@ client_ran core last stopped keys_reader net_reader writer screen pass₀ pass�
       all_shown = g.4.2;
       report_is = is;
       caused = caused;
-      read_failed = λ e. read_cause stopped keys_reader.reader net_reader ks.mails ns.mails acted.handled result.keys result.net acted.goes.marked s.1 s.0 woven typed read acted.goes.whole begin (caused fault.Read e);
-      write_failed = λ e. write_cause writer.before.calls writer.after.calls screen.before.calls screen.after.calls acted.goes.marked acted.goes.tells acted.goes.tells_shown begin (caused fault.Write e);
+      read_failed = λ e. read_cause stopped keys_reader.reader net_reader ks.mails ns.mails acted.handled result.keys result.net acted.goes.marked s.1 s.0 woven
+          typed read acted.goes.whole begin (caused fault.Read e);
+      write_failed = λ e. write_cause writer.before.calls writer.after.calls screen.before.calls screen.after.calls acted.goes.marked acted.goes.tells
+          acted.goes.tells_shown begin (caused fault.Write e);
     }

@@ -1,5 +1,6 @@
 -- What the core's thread wrote and showed, one message after another.
-use Rattle.std.proofs.Common.{◌≡◌, ℕ, Bool, true, false, not, ◌||◌, ◌&&◌, ◌⊎◌, ⊎_elim, inl, inr, List, [], ◌∷◌, ◌++◌, map, Option, refl, sym, ap, ◌∙◌, subst, append_assoc, append-nil}
+use Rattle.std.proofs.Common.{◌≡◌, ℕ, Bool, true, false, not, ◌||◌, ◌&&◌, ◌⊎◌, ⊎_elim, inl, inr, List, [], ◌∷◌, ◌++◌, map, Option, refl, sym, ap, ◌∙◌, subst}
+use Rattle.std.proofs.Common.{append_assoc, append-nil}
 use Rattle.std.proofs.lemmas.Bool.{false_from_ne_true}
 use Rattle.std.proofs.lemmas.Fn.{FoldsTo-push}
 use Rattle.std.proofs.lemmas.List.{map-append}
@@ -51,18 +52,23 @@ none_front bytes (b ∷ bs) back e none = absurd (some b (bs ++ back) (sym e ∙
     some x xs f = cc
 
 -- where less was written than is to be, as if the rest had been left over
-rest_less : (all less : Bool) (s₀ s₁ bytes front back rest : List ℕ) → bytes ≡ front ++ back → (less ≡ true → all ≡ true) → (less ≡ true → back ≡ []) → s₁ ≡ s₀ ++ (bytes ++ rest) → (all ≡ true → rest ≡ []) → (more : List ℕ) × (s₁ ≡ s₀ ++ (front ++ more)) × (less ≡ true → more ≡ [])
+rest_less : (all less : Bool) (s₀ s₁ bytes front back rest : List ℕ) → bytes ≡ front ++ back → (less ≡ true → all ≡ true) → (less ≡ true → back ≡ [])
+    → s₁ ≡ s₀ ++ (bytes ++ rest) → (all ≡ true → rest ≡ []) → (more : List ℕ) × (s₁ ≡ s₀ ++ (front ++ more)) × (less ≡ true → more ≡ [])
 rest_less all less s₀ s₁ bytes front back rest e weaker none is whole = (
   back ++ rest,
   is ∙ ap (λ (bs : List ℕ). s₀ ++ (bs ++ rest)) e ∙ ap (λ (bs : List ℕ). s₀ ++ bs) (append_assoc front back rest),
   λ w. ap (λ (bs : List ℕ). bs ++ rest) (none w) ∙ whole (weaker w),
 )
 
-sends_less : (c next : Run) (all less : Bool) (bytes front back : List ℕ) → bytes ≡ front ++ back → (less ≡ true → all ≡ true) → (less ≡ true → back ≡ []) → SendsPrefix c next bytes all → SendsPrefix c next front less
-sends_less c next all less bytes front back e weaker none s = rest_less all less (spells (items_said c.sent)) (spells (items_said next.sent)) bytes front back s.0 e weaker none s.1 s.2
+sends_less : (c next : Run) (all less : Bool) (bytes front back : List ℕ) → bytes ≡ front ++ back → (less ≡ true → all ≡ true) → (less ≡ true → back ≡ [])
+    → SendsPrefix c next bytes all → SendsPrefix c next front less
+sends_less c next all less bytes front back e weaker none s = rest_less all less (spells (items_said c.sent))
+    (spells (items_said next.sent)) bytes front back s.0 e weaker none s.1 s.2
 
-shows_less : (c next : Run) (all less : Bool) (text front back : List ℕ) → text ≡ front ++ back → (less ≡ true → all ≡ true) → (less ≡ true → back ≡ []) → ShowsPrefix c next text all → ShowsPrefix c next front less
-shows_less c next all less text front back e weaker none s = rest_less all less (text_shown c.history) (text_shown next.history) text front back s.0 e weaker none s.1 s.2
+shows_less : (c next : Run) (all less : Bool) (text front back : List ℕ) → text ≡ front ++ back → (less ≡ true → all ≡ true) → (less ≡ true → back ≡ [])
+    → ShowsPrefix c next text all → ShowsPrefix c next front less
+shows_less c next all less text front back e weaker none s = rest_less all less (text_shown c.history)
+    (text_shown next.history) text front back s.0 e weaker none s.1 s.2
 
 -- a message that is written and not shown was written, and its showing failed
 is_shown : (m : Mark) → no_show_failed m ≡ true → is_written m ≡ true → is_whole m ≡ true
@@ -75,7 +81,10 @@ goes_well : (w well : Bool) (a b : Option Calls) → well ≡ true → Tells w a
 goes_well w well a b is told = subst (λ (v : Bool). Tells v a b) (sym is) (accounts_well max_writes w a b told)
 
 -- all was written and shown, or the message was refused
-turn_on : (w s : Bool) (m : Mark) (old new : Core) (told : Told) (bytes text : List ℕ) (writer screen : KnownWriting) (n o : Noted) → ((w && s) || not (is_whole m)) ≡ true → no_write_failed m ≡ true → no_show_failed m ≡ true → NotesWrite w writer.before.bytes writer.after.bytes bytes n o → Tells w writer.before.calls writer.after.calls → Written s screen.before.bytes screen.after.bytes text → Tells s screen.before.calls screen.after.calls → IsTurn m old told bytes text new → TurnsTold old told writer screen n o new
+turn_on : (w s : Bool) (m : Mark) (old new : Core) (told : Told) (bytes text : List ℕ) (writer screen : KnownWriting) (n o : Noted)
+    → ((w && s) || not (is_whole m)) ≡ true → no_write_failed m ≡ true → no_show_failed m ≡ true → NotesWrite w writer.before.bytes writer.after.bytes bytes n o
+    → Tells w writer.before.calls writer.after.calls → Written s screen.before.bytes screen.after.bytes text → Tells s screen.before.calls screen.after.calls
+    → IsTurn m old told bytes text new → TurnsTold old told writer screen n o new
 turn_on w s m old new told bytes text writer screen n o e well clear a tells b shows t = record {
   mark = m;
   bytes = a.front;
@@ -121,7 +130,8 @@ abbrev failed_mark : Bool → Mark
 failed_mark true = mark.ShowFailed
 failed_mark false = mark.WriteFailed
 
-fails_at : (w : Bool) (c whole : Run) (told : Told) → Turns c (told, mark.WriteFailed) (fail fault.Write whole) → Turns c (told, failed_mark w) (fail fault.Write whole)
+fails_at : (w : Bool) (c whole : Run) (told : Told) → Turns c (told, mark.WriteFailed) (fail fault.Write whole)
+    → Turns c (told, failed_mark w) (fail fault.Write whole)
 fails_at true c whole told t = t
 fails_at false c whole told t = t
 
@@ -143,7 +153,10 @@ writes_failed true k l told = told
 writes_failed false k l told = told
 
 -- a write failed after a message that was done wholly
-turn_off : (w s : Bool) (old mid new : Core) (told : Told) (bytes text : List ℕ) (writer screen : KnownWriting) (n o : Noted) → (old.progress.over ≡ true → ⊥) → (w && s) ≡ false → NotesWrite w writer.before.bytes writer.after.bytes bytes n o → Tells w writer.before.calls writer.after.calls → Written s screen.before.bytes screen.after.bytes text → Tells s screen.before.calls screen.after.calls → IsTurn mark.Whole old told bytes text mid → ((c : Run) → LeadsTo c mid → LeadsTo (fail fault.Write c) new) → new.progress.over ≡ true → TurnsTold old told writer screen n o new
+turn_off : (w s : Bool) (old mid new : Core) (told : Told) (bytes text : List ℕ) (writer screen : KnownWriting) (n o : Noted) → (old.progress.over ≡ true → ⊥)
+    → (w && s) ≡ false → NotesWrite w writer.before.bytes writer.after.bytes bytes n o → Tells w writer.before.calls writer.after.calls
+    → Written s screen.before.bytes screen.after.bytes text → Tells s screen.before.calls screen.after.calls → IsTurn mark.Whole old told bytes text mid
+    → ((c : Run) → LeadsTo c mid → LeadsTo (fail fault.Write c) new) → new.progress.over ≡ true → TurnsTold old told writer screen n o new
 turn_off w s old mid new told bytes text writer screen n o on broken a tells b shows t leads over = record {
   mark = failed_mark w;
   bytes = a.front;
@@ -169,15 +182,24 @@ turn_off w s old mid new told bytes text writer screen n o on broken a tells b s
   };
 }
 
-pub turned_on : (w s : Bool) (m : Mark) (old new : Core) (told : Told) (bytes text : List ℕ) (writer screen : KnownWriting) (n o : Noted) → ((w && s) || not (is_whole m)) ≡ true → no_write_failed m ≡ true → no_show_failed m ≡ true → NotesWrite w writer.before.bytes writer.after.bytes bytes n o → Tells w writer.before.calls writer.after.calls → Writes s screen.before.bytes screen.after.bytes text → Tells s screen.before.calls screen.after.calls → IsTurn m old told bytes text new → TurnsTold old told writer screen n o new
-turned_on w s m old new told bytes text writer screen n o e well clear a tells b shows t = turn_on w s m old new told bytes text writer screen n o e well clear a tells (written s screen.before.bytes screen.after.bytes text b) shows t
+pub turned_on : (w s : Bool) (m : Mark) (old new : Core) (told : Told) (bytes text : List ℕ) (writer screen : KnownWriting) (n o : Noted)
+    → ((w && s) || not (is_whole m)) ≡ true → no_write_failed m ≡ true → no_show_failed m ≡ true → NotesWrite w writer.before.bytes writer.after.bytes bytes n o
+    → Tells w writer.before.calls writer.after.calls → Writes s screen.before.bytes screen.after.bytes text → Tells s screen.before.calls screen.after.calls
+    → IsTurn m old told bytes text new → TurnsTold old told writer screen n o new
+turned_on w s m old new told bytes text writer screen n o e well clear a tells b shows t =
+    turn_on w s m old new told bytes text writer screen n o e well clear a tells (written s screen.before.bytes screen.after.bytes text b) shows t
 
-pub turned_off : (w s : Bool) (m : Mark) (old mid new : Core) (told : Told) (bytes text : List ℕ) (writer screen : KnownWriting) (n o : Noted) → ((w && s) || not (is_whole m)) ≡ false → NotesWrite w writer.before.bytes writer.after.bytes bytes n o → Tells w writer.before.calls writer.after.calls → Writes s screen.before.bytes screen.after.bytes text → Tells s screen.before.calls screen.after.calls → (bytes ≡ [] → w ≡ true) → (text ≡ [] → s ≡ true) → IsTurn m old told bytes text mid → ((c : Run) → LeadsTo c mid → LeadsTo (fail fault.Write c) new) → new.progress.over ≡ true → TurnsTold old told writer screen n o new
+pub turned_off : (w s : Bool) (m : Mark) (old mid new : Core) (told : Told) (bytes text : List ℕ) (writer screen : KnownWriting) (n o : Noted)
+    → ((w && s) || not (is_whole m)) ≡ false → NotesWrite w writer.before.bytes writer.after.bytes bytes n o → Tells w writer.before.calls writer.after.calls
+    → Writes s screen.before.bytes screen.after.bytes text → Tells s screen.before.calls screen.after.calls → (bytes ≡ [] → w ≡ true) → (text ≡ [] → s ≡ true)
+    → IsTurn m old told bytes text mid → ((c : Run) → LeadsTo c mid → LeadsTo (fail fault.Write c) new) → new.progress.over ≡ true
+    → TurnsTold old told writer screen n o new
 turned_off w s m old mid new told bytes text writer screen n o e a tells b shows some_bytes some_text t leads over =
     let broken = by_test w s (is_whole m) e in
     let M : Mark → Type 0 = λ n. IsTurn n old told bytes text mid in
     let on : old.progress.over ≡ true → ⊥ = λ off. let n = t.idle off in true_false (sym (both w s (some_bytes n.0) (some_text n.1)) ∙ broken.1) in
-    turn_off w s old mid new told bytes text writer screen n o on broken.1 a tells (written s screen.before.bytes screen.after.bytes text b) shows (subst M (whole_mark m broken.0) t) leads over
+    turn_off w s old mid new told bytes text writer screen n o on broken.1 a tells (written s screen.before.bytes screen.after.bytes text b) shows
+    (subst M (whole_mark m broken.0) t) leads over
   where
     by_test : (w s k : Bool) → ((w && s) || not k) ≡ false → (k ≡ true) × ((w && s) ≡ false)
     by_test true true k f = absurd (true_false f)
@@ -230,7 +252,9 @@ unwritten_one mark.WriteFailed e = refl
 unwritten_one mark.ShowFailed e = refl
 unwritten_one (mark.Refused f) e = refl
 
-going_on : (a b d : Core) (ms : List Told) (m : Told) (x y z u v w : KnownWriter) (n o : Noted) → (one : ToldAll a ms (from_to x y) (from_to u v) b) → (t : TurnsTold b m (from_to y z) (from_to v w) n o d) → (next : ToldAll a (ms ++ m ∷ []) (from_to x z) (from_to u w) d) × MovesOn one next (m, t.mark) t.bytes
+going_on : (a b d : Core) (ms : List Told) (m : Told) (x y z u v w : KnownWriter) (n o : Noted) → (one : ToldAll a ms (from_to x y) (from_to u v) b)
+    → (t : TurnsTold b m (from_to y z) (from_to v w) n o d) → (next : ToldAll a (ms ++ m ∷ []) (from_to x z) (from_to u w) d)
+    × MovesOn one next (m, t.mark) t.bytes
 going_on a b d ms m x y z u v w n o one t =
     let marked : List (Told × Mark) = one.marked ++ (m, t.mark) ∷ [] in
     let written-push : all_written marked ≡ (all_written one.marked && is_written t.mark) = by-push is_written one.marked m t.mark in
@@ -239,19 +263,25 @@ going_on a b d ms m x y z u v w n o one t =
         marked = marked;
         whole = map-append (λ (k : Told × Mark). k.0) one.marked ((m, t.mark) ∷ []) ∙ ap (λ (ks : List Told). ks ++ m ∷ []) one.whole;
         steps = one.steps ++ ((m, t.mark), t.bytes) ∷ [];
-        of_steps = map-append (λ (k : (Told × Mark) × List ℕ). k.0) one.steps (((m, t.mark), t.bytes) ∷ []) ∙ ap (λ (ks : List (Told × Mark)). ks ++ (m, t.mark) ∷ []) one.of_steps;
+        of_steps = map-append (λ (k : (Told × Mark) × List ℕ). k.0) one.steps (((m, t.mark), t.bytes) ∷ [])
+            ∙ ap (λ (ks : List (Told × Mark)). ks ++ (m, t.mark) ∷ []) one.of_steps;
         bytes = one.bytes ++ t.bytes;
         all_bytes = ap (λ (l : List ℕ). l ++ t.bytes) one.all_bytes ∙ sym (total-push one.steps ((m, t.mark), t.bytes));
         text = one.text ++ t.text;
         wrote = appends_more x.bytes y.bytes z.bytes one.bytes t.bytes one.wrote t.wrote;
         showed = appends_more u.bytes v.bytes w.bytes one.text t.text one.showed t.showed;
-        tells = subst (λ (well : Bool). Tells well x.calls z.calls) (sym (by-push no_write_failed one.marked m t.mark)) (accounts_both max_writes (all_by no_write_failed one.marked) (no_write_failed t.mark) x.calls y.calls z.calls one.tells t.tells);
-        tells_shown = subst (λ (well : Bool). Tells well u.calls w.calls) (sym (by-push no_show_failed one.marked m t.mark)) (accounts_both max_writes (all_by no_show_failed one.marked) (no_show_failed t.mark) u.calls v.calls w.calls one.tells_shown t.tells_shown);
+        tells = subst (λ (well : Bool). Tells well x.calls z.calls) (sym (by-push no_write_failed one.marked m t.mark))
+            (accounts_both max_writes (all_by no_write_failed one.marked) (no_write_failed t.mark) x.calls y.calls z.calls one.tells t.tells);
+        tells_shown = subst (λ (well : Bool). Tells well u.calls w.calls) (sym (by-push no_show_failed one.marked m t.mark))
+            (accounts_both max_writes (all_by no_show_failed one.marked) (no_show_failed t.mark) u.calls v.calls w.calls one.tells_shown t.tells_shown);
         leads = λ c at.
             let p = one.leads c at in
             let q = t.turn.leads p.0 p.2 in
-            let sent = left_over (all_written one.marked) (is_written t.mark) (spells (items_said c.sent)) (spells (items_said p.0.sent)) (spells (items_said q.0.sent)) one.bytes t.bytes p.3.0 q.3.0 p.3.1 q.3.1 p.3.2 q.3.2 (λ k. let n = t.turn.idle (one.over (unwritten one.marked k)) in (n.0, whole_written t.mark n.2)) in
-            let shown = left_over (all_whole one.marked) (is_whole t.mark) (text_shown c.history) (text_shown p.0.history) (text_shown q.0.history) one.text t.text p.4.0 q.4.0 p.4.1 q.4.1 p.4.2 q.4.2 (λ k. let n = t.turn.idle (one.over k) in (n.1, n.2)) in (
+            let sent = left_over (all_written one.marked) (is_written t.mark) (spells (items_said c.sent)) (spells (items_said p.0.sent))
+            (spells (items_said q.0.sent)) one.bytes t.bytes p.3.0 q.3.0 p.3.1 q.3.1 p.3.2 q.3.2
+            (λ k. let n = t.turn.idle (one.over (unwritten one.marked k)) in (n.0, whole_written t.mark n.2)) in
+            let shown = left_over (all_whole one.marked) (is_whole t.mark) (text_shown c.history) (text_shown p.0.history)
+            (text_shown q.0.history) one.text t.text p.4.0 q.4.0 p.4.1 q.4.1 p.4.2 q.4.2 (λ k. let n = t.turn.idle (one.over k) in (n.1, n.2)) in (
               q.0,
               FoldsTo-push Turns c one.marked p.0 (m, t.mark) q.0 p.1 q.1,
               q.2,
@@ -298,7 +328,8 @@ told_none a x u = record {
   stays = λ off. off;
 }
 
-pub told_kept : (a b : Core) (ms : List Told) (x y z u v : KnownWriter) → Keeps y.bytes z.bytes → z.calls ≡ y.calls → (g : ToldAll a ms (from_to x y) (from_to u v) b) → (same : ToldAll a ms (from_to x z) (from_to u v) b) × (same.marked ≡ g.marked) × (same.steps ≡ g.steps)
+pub told_kept : (a b : Core) (ms : List Told) (x y z u v : KnownWriter) → Keeps y.bytes z.bytes → z.calls ≡ y.calls
+    → (g : ToldAll a ms (from_to x y) (from_to u v) b) → (same : ToldAll a ms (from_to x z) (from_to u v) b) × (same.marked ≡ g.marked) × (same.steps ≡ g.steps)
 told_kept a b ms x y z u v k same g = (
   record {
     marked = g.marked;
@@ -321,11 +352,14 @@ told_kept a b ms x y z u v k same g = (
 )
 
 -- before the first mail
-pub told_first : (a : Core) (x u : KnownWriter) → (goes : ToldAll a [] (from_to x x) (from_to u u) a) × NotesAll [] (map (λ s. s.1) goes.steps) no_notes no_notes
+pub told_first : (a : Core) (x u : KnownWriter) → (goes : ToldAll a [] (from_to x x) (from_to u u) a)
+    × NotesAll [] (map (λ s. s.1) goes.steps) no_notes no_notes
 unfolding told_none
 told_first a x u = (told_none a x u, record { more = []; noted = refl; took = refl; wrote = refl })
 
-pub told_next : (a b d : Core) (xs : List Mail) (m : Mail) (x y z k u v w : KnownWriter) (n o : Noted) → Keeps z.bytes k.bytes → k.calls ≡ z.calls → (one : ToldAll a (all_told xs) (from_to x y) (from_to u v) b) → (t : TurnsTold b (told_of m) (from_to y z) (from_to v w) n o d) → (next : ToldAll a (all_told (xs ++ m ∷ [])) (from_to x k) (from_to u w) d) × MovesOn one next (told_of m, t.mark) t.bytes
+pub told_next : (a b d : Core) (xs : List Mail) (m : Mail) (x y z k u v w : KnownWriter) (n o : Noted) → Keeps z.bytes k.bytes → k.calls ≡ z.calls
+    → (one : ToldAll a (all_told xs) (from_to x y) (from_to u v) b) → (t : TurnsTold b (told_of m) (from_to y z) (from_to v w) n o d)
+    → (next : ToldAll a (all_told (xs ++ m ∷ [])) (from_to x k) (from_to u w) d) × MovesOn one next (told_of m, t.mark) t.bytes
 told_next a b d xs m x y z k u v w n o keeps same one t =
     let P : List Told → Type 0 = λ ms. (next : ToldAll a ms (from_to x k) (from_to u w) d) × MovesOn one next (told_of m, t.mark) t.bytes in
     let on = going_on a b d (all_told xs) (told_of m) x y z u v w n o one t in
@@ -333,7 +367,10 @@ told_next a b d xs m x y z k u v w n o keeps same one t =
     subst P (sym (map-append told_of xs (m ∷ []))) (kept.0, (kept.1 ∙ on.1.0, kept.2 ∙ on.1.1))
 
 -- whether it was told to stop, after one mail more
-pub core_told : (a b d : Core) (xs : List Mail) (x : Mail) (w s w₁ s₁ w₂ s₂ : KnownWriting) (o r : Noted) (told due now gone : Bool) (one : ToldAll a (all_told xs) w s b) (t : TurnsTold b (told_of x) w₁ s₁ o r d) (next : ToldAll a (all_told (xs ++ x ∷ [])) w₂ s₂ d) → next.marked ≡ one.marked ++ (told_of x, t.mark) ∷ [] → gone ≡ has_left Keys (xs ++ x ∷ []) → due ≡ (core_stops d.progress && not gone) → now ≡ (told || due)
+pub core_told : (a b d : Core) (xs : List Mail) (x : Mail) (w s w₁ s₁ w₂ s₂ : KnownWriting) (o r : Noted) (told due now gone : Bool)
+    (one : ToldAll a (all_told xs) w s b) (t : TurnsTold b (told_of x) w₁ s₁ o r d) (next : ToldAll a (all_told (xs ++ x ∷ [])) w₂ s₂ d)
+    → next.marked ≡ one.marked ++ (told_of x, t.mark) ∷ [] → gone ≡ has_left Keys (xs ++ x ∷ []) → due ≡ (core_stops d.progress && not gone)
+    → now ≡ (told || due)
     → ((c : Run) → LeadsTo c a → StandsTold Keys all_told (Runs c) (λ r. core_stops r.progress) xs one.marked (core_stops b.progress) told)
     → (c : Run) → LeadsTo c a → StandsTold Keys all_told (Runs c) (λ r. core_stops r.progress) (xs ++ x ∷ []) next.marked (core_stops d.progress) now
 core_told a b d xs x w s w₁ s₁ w₂ s₂ o r told due now gone one t next marks left is_due tells stands c at =
@@ -341,8 +378,11 @@ core_told a b d xs x w s w₁ s₁ w₂ s₂ o r told due now gone one t next ma
     let q = t.turn.leads p.0 p.2 in
     let B : Bool → Type 0 = λ n. StandsTold Keys all_told (Runs c) (λ r. core_stops r.progress) xs one.marked n told in
     let before = subst B (ap core_stops p.2.progress) (stands c at) in
-    let due_now : due ≡ (core_stops q.0.progress && not (has_left Keys (xs ++ x ∷ []))) = is_due ∙ ap (λ (n : Progress). core_stops n && not gone) q.2.progress ∙ ap (λ (n : Bool). core_stops q.0.progress && not n) left in
-    let after = stands_more Keys all_told (Runs c) (λ r. core_stops r.progress) xs x one.marked (told_of x, t.mark) p.0 q.0 told due now before one.whole p.1 (core_stays p.0 q.0 (told_of x) t.mark q.1) due_now tells in
-    let M : List (Told × Mark) → Type 0 = λ ms. StandsTold Keys all_told (Runs c) (λ r. core_stops r.progress) (xs ++ x ∷ []) ms (core_stops q.0.progress) now in
+    let due_now : due ≡ (core_stops q.0.progress && not (has_left Keys (xs ++ x ∷ []))) =
+    is_due ∙ ap (λ (n : Progress). core_stops n && not gone) q.2.progress ∙ ap (λ (n : Bool). core_stops q.0.progress && not n) left in
+    let after = stands_more Keys all_told (Runs c) (λ r. core_stops r.progress) xs x one.marked (told_of x, t.mark) p.0 q.0 told due now before one.whole p.1
+    (core_stays p.0 q.0 (told_of x) t.mark q.1) due_now tells in
+    let M : List (Told × Mark) → Type 0 = λ ms. StandsTold Keys all_told (Runs c) (λ r. core_stops r.progress) (xs ++ x ∷ []) ms (core_stops q.0.progress) now
+    in
     let N : Bool → Type 0 = λ n. StandsTold Keys all_told (Runs c) (λ r. core_stops r.progress) (xs ++ x ∷ []) next.marked n now in
     subst N (sym (ap core_stops q.2.progress)) (subst M (sym marks) after)

@@ -1,5 +1,6 @@
 -- Each pass counts the credits that it takes, and the thread that reads takes one for each piece.
-use Rattle.std.proofs.Common.{◌≡◌, ◌≤◌, ◌||◌, Bool, true, false, Result, Ok, Err, MatchResult, ℕ, ◌+◌, List, [], ◌∷◌, ◌++◌, Option, Some, None, refl, sym, ap, ◌∙◌, subst, arith, length, length-append, map}
+use Rattle.std.proofs.Common.{◌≡◌, ◌≤◌, ◌||◌, Bool, true, false, Result, Ok, Err, MatchResult, ℕ, ◌+◌, List, [], ◌∷◌, ◌++◌, Option, Some, None, refl, sym, ap}
+use Rattle.std.proofs.Common.{◌∙◌, subst, arith, length, length-append, map}
 use Rattle.std.proofs.lemmas.List.{map-append}
 use Rattle.crossbeam_channel.specs.Fifo.{Pushes, Pops, Forks, Learns}
 use Rattle.tn_machines.specs.declared.messages.Message.{Message}
@@ -41,7 +42,8 @@ pub taken_one : (v w : Tally) (x : Credit) → w ≡ one_taken v x → length w.
 taken_one v w x e = ap (λ (t : Tally). length t.taken) e ∙ length-append v.taken (x ∷ [])
 
 -- one at most was given, whatever was answered
-pub given_one : {U E : Type 0} (r : Result U E) (v w : Tally) (x : Credit) (P : E → Type 0) → MatchResult r (λ _. w ≡ one_given v x) (λ e. P e × (w ≡ v)) → length w.given ≤ length v.given + 1
+pub given_one : {U E : Type 0} (r : Result U E) (v w : Tally) (x : Credit) (P : E → Type 0) → MatchResult r (λ _. w ≡ one_given v x) (λ e. P e × (w ≡ v))
+    → length w.given ≤ length v.given + 1
 given_one (Ok u) v w x P e = let n = ap (λ (t : Tally). length t.given) e ∙ length-append v.given (x ∷ []) in omega (arith, n)
 given_one (Err f) v w x P e = let n = ap (λ (t : Tally). length t.given) e.1 in omega (arith, n)
 
@@ -50,7 +52,8 @@ or_one true b = grind arith
 or_one false b = grind arith
 
 -- no more are given than one, and one for each piece that was handled
-pub counts_on : (first old new pieces piece : ℕ) (owed is_piece due still : Bool) → old + owed_one owed ≤ first + 1 + pieces → owed_one is_piece ≡ piece → due ≡ (owed || is_piece) → new + owed_one still ≤ old + owed_one due → new + owed_one still ≤ first + 1 + (pieces + piece)
+pub counts_on : (first old new pieces piece : ℕ) (owed is_piece due still : Bool) → old + owed_one owed ≤ first + 1 + pieces → owed_one is_piece ≡ piece
+    → due ≡ (owed || is_piece) → new + owed_one still ≤ old + owed_one due → new + owed_one still ≤ first + 1 + (pieces + piece)
 counts_on first old new pieces piece owed is_piece due still a e d b = let c = or_one owed is_piece in let f = ap owed_one d in omega (arith, a, e, b, c, f)
 
 pub among-push : (xs : List Mail) (x : Mail) → pieces_among (xs ++ x ∷ []) ≡ pieces_among xs + piece_one x.message
@@ -69,7 +72,8 @@ taken_more n (Some a) None d p q = absurd p
 taken_more n (Some a) (Some b) None p q = absurd q
 taken_more n (Some a) (Some b) (Some d) p q = omega (arith, p, q)
 
-pub taken_piece : (ps : List (List ℕ)) (p : List ℕ) (a b d : Option CreditSeat) → HaveTaken (length ps) a b → HaveTaken 1 b d → HaveTaken (length (ps ++ p ∷ [])) a d
+pub taken_piece : (ps : List (List ℕ)) (p : List ℕ) (a b d : Option CreditSeat) → HaveTaken (length ps) a b → HaveTaken 1 b d
+    → HaveTaken (length (ps ++ p ∷ [])) a d
 taken_piece ps p a b d h one = subst (λ (n : ℕ). HaveTaken n a d) (sym (length-append ps (p ∷ []))) (taken_more (length ps) a b d h one)
 
 pieces-append : (xs ys : List Mail) → pieces_among (xs ++ ys) ≡ pieces_among xs + pieces_among ys
@@ -99,7 +103,8 @@ no_piece Left left e = refl
 no_piece (Resized s) left e = refl
 no_piece (Asked control) left e = refl
 
-counted : (who : Sender) (told : List Telling) (close : List Message) (v : View) (mails : List Mail) → v ≡ sends who (told_messages told ++ close) → pieces_among (map (mail who) close) ≡ 0 → v ≡ sender who mails → pieces_among mails ≡ length (pieces_in told)
+counted : (who : Sender) (told : List Telling) (close : List Message) (v : View) (mails : List Mail) → v ≡ sends who (told_messages told ++ close)
+    → pieces_among (map (mail who) close) ≡ 0 → v ≡ sender who mails → pieces_among mails ≡ length (pieces_in told)
 counted who told close v mails e none f =
     let all = map (mail who) (told_messages told) ++ map (mail who) close in
     let same : mails ≡ all = sender_is who mails all (sym f ∙ e ∙ ap (sender who) (map-append (mail who) (told_messages told) close)) in
@@ -109,17 +114,23 @@ as_many : (n m : ℕ) (a b : Option CreditSeat) → n ≡ m → HaveTaken m a b 
 as_many n m a b e h = subst (λ (k : ℕ). HaveTaken k a b) (sym e) h
 
 -- the reading ended
-pub paid_ends : (who : Sender) (told : List Telling) (last : Message) (left : Option (List ℕ)) (v w u : View) (a b : Option CreditSeat) → IsEnding last left → HaveTaken (length (pieces_in told)) a b → v ≡ sends who (told_messages told) → Says who last v w → Says who Left w u → (mails : List Mail) → u ≡ sender who mails → HaveTaken (pieces_among mails) a b
+pub paid_ends : (who : Sender) (told : List Telling) (last : Message) (left : Option (List ℕ)) (v w u : View) (a b : Option CreditSeat) → IsEnding last left
+    → HaveTaken (length (pieces_in told)) a b → v ≡ sends who (told_messages told) → Says who last v w → Says who Left w u → (mails : List Mail)
+    → u ≡ sender who mails → HaveTaken (pieces_among mails) a b
 paid_ends who told last left v w u a b ending taken old one two mails e =
     let whole = said_two who (told_messages told) last Left v w u old one two in
-    as_many (pieces_among mails) (length (pieces_in told)) a b (counted who told (last ∷ Left ∷ []) u mails whole (omega (arith, no_piece last left ending)) e) taken
+    as_many (pieces_among mails) (length (pieces_in told)) a b (counted who told (last ∷ Left ∷ []) u mails whole (omega (arith, no_piece last left ending)) e)
+    taken
 
 -- it was stopped after a piece
-pub paid_stops : (who : Sender) (told : List Telling) (p : List ℕ) (v w u : View) (a b d : Option CreditSeat) → HaveTaken (length (pieces_in told)) a b → HaveTaken 1 b d → v ≡ sends who (told_messages told) → Says who (Piece p) v w → Says who Left w u → (mails : List Mail) → u ≡ sender who mails → HaveTaken (pieces_among mails) a d
+pub paid_stops : (who : Sender) (told : List Telling) (p : List ℕ) (v w u : View) (a b d : Option CreditSeat) → HaveTaken (length (pieces_in told)) a b
+    → HaveTaken 1 b d → v ≡ sends who (told_messages told) → Says who (Piece p) v w → Says who Left w u → (mails : List Mail) → u ≡ sender who mails
+    → HaveTaken (pieces_among mails) a d
 paid_stops who told p v w u a b d taken one_more old one two mails e =
     let all = told ++ piece_told p ∷ [] in
     let whole = said who (told_messages all) Left w u (said_piece who told p v w old one) two in
-    let count : pieces_among mails ≡ length (pieces_in told) + 1 = counted who all (Left ∷ []) u mails whole refl e ∙ ap length (pieces-push told p) ∙ length-append (pieces_in told) (p ∷ []) in
+    let count : pieces_among mails ≡ length (pieces_in told) + 1 =
+    counted who all (Left ∷ []) u mails whole refl e ∙ ap length (pieces-push told p) ∙ length-append (pieces_in told) (p ∷ []) in
     as_many (pieces_among mails) (length (pieces_in told) + 1) a d count (taken_more (length (pieces_in told)) a b d taken one_more)
 
 -- CREDITS FOR STEPS
@@ -147,7 +158,9 @@ count_steps [] = refl
 count_steps (s ∷ ss) = omega (arith, count_steps ss)
 
 -- it used one for each step that it said
-pub used_for : (ss : List (JobId × Reaction)) (close : List Message) (v : View) (a b : StepCredits) → HaveUsed (length ss) a b → v ≡ sender Back (map (mail Back) (map step_said ss ++ close)) → steps_among (map (mail Back) close) ≡ 0 → (mails : List Mail) → v ≡ sender Back mails → HaveUsed (steps_among mails) a b
+pub used_for : (ss : List (JobId × Reaction)) (close : List Message) (v : View) (a b : StepCredits) → HaveUsed (length ss) a b
+    → v ≡ sender Back (map (mail Back) (map step_said ss ++ close)) → steps_among (map (mail Back) close) ≡ 0 → (mails : List Mail) → v ≡ sender Back mails
+    → HaveUsed (steps_among mails) a b
 used_for ss close v a b used is none mails e =
     let all = map (mail Back) (map step_said ss) ++ map (mail Back) close in
     let same : mails ≡ all = sender_is Back mails all (sym e ∙ is ∙ ap (sender Back) (map-append (mail Back) (map step_said ss) close)) in

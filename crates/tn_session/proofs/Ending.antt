@@ -1,5 +1,6 @@
 -- What the run heard of the reader, and what the foreground job took where a hang-up ended the session.
-use Rattle.std.proofs.Common.{◌≡◌, ℕ, Bool, true, false, ◌&&◌, length, List, [], ◌∷◌, ◌++◌, Option, Some, None, refl, sym, ap, ◌∙◌, ⊎_elim, map, subst, append-nil, append_assoc}
+use Rattle.std.proofs.Common.{◌≡◌, ℕ, Bool, true, false, ◌&&◌, length, List, [], ◌∷◌, ◌++◌, Option, Some, None, refl, sym, ap, ◌∙◌, ⊎_elim, map, subst}
+use Rattle.std.proofs.Common.{append-nil, append_assoc}
 use Rattle.std.proofs.lemmas.List.{append_cancel_left}
 use Rattle.std.specs.Io.KnownBytes.{Consumes, IsAtEnd, prepend_known}
 use Rattle.std.specs.List.{concat}
@@ -103,7 +104,8 @@ record OfNet (at_end : Bool) (mails : List Mail) : Type 0 where
   may : MayAllCome at_end (messages_of mails)
   bytes : heard (messages_of mails) ≡ heard (messages_of (from Net mails))
 
-of_net_next : (at_end : Bool) (x : Mail) (xs : List Mail) → Others (x ∷ xs) → ((b : Bool) → MayAllCome b (messages_of (from Net xs)) → OfNet b xs) → MayAllCome at_end (messages_of (from Net (x ∷ xs))) → OfNet at_end (x ∷ xs)
+of_net_next : (at_end : Bool) (x : Mail) (xs : List Mail) → Others (x ∷ xs) → ((b : Bool) → MayAllCome b (messages_of (from Net xs)) → OfNet b xs)
+    → MayAllCome at_end (messages_of (from Net (x ∷ xs))) → OfNet at_end (x ∷ xs)
 of_net_next at_end x xs others more may = by (same x.from Net) refl
   where
     by : (b : Bool) → same x.from Net ≡ b → OfNet at_end (x ∷ xs)
@@ -115,12 +117,14 @@ of_net_next at_end x xs others more may = by (same x.from Net) refl
           bytes = ap (λ (bs : List ℕ). bytes_in x.message ++ bs) on.bytes ∙ ap (λ (l : List Mail). heard (messages_of l)) (sym (from_hit Net x xs is));
         }
     by false is =
-        let here : NoneOfNet (messages_of (x ∷ from x.from xs)) = subst (λ (l : List Mail). NoneOfNet (messages_of l)) (from_hit x.from x xs (same_self x.from)) (others x.from is) in
+        let here : NoneOfNet (messages_of (x ∷ from x.from xs)) =
+        subst (λ (l : List Mail). NoneOfNet (messages_of l)) (from_hit x.from x xs (same_self x.from)) (others x.from is) in
         let q = brings_nothing at_end x.message here.0 in
         let on = more at_end (subst (λ (l : List Mail). MayAllCome at_end (messages_of l)) (from_miss Net x xs is) may) in
         record {
           may = (q.may, subst (λ (b : Bool). MayAllCome b (messages_of xs)) (sym q.after) on.may);
-          bytes = ap (λ (bs : List ℕ). bs ++ heard (messages_of xs)) q.bytes ∙ on.bytes ∙ ap (λ (l : List Mail). heard (messages_of l)) (sym (from_miss Net x xs is));
+          bytes = ap (λ (bs : List ℕ). bs ++ heard (messages_of xs)) q.bytes ∙ on.bytes
+              ∙ ap (λ (l : List Mail). heard (messages_of l)) (sym (from_miss Net x xs is));
         }
 
 of_net : (at_end : Bool) (mails : List Mail) → Others mails → MayAllCome at_end (messages_of (from Net mails)) → OfNet at_end mails
@@ -142,7 +146,8 @@ net_may [] Left left e = absurd e
 net_may [] (Resized s) left e = absurd e
 net_may [] (Asked control) left e = absurd e
 
-net_bytes : (told : List Telling) (last : Message) (left : Option (List ℕ)) → IsEnding last left → heard (told_messages told ++ last ∷ Left ∷ []) ≡ concat (pieces_in told)
+net_bytes : (told : List Telling) (last : Message) (left : Option (List ℕ)) → IsEnding last left
+    → heard (told_messages told ++ last ∷ Left ∷ []) ≡ concat (pieces_in told)
 net_bytes (piece_told p ∷ told) last left e = ap (λ (bs : List ℕ). p ++ bs) (net_bytes told last left e)
 net_bytes (size_told s ∷ told) last left e = net_bytes told last left e
 net_bytes (control_told c ∷ told) last left e = net_bytes told last left e
@@ -178,7 +183,8 @@ messages-map s [] = refl
 messages-map s (m ∷ ms) = ap (λ (l : List Message). m ∷ l) (messages-map s ms)
 
 -- the messages of a sender, of what was handled
-pub messages_from : (s : Sender) (v : View) (mails handled : List Mail) (ms : List Message) → v ≡ sender s mails → v ≡ sender s (map (mail s) ms) → from s handled ≡ mails → messages_of (from s handled) ≡ ms
+pub messages_from : (s : Sender) (v : View) (mails handled : List Mail) (ms : List Message) → v ≡ sender s mails → v ≡ sender s (map (mail s) ms)
+    → from s handled ≡ mails → messages_of (from s handled) ≡ ms
 messages_from s v mails handled ms e f is =
     let same : mails ≡ map (mail s) ms = some_is mails (map (mail s) ms) (sym (sender_share s mails v e) ∙ sender_share s (map (mail s) ms) v f) in
     ap messages_of (is ∙ same) ∙ messages-map s ms
@@ -203,13 +209,15 @@ not_done id (t ∷ []) more e k = k.1.0 e refl
 not_done id (t ∷ u ∷ us) more e k = not_done id (u ∷ us) more e k.1.1
 
 -- and the desk left because the end came
-at_end_of : (id : JobId) (refuses : Entry → Type 0) (turns : List (Entry × Reaction)) (v : View) (w : EntryHand) → Closes id refuses turns v w → ((ms : List Message) → v ≡ sender Desk (map (mail Desk) ms) → AllKeepOn id.0 ms) → w ≡ taker (entries_of turns ++ None ∷ [])
+at_end_of : (id : JobId) (refuses : Entry → Type 0) (turns : List (Entry × Reaction)) (v : View) (w : EntryHand) → Closes id refuses turns v w
+    → ((ms : List Message) → v ≡ sender Desk (map (mail Desk) ms) → AllKeepOn id.0 ms) → w ≡ taker (entries_of turns ++ None ∷ [])
 at_end_of id refuses turns v w c keeps =
     ⊎_elim
     (λ x. x.1)
     (λ y. ⊎_elim
     (λ x. absurd (not_done id turns (Left ∷ []) x.2 (keeps _ x.0)))
-    (λ x. absurd (keep_last id.0 (turns_said id turns ++ Take ∷ []) Refused (Left ∷ []) (subst (AllKeepOn id.0) (sym (append_assoc (turns_said id turns) (Take ∷ []) (Refused ∷ Left ∷ []))) (keeps _ x.1))))
+    (λ x. absurd (keep_last id.0 (turns_said id turns ++ Take ∷ []) Refused (Left ∷ [])
+    (subst (AllKeepOn id.0) (sym (append_assoc (turns_said id turns) (Take ∷ []) (Refused ∷ Left ∷ []))) (keeps _ x.1))))
     y)
     c
 
@@ -223,7 +231,8 @@ put_given (e ∷ es) = ap (λ (l : List Entry). e ∷ l) (put_given es)
 
 -- THE BYTES
 
-consumes_front : (given left : Option (List ℕ)) (bytes front rest : List ℕ) → bytes ≡ front ++ rest → Consumes given left bytes → Consumes given (prepend_known rest left) front
+consumes_front : (given left : Option (List ℕ)) (bytes front rest : List ℕ) → bytes ≡ front ++ rest → Consumes given left bytes
+    → Consumes given (prepend_known rest left) front
 consumes_front None left bytes front rest e c = tt
 consumes_front (Some xs) None bytes front rest e c = absurd c
 consumes_front (Some xs) (Some ys) bytes front rest e c = c ∙ ap (λ (bs : List ℕ). bs ++ ys) e ∙ append_assoc front rest ys
@@ -247,7 +256,8 @@ net_at_end id (Resized s) left e k = absurd e
 net_at_end id (Asked control) left e k = absurd e
 
 -- what the left bytes leave of the known ones
-known_left : (bytes stream : List ℕ) (left : Option (List ℕ)) → Consumes (Some bytes) left stream → (rest : List ℕ) × (bytes ≡ stream ++ rest) × (IsAtEnd left → rest ≡ [])
+known_left : (bytes stream : List ℕ) (left : Option (List ℕ)) → Consumes (Some bytes) left stream → (rest : List ℕ) × (bytes ≡ stream ++ rest)
+    × (IsAtEnd left → rest ≡ [])
 known_left bytes stream None c = absurd c
 known_left bytes stream (Some rest) c = (rest, c, λ at. at)
 
@@ -257,7 +267,8 @@ heard_of_mails : (xs : List Mail) → heard (messages_of xs) ≡ bytes_sent xs
 heard_of_mails [] = refl
 heard_of_mails (x ∷ xs) = ap (λ (l : List ℕ). bytes_in x.message ++ l) (heard_of_mails xs)
 
-module _ {J : Type 0} {facts : JobActs J} {jobs : SessionJobs J} {settings : TermSettings} {table : Jobs} {reader : KnownReader} {writer : KnownWriting} {result : SessionResult}
+module _ {J : Type 0} {facts : JobActs J} {jobs : SessionJobs J} {settings : TermSettings} {table : Jobs} {reader : KnownReader} {writer : KnownWriting}
+    {result : SessionResult}
     (s : Schedule {J = J} facts jobs settings table reader writer result) where
   abbrev pub messages : List Message
   messages = map (λ m. m.0) s.marked
@@ -268,13 +279,15 @@ module _ {J : Type 0} {facts : JobActs J} {jobs : SessionJobs J} {settings : Ter
       none_by : (ms : List Message) → NoneOfNet ms → result.views.desk ≡ sender Desk (map (mail Desk) ms) → NoneOfNet (messages_of (from Desk s.handled))
       none_by ms n is = subst NoneOfNet (sym (messages_from Desk result.views.desk s.from_desk s.handled ms s.desk_is is (s.woven Desk))) n
 
-      closed : (refuses : Entry → Type 0) (turns : List (Entry × Reaction)) → Closes jobs.first refuses turns result.views.desk result.views.took → NoneOfNet (messages_of (from Desk s.handled))
+      closed : (refuses : Entry → Type 0) (turns : List (Entry × Reaction)) → Closes jobs.first refuses turns result.views.desk result.views.took
+          → NoneOfNet (messages_of (from Desk s.handled))
       closed refuses turns c =
           ⊎_elim
           (λ x. none_by _ (none-append (turns_said jobs.first turns) (Take ∷ Left ∷ []) (none_of_turns jobs.first turns) (refl, (refl, tt))) x.0)
           (λ y. ⊎_elim
           (λ x. none_by _ (none-append (turns_said jobs.first turns) (Left ∷ []) (none_of_turns jobs.first turns) (refl, tt)) x.0)
-          (λ x. none_by _ (none-append (turns_said jobs.first turns) (Take ∷ Refused ∷ Left ∷ []) (none_of_turns jobs.first turns) (refl, (refl, (refl, tt)))) x.1)
+          (λ x. none_by _ (none-append (turns_said jobs.first turns) (Take ∷ Refused ∷ Left ∷ []) (none_of_turns jobs.first turns) (refl, (refl, (refl, tt))))
+          x.1)
           y)
           c
 
@@ -283,7 +296,8 @@ module _ {J : Type 0} {facts : JobActs J} {jobs : SessionJobs J} {settings : Ter
       let said = map step_said s.stepped.0 in
       let close = s.stepped.1 in
       subst NoneOfNet (sym (messages_from Back result.views.back s.from_back s.handled (said ++ close) s.back_is s.stepped.2 (s.woven Back)))
-      (none-append said close (none_of_steps s.stepped.0) (none_of_close close (is_close (Holds jobs.queue) facts s.stopped s.stepped.0 close s.stepped.6 s.stepped.8)))
+      (none-append said close (none_of_steps s.stepped.0) (none_of_close close
+      (is_close (Holds jobs.queue) facts s.stopped s.stepped.0 close s.stepped.6 s.stepped.8)))
     where
       none_of_close : (close : List Message) → IsClose close → NoneOfNet close
       none_of_close close c = ⊎_elim (λ e. subst NoneOfNet (sym e) (refl, tt)) (λ e. subst NoneOfNet (sym e) (refl, (refl, tt))) c
@@ -320,7 +334,8 @@ module _ {J : Type 0} {facts : JobActs J} {jobs : SessionJobs J} {settings : Ter
       ap heard s.messages ∙ nets.bytes ∙ ap (λ (l : List Mail). heard (messages_of l)) (s.woven Net) ∙ heard_of_mails s.from_net
       ∙ sym (ap (λ (v : View). came_by v.net) s.net_is)
 
-  pub heard_of_reader : Hears settings.canon settings.editing messages s.run → (result.report.ended ≡ ended.HangUp → HangsUp jobs.first.0 messages s.run) → HearsReader reader.bytes result.report.ended s.run
+  pub heard_of_reader : Hears settings.canon settings.editing messages s.run → (result.report.ended ≡ ended.HangUp → HangsUp jobs.first.0 messages s.run)
+      → HearsReader reader.bytes result.report.ended s.run
   heard_of_reader h hung = record {
     left = prepend_known h.unheard s.read.1;
     consumed = consumes_front reader.bytes s.read.1 (concat (pieces_in s.read.0)) s.run.stream h.unheard (sym all_pieces ∙ h.stream_first) s.read.3;
@@ -328,7 +343,8 @@ module _ {J : Type 0} {facts : JobActs J} {jobs : SessionJobs J} {settings : Ter
         let u = hung e in
         let keeps = keep_from jobs.first.0 Net s.handled (subst (AllKeepOn jobs.first.0) s.messages u.kept_on) in
         let last = keep_last jobs.first.0 (told_messages s.read.0) net_end.0 (Left ∷ []) (subst (AllKeepOn jobs.first.0) net_said keeps) in
-        at_end_still s.read.1 h.unheard (none_unheard s.run.stream h.unheard (heard messages) h.stream_first u.all_heard) (net_at_end jobs.first.0 net_end.0 s.read.1 net_end.1.0 last);
+        at_end_still s.read.1 h.unheard (none_unheard s.run.stream h.unheard (heard messages) h.stream_first u.all_heard)
+        (net_at_end jobs.first.0 net_end.0 s.read.1 net_end.1.0 last);
     read = h.read;
   }
 
@@ -337,15 +353,20 @@ module _ {J : Type 0} {facts : JobActs J} {jobs : SessionJobs J} {settings : Ter
   took_all u =
       let keeps = keep_from jobs.first.0 Desk s.handled (subst (AllKeepOn jobs.first.0) s.messages u.kept_on) in
       let turns = s.talked.0 in
-      let is : result.views.took ≡ taker (entries_of turns ++ None ∷ []) = at_end_of jobs.first (λ e. facts.refuses s.talked.2 (Some e)) turns result.views.desk result.views.took s.talked.5 (λ ms e. subst (AllKeepOn jobs.first.0) (messages_from Desk result.views.desk s.from_desk s.handled ms s.desk_is e (s.woven Desk)) keeps) in
+      let is : result.views.took ≡ taker (entries_of turns ++ None ∷ []) =
+      at_end_of jobs.first (λ e. facts.refuses s.talked.2 (Some e)) turns result.views.desk result.views.took s.talked.5
+      (λ ms e. subst (AllKeepOn jobs.first.0) (messages_from Desk result.views.desk s.from_desk s.handled ms s.desk_is e (s.woven Desk)) keeps) in
       let given_entries = map (λ t. t.0) turns in
       let took_is : s.taken ≡ map (λ e. Some e) given_entries ++ None ∷ [] =
       some_is s.taken _ (ap (λ (h : EntryHand). h.taken) (sym s.took_is ∙ is)) ∙ ap (λ (es : List (Option Entry)). es ++ None ∷ []) (entries_given turns) in
       let puts : s.run.puts ≡ map (λ e. Some e) given_entries ++ None ∷ s.took_first.0 =
-      sym s.took_first.1 ∙ ap (λ (es : List (Option Entry)). es ++ s.took_first.0) took_is ∙ append_assoc (map (λ e. Some e) given_entries) (None ∷ []) s.took_first.0 in
+      sym s.took_first.1 ∙ ap (λ (es : List (Option Entry)). es ++ s.took_first.0) took_is
+      ∙ append_assoc (map (λ e. Some e) given_entries) (None ∷ []) s.took_first.0 in
       ap entries_put took_is ∙ put_given given_entries ∙ u.all_put given_entries s.took_first.0 puts
 
-  pub takes_entries : Hears settings.canon settings.editing messages s.run → HearsReader reader.bytes result.report.ended s.run → GivesPrefix s.taken s.run.history → (result.report.ended ≡ ended.HangUp → entries_put s.taken ≡ entries s.run.history) → TakesEntries settings reader.bytes result.report.ended s.taken
+  pub takes_entries : Hears settings.canon settings.editing messages s.run → HearsReader reader.bytes result.report.ended s.run
+      → GivesPrefix s.taken s.run.history → (result.report.ended ≡ ended.HangUp → entries_put s.taken ≡ entries s.run.history)
+      → TakesEntries settings reader.bytes result.report.ended s.taken
   takes_entries h r front all bytes xs known read =
       let had = items s.run.history in
       let k = known_left bytes s.run.stream r.left (subst (λ (g : Option (List ℕ)). Consumes g r.left s.run.stream) known r.consumed) in
@@ -357,7 +378,8 @@ module _ {J : Type 0} {facts : JobActs J} {jobs : SessionJobs J} {settings : Ter
         ),
         λ e.
             let none = k.2 (r.all e) in
-            let same : IsRead s.run.stream xs = subst (λ (bs : List ℕ). IsRead bs xs) (ap (λ (bs : List ℕ). s.run.stream ++ bs) none ∙ append-nil s.run.stream) whole in
+            let same : IsRead s.run.stream xs = subst (λ (bs : List ℕ). IsRead bs xs)
+            (ap (λ (bs : List ℕ). s.run.stream ++ bs) none ∙ append-nil s.run.stream) whole in
             all e ∙ h.entries_are ∙ sym (entries_same settings.canon settings.editing s.run.stream had xs r.read same),
       )
 
@@ -368,7 +390,8 @@ module _ {J : Type 0} {facts : JobActs J} {jobs : SessionJobs J} {settings : Ter
       let who = failure_from s.handled (subst HasFailure s.messages told) in
       by who.0 who.1
     where
-      cause_of : (last : Message) → last ≡ ReadFailed → IsReadCause reader.failures (length (pieces_in s.read.0)) last → WillFail max_reads (length (pieces_in s.read.0)) reader.failures
+      cause_of : (last : Message) → last ≡ ReadFailed → IsReadCause reader.failures (length (pieces_in s.read.0)) last
+          → WillFail max_reads (length (pieces_in s.read.0)) reader.failures
       cause_of last e cause = subst (λ (m : Message). IsReadCause reader.failures (length (pieces_in s.read.0)) m) e cause
 
       by : (r : Sender) → HasFailure (messages_of (from r s.handled)) → WillFail max_reads (length (pieces_in s.read.0)) reader.failures
@@ -381,4 +404,5 @@ module _ {J : Type 0} {facts : JobActs J} {jobs : SessionJobs J} {settings : Ter
   pub write_cause : (c : Run) → IsFaultCause s.wrote_opening c s.marked fault.Write → SomeFailed max_writes writer.before.calls writer.after.calls
   write_cause c why =
       some_failed max_writes (s.wrote_opening && no_writes_failed s.marked) writer.before.calls writer.after.calls s.tells
-      (⊎_elim (λ e. ap (λ (b : Bool). b && no_writes_failed s.marked) e) (λ r. never_and s.wrote_opening (no_writes_failed s.marked) (write_failed s.marked r.before r.last r.after r.whole r.ends)) why)
+      (⊎_elim (λ e. ap (λ (b : Bool). b && no_writes_failed s.marked) e)
+      (λ r. never_and s.wrote_opening (no_writes_failed s.marked) (write_failed s.marked r.before r.last r.after r.whole r.ends)) why)

@@ -21,7 +21,8 @@ pub open_finished : (a b c : Option Sending) → StaysOpen a b → IsFinished b 
 open_finished a b c one two e = two (one e)
 
 -- one message more: nothing is written once nothing more is sent
-pub stands_next : (closes closed told done now : Bool) (first old mid new : Option Sending) → StandsAt closed done first old → StaysOpen old mid → (done ≡ true → mid ≡ old) → (done ≡ true → now ≡ true) → closes ≡ now → Closes closes closed told mid new → StandsAt told now first new
+pub stands_next : (closes closed told done now : Bool) (first old mid new : Option Sending) → StandsAt closed done first old → StaysOpen old mid
+    → (done ≡ true → mid ≡ old) → (done ≡ true → now ≡ true) → closes ≡ now → Closes closes closed told mid new → StandsAt told now first new
 stands_next closes true told done now first old mid new at more silent stays by c =
     let P : Bool → Type 0 = λ t. StandsAt t now first new in
     subst P (sym c.0) (λ e. c.1 ∙ silent at.1 ∙ at.0 e, stays at.1)
@@ -33,7 +34,8 @@ stands_next false false told done now first old mid new at more silent stays by 
     subst P (sym c.0) (λ e. c.1 ∙ more (at e))
 
 -- at the end it was told
-pub stands_last : (closed done : Bool) (first old new : Option Sending) → StandsAt closed done first old → Closes true closed true old new → IsFinished first new
+pub stands_last : (closed done : Bool) (first old new : Option Sending) → StandsAt closed done first old → Closes true closed true old new
+    → IsFinished first new
 stands_last true done first old new at c e = c.1 ∙ at.0 e
 stands_last false done first old new at c e = c.1 ∙ ap finished_on (at e)
 

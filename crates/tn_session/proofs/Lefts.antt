@@ -12,8 +12,10 @@ lefts-append [] b = omega arith
 lefts-append (x ∷ xs) b = let ih = lefts-append xs b in omega arith
 
 -- the Lefts of all are those of each sender
-one_each : (f : Sender) (n a b c d : ℕ) (na nb nc nd : ℕ) → (same f Net ≡ true → na ≡ n + a) → (same f Net ≡ false → na ≡ a) → (same f Desk ≡ true → nb ≡ n + b) → (same f Desk ≡ false → nb ≡ b)
-    → (same f Back ≡ true → nc ≡ n + c) → (same f Back ≡ false → nc ≡ c) → (same f Keys ≡ true → nd ≡ n + d) → (same f Keys ≡ false → nd ≡ d) → na + nb + nc + nd ≡ n + (a + b + c + d)
+one_each : (f : Sender) (n a b c d : ℕ) (na nb nc nd : ℕ) → (same f Net ≡ true → na ≡ n + a) → (same f Net ≡ false → na ≡ a) → (same f Desk ≡ true → nb ≡ n + b)
+    → (same f Desk ≡ false → nb ≡ b)
+    → (same f Back ≡ true → nc ≡ n + c) → (same f Back ≡ false → nc ≡ c) → (same f Keys ≡ true → nd ≡ n + d) → (same f Keys ≡ false → nd ≡ d)
+    → na + nb + nc + nd ≡ n + (a + b + c + d)
 one_each Net n a b c d na nb nc nd a1 a0 b1 b0 c1 c0 d1 d0 = let x = a1 refl in let y = b0 refl in let z = c0 refl in let w = d0 refl in omega arith
 one_each Desk n a b c d na nb nc nd a1 a0 b1 b0 c1 c0 d1 d0 = let x = a0 refl in let y = b1 refl in let z = c0 refl in let w = d0 refl in omega arith
 one_each Back n a b c d na nb nc nd a1 a0 b1 b0 c1 c0 d1 d0 = let x = a0 refl in let y = b0 refl in let z = c1 refl in let w = d0 refl in omega arith
@@ -27,8 +29,10 @@ lefts_else s x xs is = rw is refl
 
 pub lefts_each : (xs : List Mail) → lefts_of (from Net xs) + lefts_of (from Desk xs) + lefts_of (from Back xs) + lefts_of (from Keys xs) ≡ lefts_of xs
 lefts_each [] = omega arith
-lefts_each (x ∷ xs) = one_each x.from (left_one x.message) (lefts_of (from Net xs)) (lefts_of (from Desk xs)) (lefts_of (from Back xs)) (lefts_of (from Keys xs)) _ _ _ _
-    (lefts_here Net x xs) (lefts_else Net x xs) (lefts_here Desk x xs) (lefts_else Desk x xs) (lefts_here Back x xs) (lefts_else Back x xs) (lefts_here Keys x xs) (lefts_else Keys x xs)
+lefts_each (x ∷ xs) = one_each x.from (left_one x.message) (lefts_of (from Net xs)) (lefts_of (from Desk xs)) (lefts_of (from Back xs))
+    (lefts_of (from Keys xs)) _ _ _ _
+    (lefts_here Net x xs) (lefts_else Net x xs) (lefts_here Desk x xs) (lefts_else Desk x xs) (lefts_here Back x xs) (lefts_else Back x xs)
+    (lefts_here Keys x xs) (lefts_else Keys x xs)
     ∙ ap (λ (n : ℕ). left_one x.message + n) (lefts_each xs)
 
 -- a list that is empty, or ends in its one Left
@@ -67,14 +71,17 @@ nothing_left : (h items : List Mail) (sent : Sender → List Mail) → Interleav
 nothing_left h [] sent woven ends count = refl
 nothing_left h (x ∷ xs) sent woven ends count =
     let s : Sender = x.from in
-    let split : from s (h ++ x ∷ xs) ≡ from s h ++ x ∷ from s xs = from-append s h (x ∷ xs) ∙ ap (λ (l : List Mail). from s h ++ l) (from_here x xs (same_self s)) in
+    let split : from s (h ++ x ∷ xs) ≡ from s h ++ x ∷ from s xs =
+    from-append s h (x ∷ xs) ∙ ap (λ (l : List Mail). from s h ++ l) (from_here x xs (same_self s)) in
     let here : 0 < lefts_of (x ∷ from s xs) = tail_left (from s h) x (from s xs) (subst EndsLeft (sym (woven s) ∙ split) (ends s)) in
     let part : lefts_of (from s xs) ≤ lefts_of xs = part_of s xs in
     let all : lefts_of (sent Net) + lefts_of (sent Desk) + lefts_of (sent Back) + lefts_of (sent Keys) ≡ lefts_of (h ++ x ∷ xs) =
-    (λ i. lefts_of (sym (woven Net) i) + lefts_of (sym (woven Desk) i) + lefts_of (sym (woven Back) i) + lefts_of (sym (woven Keys) i)) ∙ lefts_each (h ++ x ∷ xs) in
+    (λ i. lefts_of (sym (woven Net) i) + lefts_of (sym (woven Desk) i) + lefts_of (sym (woven Back) i) + lefts_of (sym (woven Keys) i))
+    ∙ lefts_each (h ++ x ∷ xs) in
     absurd (omega (arith, lefts-append h (x ∷ xs), all, count, here, part))
 
-pub none_over : (h items a b c d : List Mail) → Interleaves (h ++ items) (four a b c d) → EndsLeft a → EndsLeft b → EndsLeft c → EndsLeft d → lefts_of a + lefts_of b + lefts_of c + lefts_of d ≤ lefts_of h → items ≡ []
+pub none_over : (h items a b c d : List Mail) → Interleaves (h ++ items) (four a b c d) → EndsLeft a → EndsLeft b → EndsLeft c → EndsLeft d
+    → lefts_of a + lefts_of b + lefts_of c + lefts_of d ≤ lefts_of h → items ≡ []
 none_over h items a b c d woven ea eb ec ed enough = nothing_left h items (four a b c d) woven ends enough
   where
     ends : (s : Sender) → EndsLeft (four a b c d s)

@@ -1,12 +1,14 @@
 -- Each step of the mailbox keeps its rule.
-use Rattle.std.proofs.Common.{◌≡◌, ◌⊎◌, ℕ, Bool, true, false, List, [], ◌∷◌, ◌++◌, Option, Some, None, refl, sym, ap, ◌∙◌, subst, inl, inr, append_assoc, append-nil}
+use Rattle.std.proofs.Common.{◌≡◌, ◌⊎◌, ℕ, Bool, true, false, List, [], ◌∷◌, ◌++◌, Option, Some, None, refl, sym, ap, ◌∙◌, subst, inl, inr, append_assoc}
+use Rattle.std.proofs.Common.{append-nil}
 use Rattle.tn_session.specs.declared.mail.Sender.{Sender}
 use Rattle.tn_session.specs.declared.mail.Sender.TheVariants.{Net, Desk, Back, Keys}
 use Rattle.tn_session.specs.declared.mail.Mail.{Mail}
 use Rattle.tn_session.specs.declared.channels.View.{View}
 use Rattle.crossbeam_channel.specs.Fifo.{Pushes, Pops, Forks, Merges, Learns}
 use Rattle.tn_streams.specs.Seats.{Kept}
-use Rattle.tn_session.specs.Mailbox.{same, from, Interleaves, share, Woven, add, grown, grown_at, handed, nobody, everyone, union, either, Total, sender, with_handled, four}
+use Rattle.tn_session.specs.Mailbox.{same, from, Interleaves, share, Woven, add, grown, grown_at, handed, nobody, everyone, union, either, Total, sender}
+use Rattle.tn_session.specs.Mailbox.{with_handled, four}
 use Rattle.tn_streams.proofs.lemmas.Seats.{or_held, same_held, begins, learns, moves, Cuts, forks, merges}
 
 pub same_true : (a b : Sender) → same a b ≡ true → a ≡ b
@@ -70,15 +72,19 @@ grown_role f v x (Some s) l e = at_test (same f s) refl
   where
     at_test : (t : Bool) → same f s ≡ t → (k : List Mail) × (share v (Some s) ≡ Some k)
     at_test true is = let eq : f ≡ s = same_true f s is in
-        subst (λ (z : Sender). (k : List Mail) × (share v (Some z) ≡ Some k)) eq (add_role (share v (Some f)) x l (sym (grown_here f v x) ∙ subst (λ (z : Sender). share (grown_at f v x) (Some z) ≡ Some l) (sym eq) e))
+        subst (λ (z : Sender). (k : List Mail) × (share v (Some z) ≡ Some k)) eq
+        (add_role (share v (Some f)) x l (sym (grown_here f v x) ∙ subst (λ (z : Sender). share (grown_at f v x) (Some z) ≡ Some l) (sym eq) e))
     at_test false is = (l, sym (grown_else f s v x is) ∙ e)
 
 -- the interleaving after a send
-sent_woven : (v : View) (x : Mail) (l : List Mail) → share v (Some x.from) ≡ Some l → (items : List Mail) (held : Option Sender → List Mail) → ((r : Option Sender) (k : List Mail) → share v r ≡ Some k → k ≡ held r) → Woven items held
+sent_woven : (v : View) (x : Mail) (l : List Mail) → share v (Some x.from) ≡ Some l → (items : List Mail) (held : Option Sender → List Mail)
+    → ((r : Option Sender) (k : List Mail) → share v r ≡ Some k → k ≡ held r) → Woven items held
     → Woven (items ++ x ∷ []) (λ r. or_held (share (grown v x) r) (held r))
 sent_woven v x l mine items held agrees woven s =
-    let core : or_held (share (grown v x) None) (held None) ≡ held None = ap (λ (o : Option (List Mail)). or_held o (held None)) (grown_core x.from v x) ∙ same_held (share v None) (held None) (agrees None) in
-    let split : from s (held None ++ (items ++ x ∷ [])) ≡ from s (held None ++ items) ++ from s (x ∷ []) = ap (from s) (sym (append_assoc (held None) items (x ∷ []))) ∙ from-append s (held None ++ items) (x ∷ []) in
+    let core : or_held (share (grown v x) None) (held None) ≡ held None =
+    ap (λ (o : Option (List Mail)). or_held o (held None)) (grown_core x.from v x) ∙ same_held (share v None) (held None) (agrees None) in
+    let split : from s (held None ++ (items ++ x ∷ [])) ≡ from s (held None ++ items) ++ from s (x ∷ []) =
+    ap (from s) (sym (append_assoc (held None) items (x ∷ []))) ∙ from-append s (held None ++ items) (x ∷ []) in
     let rest : from s (held None ++ items) ++ from s (x ∷ []) ≡ or_held (share (grown v x) (Some s)) (held (Some s)) = at_test (same x.from s) refl in
     ap (λ (h : List Mail). from s (h ++ (items ++ x ∷ []))) core ∙ split ∙ rest
   where
@@ -87,16 +93,25 @@ sent_woven v x l mine items held agrees woven s =
         let eq : x.from ≡ s = same_true x.from s is in
         let one : from s (x ∷ []) ≡ x ∷ [] = rw is refl in
         let here : share v (Some s) ≡ Some l = subst (λ (z : Sender). share v (Some z) ≡ Some l) eq mine in
-        let new : share (grown v x) (Some s) ≡ Some (l ++ x ∷ []) = subst (λ (z : Sender). share (grown v x) (Some z) ≡ add (share v (Some z)) x) eq (grown_here x.from v x) ∙ ap (λ (o : Option (List Mail)). add o x) here in
-        ap (λ (k : List Mail). from s (held None ++ items) ++ k) one ∙ ap (λ (k : List Mail). k ++ x ∷ []) (woven s ∙ sym (agrees (Some s) l here)) ∙ sym (ap (λ (o : Option (List Mail)). or_held o (held (Some s))) new)
+        let new : share (grown v x) (Some s) ≡ Some (l ++ x ∷ []) =
+        subst (λ (z : Sender). share (grown v x) (Some z) ≡ add (share v (Some z)) x) eq (grown_here x.from v x)
+        ∙ ap (λ (o : Option (List Mail)). add o x) here in
+        ap (λ (k : List Mail). from s (held None ++ items) ++ k) one ∙ ap (λ (k : List Mail). k ++ x ∷ []) (woven s ∙ sym (agrees (Some s) l here))
+        ∙ sym (ap (λ (o : Option (List Mail)). or_held o (held (Some s))) new)
     at_test false is =
         let nothing : from s (x ∷ []) ≡ [] = rw is refl in
-        let old : or_held (share (grown v x) (Some s)) (held (Some s)) ≡ held (Some s) = ap (λ (o : Option (List Mail)). or_held o (held (Some s))) (grown_else x.from s v x is) ∙ same_held (share v (Some s)) (held (Some s)) (agrees (Some s)) in
+        let old : or_held (share (grown v x) (Some s)) (held (Some s)) ≡ held (Some s) =
+        ap (λ (o : Option (List Mail)). or_held o (held (Some s))) (grown_else x.from s v x is)
+        ∙ same_held (share v (Some s)) (held (Some s)) (agrees (Some s)) in
         ap (λ (k : List Mail). from s (held None ++ items) ++ k) nothing ∙ append-nil (from s (held None ++ items)) ∙ woven s ∙ sym old
 
 pub sends : (n pass : ℕ) (v : View) (x : Mail) (l : List Mail) → share v (Some x.from) ≡ Some l → Pushes (Kept share Woven) n pass v x (λ w. w ≡ grown v x)
-sends n pass v x l mine items views room kept at =
-    (grown v x, moves share Woven items (items ++ x ∷ []) views pass v (grown v x) (grown_role x.from v x) (λ held agrees woven. sent_woven v x l mine items held agrees woven) kept at, refl)
+sends n pass v x l mine items views room kept at = (
+  grown v x,
+  moves share Woven items (items ++ x ∷ []) views pass v (grown v x) (grown_role x.from v x)
+      (λ held agrees woven. sent_woven v x l mine items held agrees woven) kept at,
+  refl,
+)
 
 pub handles : (pass : ℕ) (v : View) (h : List Mail) → v.handled ≡ Some h → Pops (Kept share Woven) pass v (λ x w. w ≡ handed v x)
 handles pass v h mine x items views kept at =
@@ -115,10 +130,13 @@ handles pass v h mine x items views kept at =
     same_else Back = refl
     same_else Keys = refl
 
-    weave : (held : Option Sender → List Mail) → ((r : Option Sender) (k : List Mail) → share v r ≡ Some k → k ≡ held r) → Woven (x ∷ items) held → Woven items (λ r. or_held (share (handed v x) r) (held r))
+    weave : (held : Option Sender → List Mail) → ((r : Option Sender) (k : List Mail) → share v r ≡ Some k → k ≡ held r) → Woven (x ∷ items) held
+        → Woven items (λ r. or_held (share (handed v x) r) (held r))
     weave held agrees woven s =
-        let core : or_held (share (handed v x) None) (held None) ≡ held None ++ x ∷ [] = ap (λ (o : Option (List Mail)). or_held (add o x) (held None)) mine ∙ ap (λ (k : List Mail). k ++ x ∷ []) (agrees None h mine) in
-        let old : or_held (share (handed v x) (Some s)) (held (Some s)) ≡ held (Some s) = ap (λ (o : Option (List Mail)). or_held o (held (Some s))) (same_else s) ∙ same_held (share v (Some s)) (held (Some s)) (agrees (Some s)) in
+        let core : or_held (share (handed v x) None) (held None) ≡ held None ++ x ∷ [] =
+        ap (λ (o : Option (List Mail)). or_held (add o x) (held None)) mine ∙ ap (λ (k : List Mail). k ++ x ∷ []) (agrees None h mine) in
+        let old : or_held (share (handed v x) (Some s)) (held (Some s)) ≡ held (Some s) =
+        ap (λ (o : Option (List Mail)). or_held o (held (Some s))) (same_else s) ∙ same_held (share v (Some s)) (held (Some s)) (agrees (Some s)) in
         ap (λ (k : List Mail). from s (k ++ items)) core ∙ ap (from s) (append_assoc (held None) (x ∷ []) items) ∙ woven s ∙ sym old
 
 pub totals : (pass : ℕ) (v : View) → Learns (Kept share Woven) pass v (Total v)
@@ -185,7 +203,8 @@ pub handled_more : (v u w : View) (l : List Mail) (x : Mail) → u ≡ with_hand
 handled_more v u w l x old new = new ∙ ap (λ (y : View). handed y x) old
 
 -- a pass with each role knows that what was handled, and then the mailbox, is an interleaving of what was sent
-pub all_woven : (v : View) (h a b c d : List Mail) → v ≡ record { handled = Some h; net = Some a; desk = Some b; back = Some c; keys = Some d } → (items : List Mail) × Total v items → (items : List Mail) × Interleaves (h ++ items) (four a b c d)
+pub all_woven : (v : View) (h a b c d : List Mail) → v ≡ record { handled = Some h; net = Some a; desk = Some b; back = Some c; keys = Some d }
+    → (items : List Mail) × Total v items → (items : List Mail) × Interleaves (h ++ items) (four a b c d)
 all_woven v h a b c d is held = (held.0, λ s. held.1 s h (four a b c d s) (ap (λ (w : View). w.handled) is) (mine s))
   where
     mine : (s : Sender) → share v (Some s) ≡ Some (four a b c d s)

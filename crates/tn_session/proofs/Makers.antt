@@ -85,14 +85,17 @@ pub one_last : {J : Type 0} (queue later : List (Runner J)) (r : Runner J) → l
 one_last queue later r e = ap (λ l. jobs_of l) e ∙ jobs_longer queue r
 
 -- the maker gave the first job
-pub gave_first : {M J : Type 0} (gives : M → J → M → Type 0) (a b : M) (job first : J) (queue : List (Runner J)) → gives a job b → first ≡ job → queue ≡ [] → FoldsTo gives a (first ∷ jobs_of queue) b
+pub gave_first : {M J : Type 0} (gives : M → J → M → Type 0) (a b : M) (job first : J) (queue : List (Runner J)) → gives a job b → first ≡ job → queue ≡ []
+    → FoldsTo gives a (first ∷ jobs_of queue) b
 gave_first {M} {J} gives a b job first queue one e none =
     let P : List (Runner J) → Type 0 = λ q. FoldsTo gives a (first ∷ jobs_of q) b in
     let Q : J → Type 0 = λ j. FoldsTo gives a (j ∷ []) b in
     subst P (sym none) (subst Q (sym e) (FoldsTo-push gives a [] a job b refl one))
 
 -- and one more
-pub gave_more : {M J : Type 0} (gives : M → J → M → Type 0) (a b d : M) (first later job : J) (queue more : List (Runner J)) → FoldsTo gives a (first ∷ jobs_of queue) b → gives b job d → later ≡ first → jobs_of more ≡ jobs_of queue ++ job ∷ [] → FoldsTo gives a (later ∷ jobs_of more) d
+pub gave_more : {M J : Type 0} (gives : M → J → M → Type 0) (a b d : M) (first later job : J) (queue more : List (Runner J))
+    → FoldsTo gives a (first ∷ jobs_of queue) b → gives b job d → later ≡ first → jobs_of more ≡ jobs_of queue ++ job ∷ []
+    → FoldsTo gives a (later ∷ jobs_of more) d
 gave_more {M} {J} gives a b d first later job queue more before one same e =
     let P : List J → Type 0 = λ l. FoldsTo gives a (later ∷ l) d in
     let Q : J → Type 0 = λ j. FoldsTo gives a (j ∷ (jobs_of queue ++ job ∷ [])) d in

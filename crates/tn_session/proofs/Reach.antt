@@ -26,7 +26,9 @@ ended_as c t at = ap (λ (p : Progress). p.ended) at.progress
 pub reach_start : (t : Term) → StaysInReach t t.progress.ended
 reach_start t c at e = sym (ended_as c t at) ∙ e
 
-pub reach_next : (a b d : Term) (ms : List Message) (m : Message) (w u : KnownWriting) (puts : List (Option Entry)) (n o : Noted) (v h : EntryHand) → GoesOn a ms w puts b → TurnsMessage b m u n o v h d → ((c : Run) → LeadsTo c b → IsWelcome c m) → StaysInReach a b.progress.ended → StaysInReach a d.progress.ended
+pub reach_next : (a b d : Term) (ms : List Message) (m : Message) (w u : KnownWriting) (puts : List (Option Entry)) (n o : Noted) (v h : EntryHand)
+    → GoesOn a ms w puts b → TurnsMessage b m u n o v h d → ((c : Run) → LeadsTo c b → IsWelcome c m) → StaysInReach a b.progress.ended
+    → StaysInReach a d.progress.ended
 reach_next a b d ms m w u puts n o v h goes turn welcome reach c at e =
     let p = goes.leads c at in
     let q = turn.turn.leads p.0 p.2 in
@@ -46,12 +48,14 @@ opened_was true c e = e
 opened_was false c e = first_was c.progress.ended e
 
 -- the opening words
-pub reach_opened : (old new : Term) (words : List ℕ) (w : KnownWriting) (n t : Noted) (ended : Ended) → IsOpening old words w n t new → StaysInReach new ended → StaysInReach old ended
+pub reach_opened : (old new : Term) (words : List ℕ) (w : KnownWriting) (n t : Noted) (ended : Ended) → IsOpening old words w n t new → StaysInReach new ended
+    → StaysInReach old ended
 reach_opened old new words w n t ended o reach c at e = opened_was o.written c (reach (run_after_opening o.written c) (o.leads c at) e)
 
 pub never_begun : HangUp ≡ too_far_ahead → ⊥
 never_begun e = cc
 
 -- from no notes
-pub opened_as : (old new : Term) (words : List ℕ) (w : KnownWriting) (n t : Noted) → n ≡ no_notes → IsOpening old words w n t new → IsOpening old words w no_notes t new
+pub opened_as : (old new : Term) (words : List ℕ) (w : KnownWriting) (n t : Noted) → n ≡ no_notes → IsOpening old words w n t new
+    → IsOpening old words w no_notes t new
 opened_as old new words w n t e o = subst (λ (m : Noted). IsOpening old words w m t new) e o

@@ -77,6 +77,7 @@ reader_sent who may_stop reader v (told, left, close, consumed, closes, is, smal
     let read = told_messages told in
     let P : List Message → Type 0 = λ ms. v ≡ sender who (map (mail who) (read ++ ms)) in
     ⊎_elim
-    (λ x. sent_by who (read ++ x.0 ∷ []) (read ++ x.0 ∷ Left ∷ []) v (no_left-append read (x.0 ∷ []) (told_stay told) (ending_stays x.0 left x.1.0, tt)) (sym (append_assoc read (x.0 ∷ []) (Left ∷ []))) (subst P x.2 is))
+    (λ x. sent_by who (read ++ x.0 ∷ []) (read ++ x.0 ∷ Left ∷ []) v (no_left-append read (x.0 ∷ []) (told_stay told) (ending_stays x.0 left x.1.0, tt))
+    (sym (append_assoc read (x.0 ∷ []) (Left ∷ []))) (subst P x.2 is))
     (λ x. sent_by who read (read ++ Left ∷ []) v (told_stay told) refl (subst P x.2 is))
     closes

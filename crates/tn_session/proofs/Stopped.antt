@@ -1,5 +1,6 @@
 -- The word to stop: how it is told and taken, and after which messages.
-use Rattle.std.proofs.Common.{◌≡◌, Bool, true, false, not, ◌||◌, ◌&&◌, List, [], ◌∷◌, ◌++◌, Option, Some, None, IfSome, refl, sym, ap, ◌∙◌, subst, map, append_assoc, arith}
+use Rattle.std.proofs.Common.{◌≡◌, Bool, true, false, not, ◌||◌, ◌&&◌, List, [], ◌∷◌, ◌++◌, Option, Some, None, IfSome, refl, sym, ap, ◌∙◌, subst, map}
+use Rattle.std.proofs.Common.{append_assoc, arith}
 use Rattle.crossbeam_channel.specs.Claims.{view, IsSeatAt}
 use Rattle.crossbeam_channel.specs.Ends.{sends_on, receives_on}
 use Rattle.tn_machines.specs.declared.messages.Message.{Message}
@@ -28,13 +29,15 @@ some_left x xs e = cc
 -- THE SEAT
 
 -- after it was looked at
-pub seat_stays : (old : Option StopSeat) (seat new : StopSeat) (took : Bool) → old ≡ Some seat → new.from ≡ seat.from → IsSeatAt (receives_on new.from) new.pass → StopsStay old old → TakesStop took (view seat.pass) (view new.pass) → StopsStay old (Some new)
+pub seat_stays : (old : Option StopSeat) (seat new : StopSeat) (took : Bool) → old ≡ Some seat → new.from ≡ seat.from → IsSeatAt (receives_on new.from) new.pass
+    → StopsStay old old → TakesStop took (view seat.pass) (view new.pass) → StopsStay old (Some new)
 seat_stays old seat new took e from at stays takes =
     let here = subst (λ (o : Option StopSeat). StopsStay o o) e stays in
     let taken = takes here.2.0 here.2.1 in
     subst (λ (o : Option StopSeat). StopsStay o (Some new)) (sym e) (from, at, (taken.0, taken.1))
 
-pub has_told : (old : Option StopSeat) (seat new : StopSeat) (took : Bool) → old ≡ Some seat → StopsStay old old → TakesStop took (view seat.pass) (view new.pass) → took ≡ true → has_stopped (Some new) ≡ true
+pub has_told : (old : Option StopSeat) (seat new : StopSeat) (took : Bool) → old ≡ Some seat → StopsStay old old
+    → TakesStop took (view seat.pass) (view new.pass) → took ≡ true → has_stopped (Some new) ≡ true
 has_told old seat new took e stays takes is =
     let here = subst (λ (o : Option StopSeat). StopsStay o o) e stays in
     let taken = takes here.2.0 here.2.1 in
@@ -59,7 +62,8 @@ stays_here (Some a) None stays = absurd stays
 stays_here (Some a) (Some b) stays = (refl, stays.1, stays.2)
 
 -- the seat that comes back is still at the channel of the one that tells
-pub seat_at : (a b : Option StopSeat) (old new : StopTeller) → StopsStay a b → IfSome a (λ seat. AreNewStops old seat) → new.to ≡ old.to → IfSome b (λ seat. IsSeatAt (sends_on new.to) seat.pass)
+pub seat_at : (a b : Option StopSeat) (old new : StopTeller) → StopsStay a b → IfSome a (λ seat. AreNewStops old seat) → new.to ≡ old.to
+    → IfSome b (λ seat. IsSeatAt (sends_on new.to) seat.pass)
 seat_at None None old new stays is to = tt
 seat_at None (Some b) old new stays is to = absurd stays
 seat_at (Some a) None old new stays is to = absurd stays
@@ -135,7 +139,8 @@ has_left-push who (y ∷ xs) x = ap (λ (b : Bool). leaves who y || b) (has_left
     assoc true b c = refl
     assoc false b c = refl
 
-pub left_next : (who : Sender) (xs : List Mail) (x : Mail) (before now : Bool) → before ≡ has_left who xs → now ≡ (before || leaves who x) → now ≡ has_left who (xs ++ x ∷ [])
+pub left_next : (who : Sender) (xs : List Mail) (x : Mail) (before now : Bool) → before ≡ has_left who xs → now ≡ (before || leaves who x)
+    → now ≡ has_left who (xs ++ x ∷ [])
 left_next who xs x before now e f = f ∙ ap (λ (b : Bool). b || leaves who x) e ∙ sym (has_left-push who xs x)
 
 same_is : (a b : Sender) → same a b ≡ true → a ≡ b
@@ -175,7 +180,8 @@ left_mail who x e =
     λ i. record { from = from i; message = message i }
 
 -- as long as it has not left, it is told where that is due
-here_now : (told due now mid next gone : Bool) → gone ≡ false → told ≡ mid → (mid ≡ true → next ≡ true) → due ≡ (next && not gone) → now ≡ (told || due) → now ≡ next
+here_now : (told due now mid next gone : Bool) → gone ≡ false → told ≡ mid → (mid ≡ true → next ≡ true) → due ≡ (next && not gone) → now ≡ (told || due)
+    → now ≡ next
 here_now true due now mid next gone g e more d n = n ∙ sym (more (sym e))
 here_now false due now mid next gone g e more d n = n ∙ d ∙ ap (λ (b : Bool). next && not b) g ∙ and_true next
 
@@ -187,7 +193,8 @@ module _ {Said Mark Run : Type 0} (who : Sender) (said : List Mail → List Said
   Gone : List Mail → List (Said × Mark) → Bool → Type 0
   Gone xs ms told = (at : LeavesAt who said runs xs ms) × (told ≡ stops at.by_then)
 
-  more_gone : (xs : List Mail) (x : Mail) (ms : List (Said × Mark)) (k : Said × Mark) (told now : Bool) → now ≡ told → (at : LeavesAt who said runs xs ms) → told ≡ stops at.by_then → (now_at : LeavesAt who said runs (xs ++ x ∷ []) (ms ++ k ∷ [])) × (now ≡ stops now_at.by_then)
+  more_gone : (xs : List Mail) (x : Mail) (ms : List (Said × Mark)) (k : Said × Mark) (told now : Bool) → now ≡ told → (at : LeavesAt who said runs xs ms)
+      → told ≡ stops at.by_then → (now_at : LeavesAt who said runs (xs ++ x ∷ []) (ms ++ k ∷ [])) × (now ≡ stops now_at.by_then)
   more_gone xs x ms k told now same at e = (
     record {
       before = at.before;
@@ -204,7 +211,8 @@ module _ {Said Mark Run : Type 0} (who : Sender) (said : List Mail → List Said
     same ∙ e,
   )
 
-  now_gone : (xs : List Mail) (x : Mail) (ms : List (Said × Mark)) (k : Said × Mark) (mid : Run) (now : Bool) → has_left who xs ≡ false → x ≡ mail who Left → map (λ m. m.0) ms ≡ said xs → runs ms mid → now ≡ stops mid → (at : LeavesAt who said runs (xs ++ x ∷ []) (ms ++ k ∷ [])) × (now ≡ stops at.by_then)
+  now_gone : (xs : List Mail) (x : Mail) (ms : List (Said × Mark)) (k : Said × Mark) (mid : Run) (now : Bool) → has_left who xs ≡ false → x ≡ mail who Left
+      → map (λ m. m.0) ms ≡ said xs → runs ms mid → now ≡ stops mid → (at : LeavesAt who said runs (xs ++ x ∷ []) (ms ++ k ∷ [])) × (now ≡ stops at.by_then)
   now_gone xs x ms k mid now here is messages leads e = (
     record {
       before = xs;
@@ -221,17 +229,23 @@ module _ {Said Mark Run : Type 0} (who : Sender) (said : List Mail → List Said
     e,
   )
 
-  pub stands_more : (xs : List Mail) (x : Mail) (ms : List (Said × Mark)) (k : Said × Mark) (mid next : Run) (told due now : Bool) → StandsTold who said runs stops xs ms (stops mid) told → map (λ m. m.0) ms ≡ said xs → runs ms mid → (stops mid ≡ true → stops next ≡ true) → due ≡ (stops next && not (has_left who (xs ++ x ∷ []))) → now ≡ (told || due) → StandsTold who said runs stops (xs ++ x ∷ []) (ms ++ k ∷ []) (stops next) now
+  pub stands_more : (xs : List Mail) (x : Mail) (ms : List (Said × Mark)) (k : Said × Mark) (mid next : Run) (told due now : Bool)
+      → StandsTold who said runs stops xs ms (stops mid) told → map (λ m. m.0) ms ≡ said xs → runs ms mid → (stops mid ≡ true → stops next ≡ true)
+      → due ≡ (stops next && not (has_left who (xs ++ x ∷ []))) → now ≡ (told || due)
+      → StandsTold who said runs stops (xs ++ x ∷ []) (ms ++ k ∷ []) (stops next) now
   stands_more xs x ms k mid next told due now s messages leads more d n = record {
-    here = λ none. here_now told due now (stops mid) (stops next) (has_left who (xs ++ x ∷ [])) none (s.here (neither (has_left who xs) (leaves who x) (sym (has_left-push who xs x) ∙ none)).0) more d n;
+    here = λ none. here_now told due now (stops mid) (stops next) (has_left who (xs ++ x ∷ [])) none
+        (s.here (neither (has_left who xs) (leaves who x) (sym (has_left-push who xs x) ∙ none)).0) more d n;
     gone = λ on. by (has_left who xs) refl on;
   }
     where
-      by : (b : Bool) → has_left who xs ≡ b → has_left who (xs ++ x ∷ []) ≡ true → (at : LeavesAt who said runs (xs ++ x ∷ []) (ms ++ k ∷ [])) × (now ≡ stops at.by_then)
+      by : (b : Bool) → has_left who xs ≡ b → has_left who (xs ++ x ∷ []) ≡ true → (at : LeavesAt who said runs (xs ++ x ∷ []) (ms ++ k ∷ []))
+          × (now ≡ stops at.by_then)
       by true e on = let at = s.gone e in more_gone xs x ms k told now (kept_now told due now (stops next) (has_left who (xs ++ x ∷ [])) on d n) at.0 at.1
       by false e on =
           let here = ap (λ (b : Bool). b || leaves who x) (sym e) ∙ sym (has_left-push who xs x) ∙ on in
-          now_gone xs x ms k mid now e (left_mail who x here) messages leads (kept_now told due now (stops next) (has_left who (xs ++ x ∷ [])) on d n ∙ s.here e)
+          now_gone xs x ms k mid now e (left_mail who x here) messages leads
+          (kept_now told due now (stops next) (has_left who (xs ++ x ∷ [])) on d n ∙ s.here e)
 
   pub stands_first : (ms : List (Said × Mark)) (told now : Bool) → told ≡ now → StandsTold who said runs stops [] ms now told
   stands_first ms told now e = record { here = λ none. e; gone = λ on. absurd (false_true on) }

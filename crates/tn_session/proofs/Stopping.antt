@@ -56,7 +56,8 @@ message_ends origin.Keys Left p on = on
 message_ends origin.Keys (Resized size) p on = on
 message_ends origin.Keys (Asked control) p on = on
 
-piece_ends : (c new : core_run.Run) (from : Origin) (piece : List ℕ) → core_run.TakesPiece c from piece new → c.progress.at_end ≡ true → new.progress.at_end ≡ true
+piece_ends : (c new : core_run.Run) (from : Origin) (piece : List ℕ) → core_run.TakesPiece c from piece new → c.progress.at_end ≡ true
+    → new.progress.at_end ≡ true
 piece_ends c new origin.Keys piece e on = ap (λ (r : core_run.Run). r.progress.at_end) e ∙ on
 piece_ends c new origin.Net piece (xs, reads, e) on = ap (λ (r : core_run.Run). r.progress.at_end) e ∙ on
 
@@ -82,7 +83,8 @@ core_handles c new t h on = by c.progress.over refl h
 core_failed : (new failed : core_run.Run) → failed.progress.over ≡ true → new ≡ failed → core_stops new.progress ≡ true
 core_failed new failed over e = by_over new.progress.over new.progress.at_end (ap (λ (r : core_run.Run). r.progress.over) e ∙ over)
 
-pub core_stays : (c new : core_run.Run) (t : Told) (k : core_mark.Mark) → core_marks.Turns c (t, k) new → core_stops c.progress ≡ true → core_stops new.progress ≡ true
+pub core_stays : (c new : core_run.Run) (t : Told) (k : core_mark.Mark) → core_marks.Turns c (t, k) new → core_stops c.progress ≡ true
+    → core_stops new.progress ≡ true
 core_stays c new t core_is.Whole h on = core_handles c new t h on
 core_stays c new t core_is.WriteFailed h on = core_failed new _ refl h.3
 core_stays c new t core_is.ShowFailed h on = core_failed new _ refl h.3
@@ -125,7 +127,8 @@ term_acts c new (Piece piece) (xs, reads, e) on = ap (λ (r : term_run.Run). r.p
 term_acts c new HangUp e on = ap (λ (r : term_run.Run). r.progress.at_end) e
 term_acts c new ReadFailed e on = ap (λ (r : term_run.Run). r.progress.at_end) e
 term_acts c new Take e on = ap (λ (r : term_run.Run). r.progress.at_end) e ∙ ask_ends true c ∙ on
-term_acts c new (Said id text after) (parts, cuts, e) on = ap (λ (r : term_run.Run). r.progress.at_end) e ∙ said_ends id.0 parts (term_run.verdict c id.0 text after) c ∙ on
+term_acts c new (Said id text after) (parts, cuts, e) on = ap (λ (r : term_run.Run). r.progress.at_end) e
+    ∙ said_ends id.0 parts (term_run.verdict c id.0 text after) c ∙ on
 term_acts c new Refused e on = ap (λ (r : term_run.Run). r.progress.at_end) e ∙ on
 term_acts c new Left e on = ap (λ (r : term_run.Run). r.progress.at_end) e ∙ on
 term_acts c new (Resized size) e on = ap (λ (r : term_run.Run). r.progress.at_end) e ∙ on
@@ -141,7 +144,8 @@ term_handles c new m h on = by c.progress.over refl h
 term_failed : (new failed : term_run.Run) → failed.progress.over ≡ true → new ≡ failed → term_stops new.progress ≡ true
 term_failed new failed over e = by_over new.progress.over new.progress.at_end (ap (λ (r : term_run.Run). r.progress.over) e ∙ over)
 
-pub term_stays : (c new : term_run.Run) (m : Message) (k : term_mark.Mark) → term_marks.Turns c (m, k) new → term_stops c.progress ≡ true → term_stops new.progress ≡ true
+pub term_stays : (c new : term_run.Run) (m : Message) (k : term_mark.Mark) → term_marks.Turns c (m, k) new → term_stops c.progress ≡ true
+    → term_stops new.progress ≡ true
 term_stays c new m term_is.Whole h on = term_handles c new m h on
 term_stays c new m term_is.WriteFailed h on = term_failed new _ refl h.3
 term_stays c new m (term_is.Refused f put) h on = term_failed new _ refl h.3

@@ -5,7 +5,8 @@ use Rattle.std.specs.Io.KnownBytes.{Consumes}
 use Rattle.std.specs.List.{concat}
 use Rattle.tn_session.proofs.Credits.{taken_none, taken_piece, paid_ends, paid_stops}
 use Rattle.tn_session.proofs.Reading.{consumes_piece, consumes_end, come_piece, come_interrupted, cause_on}
-use Rattle.tn_session.proofs.Readers.{Says, said_piece, said_beside, beside, pieces-beside, sizes-beside, controls-beside, pieces-push, sizes-push, controls-push, tells_none, tells_next, reader_ends, reader_stops}
+use Rattle.tn_session.proofs.Readers.{Says, said_piece, said_beside, beside, pieces-beside, sizes-beside, controls-beside, pieces-push, sizes-push}
+use Rattle.tn_session.proofs.Readers.{controls-push, tells_none, tells_next, reader_ends, reader_stops}
 use Rattle.tn_session.specs.Credits.{HaveTaken, pieces_among}
 use Rattle.tn_session.specs.Mailbox.{sender}
 use Rattle.tn_session.specs.Reader.{TypingSends, SaysBeside, sends}
@@ -35,7 +36,8 @@ pub record HasTold (who : Sender) (old now : KnownTyping) (calls : ℕ) (a b : O
   pub controls : TellsList old.controls (controls_in told) now.controls
 
 -- a size was told, or none, and a control function, or none
-pub told_beside : (who : Sender) (old now new : KnownTyping) (calls : ℕ) (a b : Option CreditSeat) (v w : View) → HasTold who old now calls a b v → SaysBeside who now new v w → HasTold who old new calls a b w
+pub told_beside : (who : Sender) (old now new : KnownTyping) (calls : ℕ) (a b : Option CreditSeat) (v w : View) → HasTold who old now calls a b v
+    → SaysBeside who now new v w → HasTold who old new calls a b w
 told_beside who old now new calls a b v w h says =
     let told = h.told ++ beside says.size says.control in
     let is : pieces_in told ≡ pieces_in h.told = pieces-beside h.told says.size says.control in
@@ -48,12 +50,16 @@ told_beside who old now new calls a b v w h says =
       come = subst Came (sym says.failures) (subst (λ (ps : List (List ℕ)). HasCome calls (length ps) old.reader.failures now.reader.failures) (sym is) h.come);
       small = subst (λ (ps : List (List ℕ)). All IsPiece ps) (sym is) h.small;
       taken = subst (λ (ps : List (List ℕ)). HaveTaken (length ps) a b) (sym is) h.taken;
-      sizes = subst (λ (ss : List WindowSize). TellsList old.reader.sizes ss new.reader.sizes) (sym (sizes-beside h.told says.size says.control)) (tells_next old.reader.sizes now.reader.sizes new.reader.sizes (sizes_in h.told) says.size h.sizes says.sizes);
-      controls = subst (λ (cs : List Control). TellsList old.controls cs new.controls) (sym (controls-beside h.told says.size says.control)) (tells_next old.controls now.controls new.controls (controls_in h.told) says.control h.controls says.controls);
+      sizes = subst (λ (ss : List WindowSize). TellsList old.reader.sizes ss new.reader.sizes) (sym (sizes-beside h.told says.size says.control))
+          (tells_next old.reader.sizes now.reader.sizes new.reader.sizes (sizes_in h.told) says.size h.sizes says.sizes);
+      controls = subst (λ (cs : List Control). TellsList old.controls cs new.controls) (sym (controls-beside h.told says.size says.control))
+          (tells_next old.controls now.controls new.controls (controls_in h.told) says.control h.controls says.controls);
     }
 
 -- a piece was read, paid for and told
-pub told_one : (who : Sender) (old now new : KnownTyping) (calls : ℕ) (p : List ℕ) (a b d : Option CreditSeat) (v w : View) → HasTold who old now calls a b v → Consumes now.reader.bytes new.reader.bytes p → IsPiece p → HasCome 1 1 now.reader.failures new.reader.failures → new.reader.sizes ≡ now.reader.sizes → new.controls ≡ now.controls → HaveTaken 1 b d → Says who (Piece p) v w → HasTold who old new (calls + 1) a d w
+pub told_one : (who : Sender) (old now new : KnownTyping) (calls : ℕ) (p : List ℕ) (a b d : Option CreditSeat) (v w : View) → HasTold who old now calls a b v
+    → Consumes now.reader.bytes new.reader.bytes p → IsPiece p → HasCome 1 1 now.reader.failures new.reader.failures → new.reader.sizes ≡ now.reader.sizes
+    → new.controls ≡ now.controls → HaveTaken 1 b d → Says who (Piece p) v w → HasTold who old new (calls + 1) a d w
 told_one who old now new calls p a b d v w h gives fits come same alike paid says =
     let told = h.told ++ piece_told p ∷ [] in
     let is : pieces_in told ≡ pieces_in h.told ++ p ∷ [] = pieces-push h.told p in
@@ -61,9 +67,11 @@ told_one who old now new calls p a b d v w h gives fits come same alike paid say
     let Asked : Option (List Control) → Type 0 = λ o. TellsList old.controls (controls_in told) o in
     record {
       told = told;
-      consumed = subst (λ (ps : List (List ℕ)). Consumes old.reader.bytes new.reader.bytes (concat ps)) (sym is) (consumes_piece old.reader.bytes now.reader.bytes new.reader.bytes (pieces_in h.told) p h.consumed gives);
+      consumed = subst (λ (ps : List (List ℕ)). Consumes old.reader.bytes new.reader.bytes (concat ps)) (sym is)
+          (consumes_piece old.reader.bytes now.reader.bytes new.reader.bytes (pieces_in h.told) p h.consumed gives);
       sent = said_piece who h.told p v w h.sent says;
-      come = subst (λ (ps : List (List ℕ)). HasCome (calls + 1) (length ps) old.reader.failures new.reader.failures) (sym is) (come_piece calls (pieces_in h.told) p old.reader.failures now.reader.failures new.reader.failures h.come come);
+      come = subst (λ (ps : List (List ℕ)). HasCome (calls + 1) (length ps) old.reader.failures new.reader.failures) (sym is)
+          (come_piece calls (pieces_in h.told) p old.reader.failures now.reader.failures new.reader.failures h.come come);
       small = subst (λ (ps : List (List ℕ)). All IsPiece ps) (sym is) (All-push IsPiece (pieces_in h.told) p h.small fits);
       taken = subst (λ (ps : List (List ℕ)). HaveTaken (length ps) a d) (sym is) (taken_piece (pieces_in h.told) p a b d h.taken paid);
       sizes = subst Told (sym same) (subst (λ (ss : List WindowSize). TellsList old.reader.sizes ss now.reader.sizes) (sym (sizes-push h.told p)) h.sizes);
@@ -71,7 +79,9 @@ told_one who old now new calls p a b d v w h gives fits come same alike paid say
     }
 
 -- a read was interrupted
-pub told_none : (who : Sender) (old now new : KnownTyping) (calls : ℕ) (a b : Option CreditSeat) (v : View) → HasTold who old now calls a b v → Consumes now.reader.bytes new.reader.bytes [] → HasCome 1 0 now.reader.failures new.reader.failures → new.reader.sizes ≡ now.reader.sizes → new.controls ≡ now.controls → HasTold who old new (calls + 1) a b v
+pub told_none : (who : Sender) (old now new : KnownTyping) (calls : ℕ) (a b : Option CreditSeat) (v : View) → HasTold who old now calls a b v
+    → Consumes now.reader.bytes new.reader.bytes [] → HasCome 1 0 now.reader.failures new.reader.failures → new.reader.sizes ≡ now.reader.sizes
+    → new.controls ≡ now.controls → HasTold who old new (calls + 1) a b v
 told_none who old now new calls a b v h gives come same alike = record {
   told = h.told;
   consumed = consumes_end old.reader.bytes now.reader.bytes new.reader.bytes (concat (pieces_in h.told)) h.consumed gives;
@@ -84,7 +94,9 @@ told_none who old now new calls a b v h gives come same alike = record {
 }
 
 -- the reading ended
-pub told_end : (who : Sender) (may_stop : Bool) (old now new : KnownTyping) (calls : ℕ) (a b : Option CreditSeat) (last : Message) (v w u : View) → HasTold who old now calls a b v → Consumes now.reader.bytes new.reader.bytes [] → IsEnding last new.reader.bytes → IsReadCause now.reader.failures 0 last → Says who last v w → Says who Left w u → TypingSends who may_stop old u
+pub told_end : (who : Sender) (may_stop : Bool) (old now new : KnownTyping) (calls : ℕ) (a b : Option CreditSeat) (last : Message) (v w u : View)
+    → HasTold who old now calls a b v → Consumes now.reader.bytes new.reader.bytes [] → IsEnding last new.reader.bytes → IsReadCause now.reader.failures 0 last
+    → Says who last v w → Says who Left w u → TypingSends who may_stop old u
 told_end who may_stop old now new calls a b last v w u h gives ending cause one two =
     reader_ends who may_stop old new.reader.bytes h.told last v w u
     (consumes_end old.reader.bytes now.reader.bytes new.reader.bytes (concat (pieces_in h.told)) h.consumed gives) ending
@@ -92,15 +104,19 @@ told_end who may_stop old now new calls a b last v w u h gives ending cause one 
     h.sent h.small (now.reader.sizes, h.sizes) (now.controls, h.controls) one two
 
 -- it was given up after as many reads as are made
-pub told_all : (who : Sender) (may_stop : Bool) (old now : KnownTyping) (calls : ℕ) (a b : Option CreditSeat) (v w u : View) → calls ≡ max_reads → HasTold who old now calls a b v → Says who ReadFailed v w → Says who Left w u → TypingSends who may_stop old u
+pub told_all : (who : Sender) (may_stop : Bool) (old now : KnownTyping) (calls : ℕ) (a b : Option CreditSeat) (v w u : View) → calls ≡ max_reads
+    → HasTold who old now calls a b v → Says who ReadFailed v w → Says who Left w u → TypingSends who may_stop old u
 told_all who may_stop old now calls a b v w u is h one two =
-    let come : HasCome max_reads (length (pieces_in h.told)) old.reader.failures now.reader.failures = subst (λ (n : ℕ). HasCome n (length (pieces_in h.told)) old.reader.failures now.reader.failures) is h.come in
+    let come : HasCome max_reads (length (pieces_in h.told)) old.reader.failures now.reader.failures =
+    subst (λ (n : ℕ). HasCome n (length (pieces_in h.told)) old.reader.failures now.reader.failures) is h.come in
     reader_ends who may_stop old now.reader.bytes h.told ReadFailed v w u h.consumed tt
     (come_passed max_reads (length (pieces_in h.told)) old.reader.failures now.reader.failures come)
     h.sent h.small (now.reader.sizes, h.sizes) (now.controls, h.controls) one two
 
 -- it was stopped after a piece
-pub told_stop : (who : Sender) (may_stop : Bool) (old now new : KnownTyping) (calls : ℕ) (p : List ℕ) (a b : Option CreditSeat) (v w u : View) → HasTold who old now calls a b v → may_stop ≡ true → Consumes now.reader.bytes new.reader.bytes p → IsPiece p → Says who (Piece p) v w → Says who Left w u → TypingSends who may_stop old u
+pub told_stop : (who : Sender) (may_stop : Bool) (old now new : KnownTyping) (calls : ℕ) (p : List ℕ) (a b : Option CreditSeat) (v w u : View)
+    → HasTold who old now calls a b v → may_stop ≡ true → Consumes now.reader.bytes new.reader.bytes p → IsPiece p → Says who (Piece p) v w → Says who Left w u
+    → TypingSends who may_stop old u
 told_stop who may_stop old now new calls p a b v w u h may gives fits one two =
     reader_stops who may_stop old new.reader.bytes h.told p v w u
     (consumes_piece old.reader.bytes now.reader.bytes new.reader.bytes (pieces_in h.told) p h.consumed gives) may
@@ -109,11 +125,14 @@ told_stop who may_stop old now new calls p a b v w u h may gives fits one two =
 -- WHAT WAS PAID
 
 -- as many credits as pieces, where the reading ended
-pub paid_end : (who : Sender) (old now : KnownTyping) (calls : ℕ) (a b : Option CreditSeat) (last : Message) (left : Option (List ℕ)) (v w u : View) → HasTold who old now calls a b v → IsEnding last left → Says who last v w → Says who Left w u → (mails : List Mail) → u ≡ sender who mails → HaveTaken (pieces_among mails) a b
+pub paid_end : (who : Sender) (old now : KnownTyping) (calls : ℕ) (a b : Option CreditSeat) (last : Message) (left : Option (List ℕ)) (v w u : View)
+    → HasTold who old now calls a b v → IsEnding last left → Says who last v w → Says who Left w u → (mails : List Mail) → u ≡ sender who mails
+    → HaveTaken (pieces_among mails) a b
 paid_end who old now calls a b last left v w u h ending one two = paid_ends who h.told last left v w u a b ending h.taken h.sent one two
 
 -- and where it was stopped
-pub paid_stop : (who : Sender) (old now : KnownTyping) (calls : ℕ) (p : List ℕ) (a b d : Option CreditSeat) (v w u : View) → HasTold who old now calls a b v → HaveTaken 1 b d → Says who (Piece p) v w → Says who Left w u → (mails : List Mail) → u ≡ sender who mails → HaveTaken (pieces_among mails) a d
+pub paid_stop : (who : Sender) (old now : KnownTyping) (calls : ℕ) (p : List ℕ) (a b d : Option CreditSeat) (v w u : View) → HasTold who old now calls a b v
+    → HaveTaken 1 b d → Says who (Piece p) v w → Says who Left w u → (mails : List Mail) → u ≡ sender who mails → HaveTaken (pieces_among mails) a d
 paid_stop who old now calls p a b d v w u h paid one two = paid_stops who h.told p v w u a b d h.taken paid h.sent one two
 
 -- AT FIRST

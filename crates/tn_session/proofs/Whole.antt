@@ -1,5 +1,6 @@
 -- A whole session: its passes joined, and what its threads did.
-use Rattle.std.proofs.Common.{◌≡◌, ℕ, Bool, true, false, ◌&&◌, List, [], ◌∷◌, ◌++◌, Option, Some, None, refl, sym, ap, ◌∙◌, ⊎_elim, inl, inr, map, subst, append-nil, append_assoc, arith}
+use Rattle.std.proofs.Common.{◌≡◌, ℕ, Bool, true, false, ◌&&◌, List, [], ◌∷◌, ◌++◌, Option, Some, None, refl, sym, ap, ◌∙◌, ⊎_elim, inl, inr, map, subst}
+use Rattle.std.proofs.Common.{append-nil, append_assoc, arith}
 use Rattle.std.specs.Io.KnownBytes.{Appends}
 use Rattle.std.specs.List.{FoldsTo}
 use Rattle.tn_discipline.specs.Canon.{Canon}
@@ -50,7 +51,8 @@ use Rattle.tn_machines.specs.declared.server.terminal.Term.{Term}
 
 -- the passes are joined and cut again
 
-all_joined : (v n d e p q r : View) (h a b c : List Mail) → v ≡ handler h → n ≡ sender Net a → d ≡ sender Desk b → e ≡ sender Back c → p ≡ union v n → q ≡ union p d → r ≡ union q e → r ≡ record { handled = Some h; net = Some a; desk = Some b; back = Some c; keys = Some [] }
+all_joined : (v n d e p q r : View) (h a b c : List Mail) → v ≡ handler h → n ≡ sender Net a → d ≡ sender Desk b → e ≡ sender Back c → p ≡ union v n
+    → q ≡ union p d → r ≡ union q e → r ≡ record { handled = Some h; net = Some a; desk = Some b; back = Some c; keys = Some [] }
 all_joined v n d e p q r h a b c ev en ed ee ep eq er =
     er ∙ (λ i. union ((eq ∙ (λ j. union ((ep ∙ (λ k. union (ev k) (en k))) j) (ed j))) i) (ee i))
 
@@ -64,12 +66,16 @@ pub settles : (pass net desk back : View) (hand took : EntryHand) (p₁ p₂ p�
     → d' ≡ record nobody { desk = p₅.desk } → p₆ ≡ record p₅ { desk = None }
     → b' ≡ record nobody { back = p₆.back } → t' ≡ record p₆ { back = None }
     → l ≡ record k { taken = None } → m ≡ record no_hand { taken = k.taken } → told' ≡ told
-    → AreSettled (record { net = net; desk = desk; back = back; term = pass; put = hand; took = took; told = told }) (record { net = n'; desk = d'; back = b'; term = t'; put = l; took = m; told = told' })
-settles pass net desk back hand took p₁ p₂ p₃ p₄ n' p₅ d' p₆ b' t' j k l m told told' e₁ e₂ e₃ e₄ held ej ek rest en e₅ ed e₆ eb et el em es h a b c x t epass enet edesk eback ehand etook =
+    → AreSettled (record { net = net; desk = desk; back = back; term = pass; put = hand; took = took; told = told })
+    (record { net = n'; desk = d'; back = b'; term = t'; put = l; took = m; told = told' })
+settles pass net desk back hand took p₁ p₂ p₃ p₄ n' p₅ d' p₆ b' t' j k l m told told' e₁ e₂ e₃ e₄ held ej ek rest en e₅ ed e₆ eb et el em es h a b c x t epass
+    enet edesk eback ehand etook =
     let whole = all_joined pass net desk back p₁ p₂ p₃ h a b c epass enet edesk eback e₁ e₂ e₃ in
     let same = e₄ ∙ whole in
-    let fifth : p₅ ≡ record { handled = Some h; net = None; desk = Some b; back = Some c; keys = Some [] } = e₅ ∙ ap (λ (v : View). record v { net = None }) same in
-    let sixth : p₆ ≡ record { handled = Some h; net = None; desk = None; back = Some c; keys = Some [] } = e₆ ∙ ap (λ (v : View). record v { desk = None }) fifth in
+    let fifth : p₅ ≡ record { handled = Some h; net = None; desk = Some b; back = Some c; keys = Some [] } =
+    e₅ ∙ ap (λ (v : View). record v { net = None }) same in
+    let sixth : p₆ ≡ record { handled = Some h; net = None; desk = None; back = Some c; keys = Some [] } =
+    e₆ ∙ ap (λ (v : View). record v { desk = None }) fifth in
     let both = both_joined hand took j x t ehand etook ej in
     let kept = ek ∙ both in (
       en ∙ ap (λ (v : View). record nobody { net = v.net }) same,
@@ -104,25 +110,39 @@ desk_sent id fresh acts v w talked = closed (λ e. acts.refuses talked.2 (Some e
         let said = turns_said id turns in
         let stay = turns_stay id turns in
         ⊎_elim
-        (λ x. record { sent = sent_by Desk (said ++ Take ∷ []) _ v (no_left-append said (Take ∷ []) stay (refl, tt)) (sym (append_assoc said (Take ∷ []) (Left ∷ []))) x.0; taken = _; took = x.1 })
+        (λ x. record {
+          sent = sent_by Desk (said ++ Take ∷ []) _ v (no_left-append said (Take ∷ []) stay (refl, tt))
+              (sym (append_assoc said (Take ∷ []) (Left ∷ []))) x.0;
+          taken = _;
+          took = x.1;
+        })
         (λ y. ⊎_elim
         (λ x. record { sent = sent_by Desk said _ v stay refl x.0; taken = _; took = x.1 })
-        (λ x. record { sent = sent_by Desk (said ++ Take ∷ Refused ∷ []) _ v (no_left-append said (Take ∷ Refused ∷ []) stay (refl, (refl, tt))) (sym (append_assoc said (Take ∷ Refused ∷ []) (Left ∷ []))) x.1; taken = _; took = x.2 })
+        (λ x. record {
+          sent = sent_by Desk (said ++ Take ∷ Refused ∷ []) _ v (no_left-append said (Take ∷ Refused ∷ []) stay (refl, (refl, tt)))
+              (sym (append_assoc said (Take ∷ Refused ∷ []) (Left ∷ []))) x.1;
+          taken = _;
+          took = x.2;
+        })
         y)
         c
 
-pub back_sent : {J : Type 0} (began : ℕ → J → Type 0) (acts : JobActs J) (jobs : BackJobs) (stopped : Bool) (v : View) → AreSteps {J = J} began acts jobs stopped v → Sent Back v
+pub back_sent : {J : Type 0} (began : ℕ → J → Type 0) (acts : JobActs J) (jobs : BackJobs) (stopped : Bool) (v : View)
+    → AreSteps {J = J} began acts jobs stopped v → Sent Back v
 back_sent began acts jobs stopped v s =
     let said = map step_said s.0 in
     let stay = steps_stay s.0 in
     let P : List Message → Type 0 = λ ms. v ≡ sender Back (map (mail Back) (said ++ ms)) in
     ⊎_elim
     (λ e. sent_by Back said (said ++ Left ∷ []) v stay refl (subst P e s.2))
-    (λ e. sent_by Back (said ++ Refused ∷ []) (said ++ Refused ∷ Left ∷ []) v (no_left-append said (Refused ∷ []) stay (refl, tt)) (sym (append_assoc said (Refused ∷ []) (Left ∷ []))) (subst P e s.2))
+    (λ e. sent_by Back (said ++ Refused ∷ []) (said ++ Refused ∷ Left ∷ []) v (no_left-append said (Refused ∷ []) stay (refl, tt))
+    (sym (append_assoc said (Refused ∷ []) (Left ∷ []))) (subst P e s.2))
     (is_close began acts stopped s.0 s.1 s.6 s.8)
 
 -- what was written, with the opening words
-wrote_all : (b : Bool) (words front back bytes rest sends : List ℕ) (x y z : Option (List ℕ)) (whole : Bool) → words ≡ front ++ back → (b ≡ true → back ≡ []) → Appends x y front → Appends y z bytes → (b ≡ false → bytes ≡ []) → sends ≡ words ++ (bytes ++ rest) → (whole ≡ true → rest ≡ []) → (unwritten : List ℕ) × Appends x z (front ++ bytes) × (sends ≡ (front ++ bytes) ++ unwritten) × ((b && whole) ≡ true → unwritten ≡ [])
+wrote_all : (b : Bool) (words front back bytes rest sends : List ℕ) (x y z : Option (List ℕ)) (whole : Bool) → words ≡ front ++ back → (b ≡ true → back ≡ [])
+    → Appends x y front → Appends y z bytes → (b ≡ false → bytes ≡ []) → sends ≡ words ++ (bytes ++ rest) → (whole ≡ true → rest ≡ []) → (unwritten : List ℕ)
+    × Appends x z (front ++ bytes) × (sends ≡ (front ++ bytes) ++ unwritten) × ((b && whole) ≡ true → unwritten ≡ [])
 wrote_all true words front back bytes rest sends x y z whole split none one two idle is all =
     let same : words ≡ front = split ∙ ap (λ (bs : List ℕ). front ++ bs) (none refl) ∙ append-nil front in
     (rest, appends_more x y z front bytes one two, is ∙ ap (λ (bs : List ℕ). bs ++ (bytes ++ rest)) same ∙ sym (append_assoc front bytes rest), all)
@@ -135,23 +155,30 @@ wrote_all false words front back bytes rest sends x y z whole split none one two
 )
 
 -- the run as it begins, and what was written by then
-opened_up : (b : Bool) (begin : Run) (words front back : List ℕ) (x y : Option (List ℕ)) → says begin ≡ words → words ≡ front ++ back → (b ≡ true → back ≡ []) → (b ≡ false → is_over begin ≡ true) → IsUpTo Turns says is_over is_marked_whole begin front
+opened_up : (b : Bool) (begin : Run) (words front back : List ℕ) (x y : Option (List ℕ)) → says begin ≡ words → words ≡ front ++ back → (b ≡ true → back ≡ [])
+    → (b ≡ false → is_over begin ≡ true) → IsUpTo Turns says is_over is_marked_whole begin front
 opened_up true begin words front back x y is split none off =
     let same : front ≡ says begin = sym (append-nil front) ∙ ap (λ (bs : List ℕ). front ++ bs) (sym (none refl)) ∙ sym split ∙ sym is in
     (([], append-nil front ∙ same), inl same)
 opened_up false begin words front back x y is split none off = ((back, sym split ∙ sym is), inr (off refl))
 
 -- the transcript, as it was noted
-noted_all : (begin last : Run) (steps : List ((Message × Mark) × List ℕ)) (marked : List (Message × Mark)) (handled : List Mail) (opened : Noted) (front : List ℕ) (noted : Noted) → FoldsTo (IsStep Turns says is_over is_marked_whole) begin steps last → map (λ s. s.0) steps ≡ marked → map (λ m. m.0) marked ≡ messages_of handled → IsUpTo Turns says is_over is_marked_whole begin front → notes opened ≡ record { took = None; wrote = front } ∷ [] → NotesAll handled (map (λ s. s.1) steps) opened noted
+noted_all : (begin last : Run) (steps : List ((Message × Mark) × List ℕ)) (marked : List (Message × Mark)) (handled : List Mail) (opened : Noted)
+    (front : List ℕ) (noted : Noted) → FoldsTo (IsStep Turns says is_over is_marked_whole) begin steps last → map (λ s. s.0) steps ≡ marked
+    → map (λ m. m.0) marked ≡ messages_of handled → IsUpTo Turns says is_over is_marked_whole begin front
+    → notes opened ≡ record { took = None; wrote = front } ∷ [] → NotesAll handled (map (λ s. s.1) steps) opened noted
     → (transcript : List Exchange) × IsNoted begin marked last (front ++ total steps) handled noted transcript
 noted_all begin last steps marked handled opened front noted goes of_steps messages up first all =
     let of_message : Message × Mark → Message = λ m. m.0 in
-    let noted_steps = same_steps of_message (λ (x : Mail). x.message) bytes_in steps all.more handled (mapped of_message steps ∙ ap (map of_message) of_steps ∙ messages) all.took all.wrote in
+    let noted_steps = same_steps of_message (λ (x : Mail). x.message) bytes_in steps all.more handled
+    (mapped of_message steps ∙ ap (map of_message) of_steps ∙ messages) all.took all.wrote in
     let transcript : List Exchange = record { read = []; wrote = front } ∷ map (λ s. record { read = bytes_in s.0.0; wrote = s.1 }) steps in
-    let by_marks : List (Message × Mark) → Type 0 = λ ms. Transcribes OpensOrTurns brings of_server.says begin (None ∷ map (λ m. Some m) ms) last (front ++ total steps) transcript in (
+    let by_marks : List (Message × Mark) → Type 0 = λ ms. Transcribes OpensOrTurns brings of_server.says begin (None ∷ map (λ m. Some m) ms) last
+    (front ++ total steps) transcript in (
       transcript,
       record {
-        as_noted = ap (λ (l : List Exchange). record { read = []; wrote = front } ∷ l) noted_steps ∙ sym (ap (map (exchange_of brought_by)) (all.noted ∙ ap (λ (l : List Note). l ++ all.more) first));
+        as_noted = ap (λ (l : List Exchange). record { read = []; wrote = front } ∷ l) noted_steps
+            ∙ sym (ap (map (exchange_of brought_by)) (all.noted ∙ ap (λ (l : List Note). l ++ all.more) first));
         took = ap (map (λ (n : Note). n.took)) (all.noted ∙ ap (λ (l : List Note). l ++ all.more) first) ∙ ap (λ (l : List (Option Mail)). None ∷ l) all.took;
         transcribed = subst by_marks of_steps (server_stepped begin last steps front goes up);
       },
@@ -170,12 +197,16 @@ same_history true canon editing jobs = refl
 same_history false canon editing jobs = refl
 
 -- all of a session that ran
-pub scheduled : {J : Type 0} (facts : JobActs J) (jobs : SessionJobs J) (stopped : Bool) (words : List ℕ) (reader : KnownReader) (x y z : KnownWriter) (noted₀ : Noted) (term mid last : Term) (pass₀ : View) (hand₀ : EntryHand) (ended : SessionViews) (result : SessionResult)
-    → pass₀ ≡ handler [] → hand₀ ≡ putter [] → IsOpening term words (from_to x y) no_notes noted₀ mid → HandlesAll mid pass₀ ended.term hand₀ ended.put (from_to y z) noted₀ result.noted ended.told last
-    → ReaderSends Net false reader ended.net → IsTalk {J = J} jobs.first (IsJob jobs.job) facts ended.desk ended.took → AreSteps {J = J} (Holds jobs.queue) facts (queue_of jobs.tostop jobs.queue) stopped ended.back → (stopped ≡ true → ended.told ≡ putter [] → ⊥)
+pub scheduled : {J : Type 0} (facts : JobActs J) (jobs : SessionJobs J) (stopped : Bool) (words : List ℕ) (reader : KnownReader) (x y z : KnownWriter)
+    (noted₀ : Noted) (term mid last : Term) (pass₀ : View) (hand₀ : EntryHand) (ended : SessionViews) (result : SessionResult)
+    → pass₀ ≡ handler [] → hand₀ ≡ putter [] → IsOpening term words (from_to x y) no_notes noted₀ mid
+    → HandlesAll mid pass₀ ended.term hand₀ ended.put (from_to y z) noted₀ result.noted ended.told last
+    → ReaderSends Net false reader ended.net → IsTalk {J = J} jobs.first (IsJob jobs.job) facts ended.desk ended.took
+    → AreSteps {J = J} (Holds jobs.queue) facts (queue_of jobs.tostop jobs.queue) stopped ended.back → (stopped ≡ true → ended.told ≡ putter [] → ⊥)
     → AreSettled ended result.views → result.report ≡ report_of last.progress
     → IsRun {J = J} facts jobs term words reader (from_to x z) result
-scheduled {J} facts jobs stopped words reader x y z noted₀ term mid last pass₀ hand₀ ended result ep eh o acted sn talked stepped never settled er settings table at ew =
+scheduled {J} facts jobs stopped words reader x y z noted₀ term mid last pass₀ hand₀ ended result ep eh o acted sn talked stepped never settled er settings
+    table at ew =
     let canon = settings.canon in
     let editing = settings.editing in
     let begin = run_after_opening o.written (start canon editing table) in
@@ -186,16 +217,23 @@ scheduled {J} facts jobs stopped words reader x y z noted₀ term mid last pass�
     let puts : g.0.puts ≡ acted.puts = g.3 ∙ ap (λ (ps : List (Option Entry)). ps ++ acted.puts) (no_puts o.written canon editing table) in
     let view : ended.term ≡ handler acted.handled = acted.view ∙ ap (λ (v : View). with_handled v acted.handled) ep in
     let all = settled acted.handled ns.mails ds.sent.mails bs.mails acted.puts ds.taken view ns.is ds.sent.is bs.is (acted.hand [] eh) ds.took in
-    let none = none_over acted.handled all.6.0 ns.mails ds.sent.mails bs.mails [] all.6.1 ns.ends ds.sent.ends bs.ends tt (omega (arith, ns.one, ds.sent.one, bs.one, acted.lefts)) in
-    let sends : spells (items_said g.0.history) ≡ words ++ (acted.goes.bytes ++ g.4) = g.5 ∙ ap (λ (bytes : List ℕ). bytes ++ (acted.goes.bytes ++ g.4)) (ap (λ h. spells (items_said h)) (same_history o.written canon editing table) ∙ sym ew) in
-    let w = wrote_all o.written words o.wrote.front o.wrote.back acted.goes.bytes g.4 (spells (items_said g.0.history)) x.bytes y.bytes z.bytes (all_whole acted.goes.marked) o.wrote.whole o.wrote.all o.wrote.wrote acted.goes.wrote (λ e. acted.goes.idle (o.over e)) sends g.6 in
+    let none = none_over acted.handled all.6.0 ns.mails ds.sent.mails bs.mails [] all.6.1 ns.ends ds.sent.ends bs.ends tt
+    (omega (arith, ns.one, ds.sent.one, bs.one, acted.lefts)) in
+    let sends : spells (items_said g.0.history) ≡ words ++ (acted.goes.bytes ++ g.4) =
+    g.5 ∙ ap (λ (bytes : List ℕ). bytes ++ (acted.goes.bytes ++ g.4))
+    (ap (λ h. spells (items_said h)) (same_history o.written canon editing table) ∙ sym ew) in
+    let w = wrote_all o.written words o.wrote.front o.wrote.back acted.goes.bytes g.4 (spells (items_said g.0.history)) x.bytes y.bytes z.bytes
+    (all_whole acted.goes.marked) o.wrote.whole o.wrote.all o.wrote.wrote acted.goes.wrote (λ e. acted.goes.idle (o.over e)) sends g.6 in
     let at_first : says begin ≡ words = ap (λ h. spells (items_said h)) (same_history o.written canon editing table) ∙ sym ew in
-    let up = opened_up o.written begin words o.wrote.front o.wrote.back x.bytes y.bytes at_first o.wrote.whole o.wrote.all (λ e. sym (ap (λ (p : Progress). p.over) (o.leads (start canon editing table) at).progress) ∙ o.over e) in
-    let transcript = noted_all begin g.0 acted.goes.steps acted.goes.marked acted.handled noted₀ o.wrote.front result.noted g.7 acted.goes.of_steps acted.goes.whole up (ap notes o.wrote.noted) acted.noted in
+    let up = opened_up o.written begin words o.wrote.front o.wrote.back x.bytes y.bytes at_first o.wrote.whole o.wrote.all
+    (λ e. sym (ap (λ (p : Progress). p.over) (o.leads (start canon editing table) at).progress) ∙ o.over e) in
+    let transcript = noted_all begin g.0 acted.goes.steps acted.goes.marked acted.handled noted₀ o.wrote.front result.noted g.7 acted.goes.of_steps
+    acted.goes.whole up (ap notes o.wrote.noted) acted.noted in
     let all_bytes : acted.goes.bytes ≡ total acted.goes.steps = acted.goes.all_bytes in
     let N : View → Type 0 = λ v. ReaderSends Net false reader v in
     let B : View → Type 0 = λ v. AreSteps {J = J} (Holds jobs.queue) facts (queue_of jobs.tostop jobs.queue) stopped v in
-    let woven : Interleaves acted.handled (four ns.mails ds.sent.mails bs.mails []) = λ r. ap (from r) (sym (append-nil acted.handled) ∙ ap (λ (l : List Mail). acted.handled ++ l) (sym none)) ∙ all.6.1 r in
+    let woven : Interleaves acted.handled (four ns.mails ds.sent.mails bs.mails []) =
+    λ r. ap (from r) (sym (append-nil acted.handled) ∙ ap (λ (l : List Mail). acted.handled ++ l) (sym none)) ∙ all.6.1 r in
     let stands = acted.stands begin (o.leads (start canon editing table) at) in
     let left = stands.gone (was_left Back acted.handled bs.mails (woven Back) bs.one) in
     let T : Bool → StopHand → Type 0 = λ b v. IsTold b v in (
@@ -225,7 +263,8 @@ scheduled {J} facts jobs stopped words reader x y z noted₀ term mid last pass�
         taken = ds.taken;
         took_is = all.5;
         took_first = (all.7.0, all.7.1 ∙ sym puts);
-        talked = subst (λ (u : View × EntryHand). IsTalk {J = J} jobs.first (IsJob jobs.job) facts u.0 u.1) (λ i. ((ds.sent.is ∙ sym all.1) i, (ds.took ∙ sym all.5) i)) talked;
+        talked = subst (λ (u : View × EntryHand). IsTalk {J = J} jobs.first (IsJob jobs.job) facts u.0 u.1)
+            (λ i. ((ds.sent.is ∙ sym all.1) i, (ds.took ∙ sym all.5) i)) talked;
         stopped = stopped;
         stepped = subst B (bs.is ∙ sym all.2) stepped;
         back_left = left.0;
@@ -234,11 +273,14 @@ scheduled {J} facts jobs stopped words reader x y z noted₀ term mid last pass�
         report_is = er ∙ ap report_of g.2.progress;
       },
       transcript.0,
-      subst (λ (bytes : List ℕ). IsNoted begin acted.goes.marked g.0 (o.wrote.front ++ bytes) acted.handled result.noted transcript.0) (sym all_bytes) transcript.1,
+      subst (λ (bytes : List ℕ). IsNoted begin acted.goes.marked g.0 (o.wrote.front ++ bytes) acted.handled result.noted transcript.0)
+          (sym all_bytes) transcript.1,
     )
 
 -- the passes before anything was sent
-pub ready_views : (v₀ v₁ v₂ v₃ n d k : View) → v₀ ≡ everyone → v₁ ≡ record v₀ { net = None } → n ≡ record nobody { net = v₀.net } → v₂ ≡ record v₁ { desk = None } → d ≡ record nobody { desk = v₁.desk } → v₃ ≡ record v₂ { back = None } → k ≡ record nobody { back = v₂.back } → (v₃ ≡ handler []) × (n ≡ sender Net []) × (d ≡ sender Desk []) × (k ≡ sender Back [])
+pub ready_views : (v₀ v₁ v₂ v₃ n d k : View) → v₀ ≡ everyone → v₁ ≡ record v₀ { net = None } → n ≡ record nobody { net = v₀.net }
+    → v₂ ≡ record v₁ { desk = None } → d ≡ record nobody { desk = v₁.desk } → v₃ ≡ record v₂ { back = None } → k ≡ record nobody { back = v₂.back }
+    → (v₃ ≡ handler []) × (n ≡ sender Net []) × (d ≡ sender Desk []) × (k ≡ sender Back [])
 ready_views v₀ v₁ v₂ v₃ n d k e₀ e₁ en e₂ ed e₃ ek =
     let a₁ = e₁ ∙ ap (λ (v : View). record v { net = None }) e₀ in
     let a₂ = e₂ ∙ ap (λ (v : View). record v { desk = None }) a₁ in (
@@ -248,5 +290,6 @@ ready_views v₀ v₁ v₂ v₃ n d k e₀ e₁ en e₂ ed e₃ ek =
       ek ∙ ap (λ (v : View). record nobody { back = v.back }) a₂,
     )
 
-pub ready_hands : (v₀ v₁ t : EntryHand) → v₀ ≡ both_hands → v₁ ≡ record v₀ { taken = None } → t ≡ record no_hand { taken = v₀.taken } → (v₁ ≡ putter []) × (t ≡ taker [])
+pub ready_hands : (v₀ v₁ t : EntryHand) → v₀ ≡ both_hands → v₁ ≡ record v₀ { taken = None } → t ≡ record no_hand { taken = v₀.taken } → (v₁ ≡ putter [])
+    × (t ≡ taker [])
 ready_hands v₀ v₁ t e₀ e₁ et = (e₁ ∙ ap (λ (v : EntryHand). record v { taken = None }) e₀, et ∙ ap (λ (v : EntryHand). record no_hand { taken = v.taken }) e₀)

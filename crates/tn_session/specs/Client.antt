@@ -5,10 +5,12 @@ use Rattle.crossbeam_channel.specs.Claims.{view, IsSeatAt}
 use Rattle.crossbeam_channel.specs.Ends.{sends_on, receives_on, ruled_capacity}
 use Rattle.tn_client.specs.Replies.{items_said}
 use Rattle.tn_client.specs.Screen.{text_shown}
-use Rattle.tn_machines.specs.client.Bringing.{Input, inputs_brought, keys_in, commands_in, brought_from, brought, TakesInOrder}
+use Rattle.tn_machines.specs.client.Bringing.{Input, inputs_brought, keys_in, commands_in, brought_from}
+use Rattle.tn_machines.specs.client.Bringing.{brought, TakesInOrder}
 use Rattle.tn_machines.specs.client.Commands.{command_of}
 use Rattle.tn_machines.specs.client.Ending.{IsEndedAt}
-use Rattle.tn_machines.specs.client.Marks.{Turns, Runs, no_write_failed, no_show_failed, all_by, all_written, all_whole}
+use Rattle.tn_machines.specs.client.Marks.{Turns, Runs, no_write_failed, no_show_failed, all_by, all_written}
+use Rattle.tn_machines.specs.client.Marks.{all_whole}
 use Rattle.tn_machines.specs.client.Reaching.{LeadsTo}
 use Rattle.tn_machines.specs.client.Run.{Run, start}
 use Rattle.tn_machines.specs.declared.client.machine.Core.{Core}
@@ -25,7 +27,8 @@ use Rattle.tn_session.specs.Mailbox.{Interleaves, four, sender}
 use Rattle.tn_session.specs.Reader.{ReaderSends}
 use Rattle.tn_session.specs.Reading.{max_reads, pieces_in, controls_in}
 use Rattle.tn_session.specs.Stops.{IsTold, LeavesAt, core_stops}
-use Rattle.tn_session.specs.Transcripts.{Exchange, ReadsPrefix, Transcribes, all_read, all_wrote, came_by, exchange_of}
+use Rattle.tn_session.specs.Transcripts.{Exchange, ReadsPrefix, Transcribes, all_read, all_wrote, came_by}
+use Rattle.tn_session.specs.Transcripts.{exchange_of}
 use Rattle.tn_session.specs.Turns.{Tells, max_writes}
 use Rattle.tn_session.specs.declared.channels.View.{View}
 use Rattle.tn_session.specs.declared.client.Mailbox.{Mailbox}
@@ -80,7 +83,8 @@ says c = turns.says c
 
 -- Of what Keys and Net sent, in the order that these passes know, and of what the core handled,
 -- wrote and showed.
-pub record RunningClient (window : Window) (keys : KnownTyping) (net : KnownReader) (writer screen : KnownWriting)
+pub record RunningClient (window : Window) (keys : KnownTyping) (net : KnownReader)
+    (writer screen : KnownWriting)
     (result : ClientResult) : Type 0 where
   -- what each sent, and what was handled
   pub from_keys : List Mail
@@ -100,13 +104,13 @@ pub record RunningClient (window : Window) (keys : KnownTyping) (net : KnownRead
   pub messages : map (λ m. m.0) marked ≡ all_told handled
   pub run : Run
   pub runs : Runs (start window.width window.height window.limit) marked run
-  -- where the keys' thread left, it was told to stop if by then nothing had any effect any more, or nothing more came
-  -- from the network, and else not; and only then it left after a piece
+  -- where the keys' thread left, it was told to stop if by then nothing had any effect any more, or nothing
+  -- more came from the network, and else not; and only then it left after a piece
   pub keys_left : LeavesAt Keys all_told (Runs (start window.width window.height window.limit)) handled marked
   pub told : IsTold (core_stops keys_left.by_then.progress) result.told
   pub stopped_for : stopped ≡ true → core_stops keys_left.by_then.progress ≡ true
-  -- what was typed, keys and commands, and the bytes from the network whose items came, are the first of what these
-  -- messages bring
+  -- what was typed, keys and commands, and the bytes from the network whose items came, are the first of what
+  -- these messages bring
   pub in_order : TakesInOrder (all_told handled) run
   -- what was written of what it says up to the Left of Keys
   pub written : List ℕ
@@ -133,8 +137,8 @@ pub record RunningClient (window : Window) (keys : KnownTyping) (net : KnownRead
   pub keys_read : List ℕ
   pub keys_were_read : ReadsPrefix keys.reader.bytes keys_read
   pub keys_are : keys_read ≡ brought origin.Keys (all_told handled)
-  -- with the commands between them: those of the control functions that stand among the pieces, the first of those
-  -- that the reader tells
+  -- with the commands between them: those of the control functions that stand among the pieces, the first of
+  -- those that the reader tells
   pub inputs : List Input
   pub inputs_are : inputs ≡ inputs_brought (all_told handled)
   pub keys_among : keys_in inputs ≡ keys_read

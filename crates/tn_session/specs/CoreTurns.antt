@@ -3,7 +3,8 @@ use Rattle.std.specs.Prelude.{◌≡◌, ℕ, ◌≤◌, Bool, true, false, List
 use Rattle.std.specs.List.{FoldsTo}
 use Rattle.std.specs.Io.KnownBytes.{Appends}
 use Rattle.tn_client.specs.Replies.{items_said}
-use Rattle.tn_machines.specs.client.Marks.{Turns, Runs, is_written, no_write_failed, no_show_failed, all_by, all_written, all_whole}
+use Rattle.tn_machines.specs.client.Marks.{Turns, Runs, is_written, no_write_failed, no_show_failed, all_by}
+use Rattle.tn_machines.specs.client.Marks.{all_written, all_whole}
 use Rattle.tn_machines.specs.client.Reaching.{LeadsTo, IsTurn, SendsPrefix, ShowsPrefix}
 use Rattle.tn_machines.specs.client.Run.{Run}
 use Rattle.tn_machines.specs.declared.client.machine.Core.{Core}
@@ -46,7 +47,8 @@ is_marked_written m = is_written m.1
 
 -- one message with its mark: what was written and shown of what it sends and shows, what was noted,
 -- and what the writer and the screen told
-pub record TurnsTold (old : Core) (told : Told) (writer screen : KnownWriting) (before after : Noted) (new : Core)
+pub record TurnsTold (old : Core) (told : Told) (writer screen : KnownWriting) (before after : Noted)
+    (new : Core)
     : Type 0 where
   pub mark : Mark
   pub bytes : List ℕ
@@ -81,9 +83,10 @@ pub record ToldAll (old : Core) (messages : List Told) (writer screen : KnownWri
   pub over : all_whole marked ≡ false → new.progress.over ≡ true
   pub stays : old.progress.over ≡ true → new.progress.over ≡ true
 
--- what the core did: of the views before and after, of the writer to the network and of the screen, of what it noted
--- from its beginning, and of the word to stop
-pub record CoreHandles (old : Core) (v w : View) (writer screen : KnownWriting) (after : Noted) (stop : StopHand)
+-- what the core did: of the views before and after, of the writer to the network and of the screen, of what
+-- it noted from its beginning, and of the word to stop
+pub record CoreHandles (old : Core) (v w : View) (writer screen : KnownWriting) (after : Noted)
+    (stop : StopHand)
     (new : Core) : Type 0 where
   pub handled : List Mail
   pub view : w ≡ with_handled v handled

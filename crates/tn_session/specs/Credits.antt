@@ -63,7 +63,8 @@ abbrev pub steps_among : List Mail → ℕ
 steps_among [] = 0
 steps_among (x ∷ xs) = step_one x.from x.message + steps_among xs
 
--- so many credits for steps were used at least: of those that were there at first, and of those that were taken
+-- so many credits for steps were used at least: of those that were there at first, and of those that were
+-- taken
 abbrev pub HaveUsed : ℕ → StepCredits → StepCredits → Type 0
 HaveUsed n old new =
     new.left + length (view old.seat.pass).taken + n ≤ old.left + length (view new.seat.pass).taken

@@ -16,7 +16,8 @@ use Rattle.tn_session.specs.declared.parties.Ports.{Ports}
 use Rattle.tn_session.specs.declared.parties.Report.{Report}
 use Rattle.tn_session.specs.Stops.{StopHand}
 
--- of a type of jobs: how they act, and with which a session may begin, the first and then the others, in order
+-- of a type of jobs: how they act, and with which a session may begin, the first and then the others, in
+-- order
 pub record JobFacts (J : Type 0) : Type 1 where
   pub begins : List J → Type 0
   pub acts : JobActs J
@@ -25,8 +26,8 @@ abbrev pub job_facts : {J : Type 0} → (List J → Type 0) → (J → Entry →
     → (J → Reaction → J → Type 0) → (J → Option Entry → Type 0) → JobFacts J
 job_facts begins reacts steps refuses = record { begins = begins; acts = job_acts reacts steps refuses }
 
--- The jobs of a session as they begin: the foreground job with its number, those in the background, and whether
--- a text stops one of these (the flag TOSTOP of the terminal).
+-- The jobs of a session as they begin: the foreground job with its number, those in the background, and
+-- whether a text stops one of these (the flag TOSTOP of the terminal).
 pub record SessionJobs (J : Type 0) : Type 0 where
   pub first : JobId
   pub job : J
@@ -38,8 +39,8 @@ pub record TermSettings : Type 0 where
   pub canon : Canon
   pub editing : Editing
 
--- of the passes of a session: what each thread sent, what the terminal handled and put, what was taken, and whether
--- the thread of the background jobs was told to stop
+-- of the passes of a session: what each thread sent, what the terminal handled and put, what was taken, and
+-- whether the thread of the background jobs was told to stop
 pub record SessionViews : Type 0 where
   pub net : View
   pub desk : View
@@ -68,7 +69,11 @@ pub record SessionResult : Type 0 where
   pub noted : Noted
 
 abbrev pub session_result : Report → Ports → SessionResult
-session_result report ports = record { report = report; views = views_of ports; noted = noted_of ports.transcript }
+session_result report ports = record {
+  report = report;
+  views = views_of ports;
+  noted = noted_of ports.transcript;
+}
 
 -- the size of a client's window, and the limit of its lines
 pub record Window : Type 0 where
@@ -76,8 +81,8 @@ pub record Window : Type 0 where
   pub height : ℕ
   pub limit : ℕ
 
--- the report of a client's session, what its threads sent and its core handled, whether the thread that reads the keys
--- was told to stop, and what the core did, in order
+-- the report of a client's session, what its threads sent and its core handled, whether the thread that reads
+-- the keys was told to stop, and what the core did, in order
 pub record ClientResult : Type 0 where
   pub report : Report
   pub keys : View

@@ -53,4 +53,5 @@ AreSettled old new =
     → old.put ≡ putter p → old.took ≡ taker t
     → (new.net ≡ sender Net a) × (new.desk ≡ sender Desk b) × (new.back ≡ sender Back c)
     × (new.term ≡ handler h) × (new.put ≡ putter p) × (new.took ≡ taker t)
-    × ((items : List Mail) × Interleaves (h ++ items) (four a b c [])) × IsPrefixOf t p × (new.told ≡ old.told)
+    × ((items : List Mail) × Interleaves (h ++ items) (four a b c [])) × IsPrefixOf t p
+    × (new.told ≡ old.told)

@@ -1,5 +1,5 @@
 -- Interleavings, and the rule of the mailbox.
-use Rattle.std.specs.Prelude.{◌≡◌, Bool, true, false, List, Option, Some, None, [], ◌∷◌, ◌++◌, filter, map}
+use Rattle.std.specs.Prelude.{◌≡◌, Bool, true, false, List, Option, Some, None, [], ◌∷◌, ◌++◌, filter}
 use Rattle.tn_session.specs.declared.mail.Sender.{Sender}
 use Rattle.tn_session.specs.declared.mail.Sender.TheVariants.{Net, Desk, Back, Keys}
 use Rattle.tn_machines.specs.declared.messages.Message.{Message}
@@ -93,7 +93,3 @@ four net desk back keys Net = net
 four net desk back keys Desk = desk
 four net desk back keys Back = back
 four net desk back keys Keys = keys
-
--- what Net and Desk sent, and nothing else
-abbrev pub from_two : List Message → List Message → Sender → List Mail
-from_two net desk = four (map (mail Net) net) (map (mail Desk) desk) [] []

@@ -1,5 +1,6 @@
 -- The jobs that a maker makes, as it tells how many are to come.
-use Rattle.std.specs.Prelude.{◌≡◌, ◌≢◌, ℕ, ◌+◌, min, Option, Some, None, Result, Ok, Err, List, [], ◌∷◌, length}
+use Rattle.std.specs.Prelude.{◌≡◌, ◌≢◌, ℕ, ◌+◌, min, Option, Some, None, Result, Ok, Err, List, [], ◌∷◌}
+use Rattle.std.specs.Prelude.{length}
 use Rattle.std.specs.List.{FoldsTo}
 use Rattle.tn_machines.specs.declared.faults.SessionFault.{SessionFault}
 use Rattle.tn_machines.specs.declared.faults.SessionFault.TheVariants.{Memory, Start}

@@ -1,5 +1,5 @@
--- What the core of a session did, in the order in which it did it: which mail it took, and which bytes it wrote to the
--- network before it took the next.
+-- What the core of a session did, in the order in which it did it: which mail it took, and which bytes it
+-- wrote to the network before it took the next.
 use Rattle.std.specs.Prelude.{◌≡◌, ℕ, Bool, true, Option, Some, None, List, [], ◌∷◌, ◌++◌, map}
 use Rattle.std.specs.Io.KnownBytes.{Appends}
 use Rattle.tn_session.specs.declared.mail.Mail.{Mail}
@@ -30,7 +30,8 @@ abbrev pub writes : Noted → List ℕ → Noted
 writes n bytes = record { done = n.done; last = record { took = n.last.took; wrote = n.last.wrote ++ bytes } }
 
 -- the front of these bytes was written and noted, all of them where it went well
-pub record NotesWrite (well : Bool) (old new : Option (List ℕ)) (bytes : List ℕ) (before after : Noted) : Type 0 where
+pub record NotesWrite (well : Bool) (old new : Option (List ℕ)) (bytes : List ℕ)
+    (before after : Noted) : Type 0 where
   pub front : List ℕ
   pub back : List ℕ
   pub whole : bytes ≡ front ++ back

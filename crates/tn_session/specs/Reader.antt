@@ -1,9 +1,11 @@
 -- What a thread that reads sends, whichever it is.
-use Rattle.std.specs.Prelude.{◌≡◌, ◌≢◌, ℕ, Bool, true, List, Option, [], ◌∷◌, ◌++◌, ◌⊎◌, length, map, option_to_list, All}
+use Rattle.std.specs.Prelude.{◌≡◌, ◌≢◌, ℕ, Bool, true, List, Option, [], ◌∷◌, ◌++◌, ◌⊎◌, length, map}
+use Rattle.std.specs.Prelude.{option_to_list, All}
 use Rattle.std.specs.Io.KnownBytes.{Consumes}
 use Rattle.std.specs.List.{concat}
 use Rattle.tn_session.specs.Mailbox.{mail, sender}
-use Rattle.tn_session.specs.Reading.{IsEnding, IsPiece, IsReadCause, Telling, size_told, control_told, told_messages, pieces_in, sizes_in, controls_in}
+use Rattle.tn_session.specs.Reading.{IsEnding, IsPiece, IsReadCause, Telling, size_told, control_told}
+use Rattle.tn_session.specs.Reading.{told_messages, pieces_in, sizes_in, controls_in}
 use Rattle.tn_session.specs.declared.channels.View.{View}
 use Rattle.tn_session.specs.declared.mail.Sender.{Sender}
 use Rattle.tn_streams.specs.Beside.{TellsNext, TellsFirst}

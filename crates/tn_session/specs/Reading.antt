@@ -5,7 +5,8 @@ use Rattle.tn_streams.specs.Foretelling.{Failures, HasCome, WillFail}
 use Rattle.tn_session.specs.declared.net.Got.{Got}
 use Rattle.tn_session.specs.declared.net.Got.TheVariants.{Bytes, Again, Last}
 use Rattle.tn_machines.specs.declared.messages.Message.{Message}
-use Rattle.tn_machines.specs.declared.messages.Message.TheVariants.{Piece, HangUp, ReadFailed, Refused, Resized, Asked}
+use Rattle.tn_machines.specs.declared.messages.Message.TheVariants.{Piece, HangUp, ReadFailed, Refused}
+use Rattle.tn_machines.specs.declared.messages.Message.TheVariants.{Resized, Asked}
 use Rattle.tn_streams.specs.declared.control.Control.{Control}
 use Rattle.tn_streams.specs.declared.window.WindowSize.{WindowSize}
 

@@ -22,7 +22,8 @@ use Rattle.tn_session.specs.Reading.{max_reads, pieces_in}
 use Rattle.tn_session.specs.Stepping.{AreSteps}
 use Rattle.tn_session.specs.Stops.{IsTold, LeavesAt, term_stops}
 use Rattle.tn_session.specs.Talk.{IsJob, IsTalk}
-use Rattle.tn_session.specs.Transcripts.{Exchange, ReadsPrefix, Transcribes, all_read, all_wrote, came_by, exchange_of}
+use Rattle.tn_session.specs.Transcripts.{Exchange, ReadsPrefix, Transcribes, all_read, all_wrote, came_by}
+use Rattle.tn_session.specs.Transcripts.{exchange_of}
 use Rattle.tn_session.specs.Turning.{Holds, IsQueue, ids_of, jobs_of, queue_of}
 use Rattle.tn_session.specs.declared.back.Runner.{Runner}
 use Rattle.tn_session.specs.Turns as turns
@@ -115,8 +116,8 @@ pub record Schedule {J : Type 0} (acts : JobActs J) (jobs : SessionJobs J) (sett
   pub talked : IsTalk jobs.first (IsJob jobs.job) acts result.views.desk result.views.took
   pub stopped : Bool
   pub stepped : AreSteps (Holds jobs.queue) acts (queue_of jobs.tostop jobs.queue) stopped result.views.back
-  -- where Back left, it was told to stop if by then nothing had any effect any more, or nothing more came from the
-  -- network, and else not; and only then it stopped
+  -- where Back left, it was told to stop if by then nothing had any effect any more, or nothing more came
+  -- from the network, and else not; and only then it stopped
   pub back_left : LeavesAt Back messages_of
       (Runs (run_after_opening wrote_opening (start settings.canon settings.editing table))) handled marked
   pub told : IsTold (term_stops back_left.by_then.progress) result.views.told
@@ -124,8 +125,8 @@ pub record Schedule {J : Type 0} (acts : JobActs J) (jobs : SessionJobs J) (sett
   -- six: the report
   pub report_is : result.report ≡ report_of run.progress
 
--- A step of its transcript writes the opening words, or handles a message; what that brings from the network, and
--- what the server says on it by now.
+-- A step of its transcript writes the opening words, or handles a message; what that brings from the network,
+-- and what the server says on it by now.
 abbrev pub OpensOrTurns : Run → Option (Message × Mark) → Run → Type 0
 OpensOrTurns c None new = new ≡ c
 OpensOrTurns c (Some m) new = Turns c m new
@@ -141,13 +142,15 @@ says c = turns.says c
 abbrev pub brought_by : Mail → List ℕ
 brought_by x = bytes_in x.message
 
--- Step by step as the terminal noted it: what it wrote before it took the first of these mails, and after each; and the
--- run goes by these steps.
-pub record IsNoted (first : Run) (marked : List (Message × Mark)) (last : Run) (written : List ℕ) (handled : List Mail)
+-- Step by step as the terminal noted it: what it wrote before it took the first of these mails, and after
+-- each; and the run goes by these steps.
+pub record IsNoted (first : Run) (marked : List (Message × Mark)) (last : Run) (written : List ℕ)
+    (handled : List Mail)
     (noted : Noted) (transcript : List Exchange) : Type 0 where
   pub as_noted : transcript ≡ map (exchange_of brought_by) (notes noted)
   pub took : map (λ n. n.took) (notes noted) ≡ None ∷ map (λ x. Some x) handled
-  pub transcribed : Transcribes OpensOrTurns brings says first (None ∷ map (λ m. Some m) marked) last written transcript
+  pub transcribed : Transcribes OpensOrTurns brings says first
+      (None ∷ map (λ m. Some m) marked) last written transcript
 
 -- wherever the terminal is at first
 abbrev pub IsRun : {J : Type 0} → JobActs J → SessionJobs J → Term → List ℕ → KnownReader → KnownWriting
@@ -156,7 +159,8 @@ IsRun acts jobs term words reader writer result =
     (settings : TermSettings) (table : Jobs) → LeadsTo (start settings.canon settings.editing table) term
     → words ≡ spells (items_said (opening settings.canon settings.editing))
     → (s : Schedule acts jobs settings table reader writer result) × (transcript : List Exchange)
-    × IsNoted (run_after_opening s.wrote_opening (start settings.canon settings.editing table)) s.marked s.run s.written
+    × IsNoted (run_after_opening s.wrote_opening (start settings.canon settings.editing table)) s.marked s.run
+    s.written
     s.handled result.noted transcript
 
 -- the jobs were made, and the terminal is started with them
@@ -225,8 +229,8 @@ pub record RunningSession {J : Type 0} (facts : JobFacts J) (to_make : Option �
   pub was_read : ReadsPrefix reader.bytes (all_read transcript)
   pub came : all_read transcript ≡ came_by result.views.net.net
   pub was_written : all_wrote transcript ≡ schedule.written
-  -- a step for the opening words, and one for each message, as the terminal noted it when it did it; it was heard whole
-  -- where a hang-up ended the session
+  -- a step for the opening words, and one for each message, as the terminal noted it when it did it; it was
+  -- heard whole where a hang-up ended the session
   pub noted : IsNoted (run_after_opening schedule.wrote_opening (start settings.canon settings.editing jobs))
       schedule.marked schedule.run schedule.written schedule.handled result.noted transcript
   pub heard_whole : result.report.ended ≡ HangUp → schedule.run.stream ≡ all_read transcript

@@ -80,10 +80,12 @@ StepInTurn tostop ids said left = FoldsTo (TakesItsTurn tostop) ids said left
 -- memory ran out for the job of this number, where its steps had led it
 abbrev pub IsRefused : {J : Type 0} → (ℕ → J → Type 0) → JobActs J → List (JobId × Reaction) → ℕ → Type 0
 IsRefused {J} began acts said id =
-    (first : J) × (last : J) × began id first × FoldsTo acts.steps first (reactions_of id said) last × acts.refuses last None
+    (first : J) × (last : J) × began id first × FoldsTo acts.steps first (reactions_of id said) last
+    × acts.refuses last None
 
 -- why it left: no job runs any more; or it was told to stop, or memory ran out for the one whose turn it was
-abbrev pub LeavesFor : {J : Type 0} → (ℕ → J → Type 0) → JobActs J → Bool → List (JobId × Reaction) → List Message
+abbrev pub LeavesFor : {J : Type 0} → (ℕ → J → Type 0) → JobActs J → Bool → List (JobId × Reaction)
+    → List Message
     → List ℕ → Type 0
 LeavesFor began acts stopped said close [] = close ≡ Left ∷ []
 LeavesFor {J} began acts stopped said close (id ∷ ids) =

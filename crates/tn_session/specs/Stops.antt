@@ -1,5 +1,5 @@
--- Why a thread stops that has more to do: it was told. It is told after the first message by which nothing has
--- any effect any more, or nothing more comes from the network, unless it has left by then.
+-- Why a thread stops that has more to do: it was told. It is told after the first message by which nothing
+-- has any effect any more, or nothing more comes from the network, unless it has left by then.
 use Rattle.std.specs.Prelude.{◌≡◌, Bool, true, false, ◌||◌, ◌&&◌, Option, Some, None, List, [], ◌∷◌, ◌++◌, map, ⊤}
 use Rattle.crossbeam_channel.specs.Claims.{view, IsSeatAt}
 use Rattle.crossbeam_channel.specs.Ends.{sends_on, receives_on}
@@ -39,13 +39,15 @@ has_stopped None = false
 -- one was taken, or none
 abbrev pub TakesStop : Bool → StopHand → StopHand → Type 0
 TakesStop took v w =
-    (l : List Stop) → v ≡ taker l → (k : List Stop) × (w ≡ taker k) × (took ≡ true → took_some (Some k) ≡ true)
+    (l : List Stop) → v ≡ taker l → (k : List Stop) × (w ≡ taker k)
+    × (took ≡ true → took_some (Some k) ≡ true)
 
 -- the seat stays at its channel
 abbrev pub StopsStay : Option StopSeat → Option StopSeat → Type 0
 StopsStay None None = ⊤
 StopsStay (Some old) (Some new) =
-    (new.from ≡ old.from) × IsSeatAt (receives_on new.from) new.pass × ((l : List Stop) × (view new.pass ≡ taker l))
+    (new.from ≡ old.from) × IsSeatAt (receives_on new.from) new.pass
+    × ((l : List Stop) × (view new.pass ≡ taker l))
 StopsStay _ _ = ⊥
 
 -- the word was put once, or not at all
@@ -74,7 +76,8 @@ term_stops p = p.over || p.at_end
 
 -- Where this thread left: the messages that were handled before that, with their marks, lead so far.
 pub record LeavesAt {Said Mark Run : Type 0} (who : Sender) (said : List Mail → List Said)
-    (runs : List (Said × Mark) → Run → Type 0) (handled : List Mail) (marked : List (Said × Mark)) : Type 0 where
+    (runs : List (Said × Mark) → Run → Type 0) (handled : List Mail)
+    (marked : List (Said × Mark)) : Type 0 where
   pub before : List Mail
   pub after : List Mail
   pub whole : handled ≡ before ++ mail who Left ∷ after

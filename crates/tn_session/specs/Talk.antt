@@ -53,4 +53,5 @@ IsJob job other = other ≡ job
 abbrev pub IsTalk : {J : Type 0} → JobId → (J → Type 0) → JobActs J → View → EntryHand → Type 0
 IsTalk {J} id began acts v w =
     (turns : List (Entry × Reaction)) × (first : J) × (last : J)
-    × began first × Answers acts.reacts first turns last × Closes id (λ e. acts.refuses last (Some e)) turns v w
+    × began first × Answers acts.reacts first turns last
+    × Closes id (λ e. acts.refuses last (Some e)) turns v w

@@ -41,8 +41,8 @@ pub record Point (R : Type 0) : Type 0 where
   pub run : R
   pub wrote : List ℕ
 
--- One step of a run, of which a message brings these bytes, and which says these: what is written by now is all
--- that is said by now, or all that was ever written.
+-- One step of a run, of which a message brings these bytes, and which says these: what is written by now is
+-- all that is said by now, or all that was ever written.
 pub record IsExchange {R M : Type 0} (turns : R → M → R → Type 0) (brings : M → List ℕ) (says : R → List ℕ)
     (written : List ℕ) (old : Point R) (step : M × Exchange) (new : Point R) : Type 0 where
   pub turn : turns old.run step.0 new.run
@@ -51,8 +51,8 @@ pub record IsExchange {R M : Type 0} (turns : R → M → R → Type 0) (brings 
   pub said : IsPrefixOf new.wrote (says new.run)
   pub whole : (new.wrote ≡ says new.run) ⊎ (new.wrote ≡ written)
 
--- One step of a run, and what was written in it: the first of what it says more, all of that where the message was done
--- and written wholly, and none once nothing has any effect.
+-- One step of a run, and what was written in it: the first of what it says more, all of that where the
+-- message was done and written wholly, and none once nothing has any effect.
 pub record IsStep {R M : Type 0} (turns : R → M → R → Type 0) (says : R → List ℕ) (is_over : R → Bool)
     (is_whole : M → Bool) (old : R) (step : M × List ℕ) (new : R) : Type 0 where
   pub turn : turns old step.0 new

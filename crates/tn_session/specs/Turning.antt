@@ -43,9 +43,11 @@ EachBegan began [] = Unit {0}
 EachBegan began (r ∷ rs) = began r.id.0 r.job × EachBegan began rs
 
 -- the job of this number has gone from where it began to this state
-abbrev pub Chain : {J : Type 0} → (ℕ → J → Type 0) → (J → Reaction → J → Type 0) → List (JobId × Reaction) → ℕ → J
+abbrev pub Chain : {J : Type 0} → (ℕ → J → Type 0) → (J → Reaction → J → Type 0) → List (JobId × Reaction) → ℕ
+    → J
     → Type 0
-Chain {J} began steps said id job = (first : J) × began id first × FoldsTo steps first (reactions_of id said) job
+Chain {J} began steps said id job = (first : J) × began id first
+    × FoldsTo steps first (reactions_of id said) job
 
 abbrev pub EachRuns : {J : Type 0} → (ℕ → J → Type 0) → (J → Reaction → J → Type 0) → List ℕ
     → List (JobId × Reaction) → List (Runner J) → Type 0
@@ -92,5 +94,6 @@ pub record AdvancesQueue {J : Type 0} (steps : J → Reaction → J → Type 0) 
 -- no job makes a step only where none runs; memory runs out for the first
 abbrev pub TakesTurn : {J : Type 0} → JobActs J → Bool → List (Runner J) → Turn → List (Runner J) → Type 0
 TakesTurn acts tostop old Idle new = old ≡ []
-TakesTurn {J} acts tostop old Refused new = (runner : Runner J) × (old ≡ runner ∷ new) × acts.refuses runner.job None
+TakesTurn {J} acts tostop old Refused new = (runner : Runner J) × (old ≡ runner ∷ new)
+    × acts.refuses runner.job None
 TakesTurn acts tostop old (Did id reaction) new = AdvancesQueue acts.steps tostop old id reaction new

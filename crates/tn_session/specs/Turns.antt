@@ -16,7 +16,8 @@ use Rattle.tn_session.specs.declared.mail.Mail.{Mail}
 use Rattle.tn_session.specs.declared.mail.Sender.TheVariants.{Back}
 use Rattle.tn_streams.specs.Known.{KnownWriting}
 use Rattle.tn_streams.specs.Telling.{Calls, AccountsFor}
-use Rattle.tn_machines.specs.server.Marks.{Turns, Runs, is_whole, all_whole, no_write_failed, no_writes_failed}
+use Rattle.tn_machines.specs.server.Marks.{Turns, Runs, is_whole, all_whole, no_write_failed}
+use Rattle.tn_machines.specs.server.Marks.{no_writes_failed}
 use Rattle.tn_machines.specs.server.Reaching.{LeadsTo, IsTurn}
 use Rattle.tn_machines.specs.server.Run.{Run, puts_of}
 use Rattle.tn_machines.specs.server.Welcoming.{too_far_ahead}
@@ -104,8 +105,8 @@ abbrev pub StaysInReach : Term → Ended → Type 0
 StaysInReach old ended =
     (c : Run) → LeadsTo c old → ended ≡ too_far_ahead → c.progress.ended ≡ too_far_ahead
 
--- what the terminal did: of the views, the writer and its notes before and after, and of the word to stop. It takes
--- ten, since each is seen before and after.
+-- what the terminal did: of the views, the writer and its notes before and after, and of the word to stop. It
+-- takes ten, since each is seen before and after.
 pub record HandlesAll (old : Term) (v w : View) (before_hand after_hand : EntryHand) (writer : KnownWriting)
     (before after : Noted) (stop : StopHand) (new : Term) : Type 0 where
   pub handled : List Mail

@@ -1,4 +1,5 @@
-// The rule of the mailbox.
+//! The rule of the mailbox.
+
 ghost use Rattle.std.specs.Prelude.{◌≡◌, List, Option, Some, None, [], ◌++◌};
 ghost use Rattle.tn_session.specs.Mailbox.{Woven, share, grown, handed, everyone, nobody, union, Total};
 ghost use Rattle.tn_streams.specs.Seats.{Kept};

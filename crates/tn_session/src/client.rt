@@ -3,7 +3,8 @@
 ghost use Rattle.std.specs.Prelude.{◌≡◌, [], None, IfOk, IfErr, IfSome};
 ghost use Rattle.crossbeam_channel.specs.Claims.{view, IsSeatAt};
 ghost use Rattle.crossbeam_channel.specs.Ends.{sends_on, receives_on};
-ghost use Rattle.tn_session.specs.Client.{core_view, IsReadyForTwo, AreTwoSettled, IsClientRun, RunningClient, client_report};
+ghost use Rattle.tn_session.specs.Client.{core_view, IsReadyForTwo, AreTwoSettled, IsClientRun};
+ghost use Rattle.tn_session.specs.Client.{RunningClient, client_report};
 ghost use Rattle.tn_queue.specs.Queue.{putter};
 ghost use Rattle.tn_session.specs.Facts.{client_result};
 ghost use Rattle.tn_session.specs.Session.{IsRefusal, IsOfThreads};

@@ -6,7 +6,7 @@ ghost use Rattle.tn_session.specs.Closing.{Closes};
 
 use tn_streams::Finish;
 
-/// Tells the writer once that no more comes from this end. Answers whether it was told, now or before.
+/// Tells the writer once that no more comes from this end. Returns whether it was told, now or before.
 pub(crate) fn finish_once<W: Finish>(writer: &mut W, closes: bool, closed: bool) -> bool
     ensures contents { Keeps (W.contents writer.old) (W.contents writer.new) }
     ensures told { W.told writer.new ≡ W.told writer.old }

@@ -1,13 +1,14 @@
 //! One piece at a time comes from the network: the terminal gives a credit once one more is welcome, and the
-//! thread that reads takes one before it sends a piece. Of what the background jobs say only so much waits for the
-//! terminal: their thread takes a credit for each step, and the terminal gives one back for each that it takes. So a
-//! key is passed by few messages, however fast these jobs are.
+//! thread that reads takes one before it sends a piece. Of what the background jobs say only so much waits
+//! for the terminal: their thread takes a credit for each step, and the terminal gives one back for each that
+//! it takes. So a key is passed by few messages, however fast these jobs are.
 
 ghost use Rattle.std.specs.Prelude.{◌≡◌, ◌≤◌, ◌<◌, ◌+◌, true, false, length, IfOk, IfSome};
 ghost use Rattle.crossbeam_channel.specs.Claims.{view, IsSeatAt};
 ghost use Rattle.crossbeam_channel.specs.Ends.{sends_on, receives_on};
 ghost use Rattle.tn_server.specs.Lines.{waiting};
-ghost use Rattle.tn_session.specs.Credits.{AnyTally, AreNewCredits, HaveUsed, none_taken, one_given, one_taken, owed_one, piece_one, step_one, IsSeated, HaveTaken};
+ghost use Rattle.tn_session.specs.Credits.{AnyTally, AreNewCredits, HaveUsed, none_taken, one_given};
+ghost use Rattle.tn_session.specs.Credits.{one_taken, owed_one, piece_one, step_one, IsSeated, HaveTaken};
 ghost use Rattle.tn_machines.specs.server.Reaching.{LeadsTo};
 ghost use Rattle.tn_machines.specs.server.Run.{Run};
 
@@ -23,8 +24,8 @@ use tn_machines::server::Term;
 /// How many credits there are.
 pub(crate) const CREDITS: usize = 1;
 
-/// How many steps of background jobs may be said that the terminal has not taken: half of what the mailbox holds, so
-/// that it is never full.
+/// How many steps of background jobs may be said that the terminal has not taken: half of what the mailbox
+/// holds, so that it is never full.
 const STEPS_AHEAD: u8 = 32;
 
 /// The leave to send one piece, or to say one step.
@@ -114,8 +115,8 @@ pub(crate) fn take_credit<R: Wait>(rt: &R, credits: &mut Option<CreditSeat>) -> 
     }
 }
 
-/// What the thread of the background jobs needs for its steps: so many credits are left of those that it has at
-/// first, and the others come.
+/// What the thread of the background jobs needs for its steps: so many credits are left of those that it has
+/// at first, and the others come.
 #[derive(Drop)]
 pub(crate) struct StepCredits {
     pub(crate) left: u8,
@@ -145,8 +146,8 @@ pub(crate) struct CreditGiver {
 }
 
 impl CreditGiver {
-    /// Gives one for this mail if a step of a background job said it. One that nobody waits for any more is lost; the
-    /// channel has room for each.
+    /// Gives one for this mail if a step of a background job said it. One that nobody waits for any more is
+    /// lost; the channel has room for each.
     pub(crate) fn give_for<R: Wait>(&mut self, rt: &R, mail: &Mail)
         requires seat { IsSeatAt (sends_on self.old.to) self.old.pass }
         ensures seat { IsSeatAt (sends_on self.new.to) self.new.pass }
@@ -204,7 +205,7 @@ pub(crate) fn is_piece(message: &Message) -> bool
     }
 }
 
-/// Gives the credit that is owed, if one is and a piece is welcome. Answers whether it is owed still. One
+/// Gives the credit that is owed, if one is and a piece is welcome. Returns whether it is owed still. One
 /// that nobody waits for any more is lost.
 pub(crate) fn give_credit<R: Wait>(
     rt: &R,

@@ -1,4 +1,4 @@
-// The channel of entries, of which `None` is the end.
+//! The channel of entries, of which `None` is the end.
 
 use tn_discipline::Entry;
 pub use tn_queue::{Hand, InTurn};

@@ -95,7 +95,8 @@ fn tell_control<R: Wait, Rd: Source>(
     requires seat { IsSeatAt (sends_on to.now) pass }
     requires role { (l : List MailT) × (view pass ≡ sender who l) }
     ensures seat { IfSome result (λ p. IsSeatAt (sends_on to.now) p) }
-    ensures told { IfSome result (λ p. SaysControl who (Rd.controls reader.old) (Rd.controls reader.new) (view pass)
+    ensures told { IfSome result (λ p. SaysControl who (Rd.controls reader.old) (Rd.controls reader.new)
+        (view pass)
         (view p)) }
     ensures bytes { Rd.remaining reader.new ≡ Rd.remaining reader.old }
     ensures foretold { Rd.foretold reader.new ≡ Rd.foretold reader.old }
@@ -127,9 +128,9 @@ fn tell_beside<R: Wait, Rd: Source>(
 }
 
 // tools/progress: proctype Net, ClientNet and ClientKeys
-/// Sends the pieces that the reader gives, each for a credit where these are needed, with the sizes and the control
-/// functions that it tells between them, and then how it ended: after 4,294,967,295 reads as if one had failed. Where it is told
-/// to stop it leaves after a piece. `None` where the other end is gone.
+/// Sends the pieces that the reader gives, each for a credit where these are needed, with the sizes and the
+/// control functions that it tells between them, and then how it ended: after 4,294,967,295 reads as if one
+/// had failed. Where it is told to stop it leaves after a piece. `None` where the other end is gone.
 pub(crate) fn run_reader<R: Wait, Rd: Source + Drop, G: Gate>(
     rt: &R,
     alloc: Global,

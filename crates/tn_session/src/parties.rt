@@ -81,8 +81,8 @@ pub struct Report {
     pub stops: u64,
 }
 
-/// The passes of the channels, in which contracts see what was sent and handled, and whether the thread of the
-/// background jobs was told to stop; and what the terminal did, in order.
+/// The passes of the channels, in which contracts see what was sent and handled, and whether the thread of
+/// the background jobs was told to stop; and what the terminal did, in order.
 #[derive(Drop)]
 pub struct Ports {
     pub net: MailPass,
@@ -95,8 +95,8 @@ pub struct Ports {
     pub transcript: Transcript,
 }
 
-/// The passes of a client session's channels, in which contracts see what was sent and handled, and whether the
-/// thread that reads the keys was told to stop; and what the core did, in order.
+/// The passes of a client session's channels, in which contracts see what was sent and handled, and whether
+/// the thread that reads the keys was told to stop; and what the core did, in order.
 #[derive(Drop)]
 pub struct ClientPorts {
     pub keys: MailPass,

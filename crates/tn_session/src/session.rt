@@ -9,7 +9,8 @@ ghost use Rattle.tn_session.specs.Joining.{IsReady, handler};
 ghost use Rattle.tn_session.specs.Makers.{AreAll, GivesJobs, IsMakerFault, begins};
 ghost use Rattle.tn_session.specs.Notes.{no_notes, noted_of};
 ghost use Rattle.tn_queue.specs.Queue.{putter};
-ghost use Rattle.tn_session.specs.Session.{IsBegun, IsOpening, IsRun, IsRefusal, IsOfThreads, RunsOn, RunningSession, report_of};
+ghost use Rattle.tn_session.specs.Session.{IsBegun, IsOpening, IsRun, IsRefusal, IsOfThreads, RunsOn};
+ghost use Rattle.tn_session.specs.Session.{RunningSession, report_of};
 ghost use Rattle.tn_session.specs.Stops.{AreNewStops};
 ghost use Rattle.tn_session.specs.Turning.{IsQueue, ids_of, jobs_of};
 ghost use Rattle.tn_session.specs.Turns.{StaysInReach};
@@ -431,8 +432,8 @@ where
 
 /// Runs a session over a connection: its reader and its writer, a terminal with these settings whose
 /// lines have at most `limit` bytes, edited at one side, and the jobs that `maker` makes. An `Err` is
-/// `Memory`, `Start` or `Channel`, and tells nothing of what was handled; all else ends in the report. A piece
-/// is handled only where at most 511 entries wait, so no report tells that too many entries waited.
+/// `Memory`, `Start` or `Channel`, and tells nothing of what was handled; all else ends in the report. A
+/// piece is handled only where at most 511 entries wait, so no report tells that too many entries waited.
 pub fn serve_session<R, Rd, W, M, G>(
     rt: R,
     alloc: Global,

@@ -80,7 +80,7 @@ pub(crate) fn is_stopped<R: Wait>(rt: &R, stops: &mut Option<StopSeat>) -> bool
 }
 
 impl StopTeller {
-    /// Tells it where it is due and was not told before. Answers whether it was told, now or before; `None`
+    /// Tells it where it is due and was not told before. Returns whether it was told, now or before; `None`
     /// where nobody hears it. The channel has room for the one word.
     pub(crate) fn tell<R: Wait>(&mut self, rt: &R, is_due: bool, told: bool) -> Option<bool>
         requires seat { IsSeatAt (sends_on self.old.to) self.old.pass }

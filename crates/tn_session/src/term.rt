@@ -44,7 +44,8 @@ pub(crate) struct Ends {
     pub(crate) give: CreditSender,
 }
 
-/// The terminal's passes: of the mailbox, of the entries, and of the credits; and where it gives those for steps.
+/// The terminal's passes: of the mailbox, of the entries, and of the credits; and where it gives those for
+/// steps.
 #[derive(Drop)]
 pub(crate) struct Passes {
     pub(crate) mails: MailPass,
@@ -203,10 +204,10 @@ pub(crate) fn finish_unless<W: Finish>(closed: bool, writer: &mut W)
 }
 
 // tools/progress: proctype Term
-/// Handles the mails until all senders have left, and gives a credit for the next piece once it is welcome, and for
-/// one more step of a background job as it takes one.
-/// `None` where the other end of a channel is gone, or a piece comes that is not welcome: the thread that
-/// reads waits for a credit before each piece, but no rule of the channels says so here.
+/// Handles the mails until all senders have left, and gives a credit for the next piece once it is welcome,
+/// and for one more step of a background job as it takes one. `None` where the other end of a channel is
+/// gone, or a piece comes that is not welcome: the thread that reads waits for a credit before each piece,
+/// but no rule of the channels says so here.
 pub(crate) fn run_term<R: Wait, W: Finish, G: Gate>(
     rt: &R,
     ends: &Ends,
@@ -231,7 +232,8 @@ pub(crate) fn run_term<R: Wait, W: Finish, G: Gate>(
         HandlesAll term.old (view passes.mails) (view p.mails) (view passes.hand) (view p.hand)
         (known_writing W.contents W.told writer.old writer.new) (noted_of output.old.transcript)
         (noted_of output.new.transcript) (view watched.new.stops.pass) term.new) }
-    ensures credits { IfSome result (λ p. GivesCredits (view passes.mails) (view p.mails) (view passes.give) (view p.give)) }
+    ensures credits { IfSome result (λ p. GivesCredits (view passes.mails) (view p.mails) (view passes.give)
+        (view p.give)) }
     ensures step_credits { IfSome result (λ p. GivesStepCredits (view passes.mails) (view p.mails)
         (view passes.step_credits.pass) (view p.step_credits.pass)) }
     ensures in_reach { IfSome result (λ p. StaysInReach term.old term.new.progress.ended) }

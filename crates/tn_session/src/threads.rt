@@ -112,8 +112,8 @@ impl<J: Job> Promise<Option<ThreadLeft>> for BackSays<J> {
         StopsStay p.stops.value left.stops) };
 }
 
-/// Starts a thread that reads, for this part, with the seat where it takes credits if it needs any, and the one
-/// where it is told to stop if it may be. `None` where it can't be started.
+/// Starts a thread that reads, for this part, with the seat where it takes credits if it needs any, and the
+/// one where it is told to stop if it may be. `None` where it can't be started.
 pub(crate) fn start_reader<
     R: Threads + Wait + Copy + Send + 'static,
     Rd: Source + Drop + Send + 'static,
@@ -201,16 +201,16 @@ pub(crate) fn start_desk<
     }
 }
 
-/// What the thread of the background jobs is given beside its jobs: the seat where it is told to stop, and the credits
-/// for its steps.
+/// What the thread of the background jobs is given beside its jobs: the seat where it is told to stop, and
+/// the credits for its steps.
 #[derive(Drop)]
 pub(crate) struct BackSeats {
     pub(crate) stops: StopSeat,
     pub(crate) credits: StepCredits,
 }
 
-/// Starts the thread of the background jobs. `None` where it can't be started. It takes seven, as what it is given
-/// goes together nowhere else.
+/// Starts the thread of the background jobs. `None` where it can't be started. It takes seven, as what it is
+/// given goes together nowhere else.
 pub(crate) fn start_back<
     R: Threads + Wait + Copy + Send + 'static,
     J: Job + Send + 'static,

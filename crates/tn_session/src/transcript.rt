@@ -24,9 +24,9 @@ pub struct Seal {
     hidden: (),
 }
 
-/// What the core of a session did, for contracts: which mails it took, and what it wrote to the network before it took
-/// the next (`specs/Notes.antt`). Only a call that takes a mail, or writes, notes it. When it runs, it holds none of
-/// this but the last byte.
+/// What the core of a session did, for contracts: which mails it took, and what it wrote to the network
+/// before it took the next (`specs/Notes.antt`). Only a call that takes a mail, or writes, notes it. When it
+/// runs, it holds none of this but the last byte.
 #[derive(Drop)]
 pub enum Transcript {
     Begun(Seal),
@@ -91,7 +91,8 @@ impl Transcript {
 
     /// Writes these bytes, or the first of them where a write fails. A write that takes none has failed.
     pub(crate) fn write_out<W: Drain>(&mut self, writer: &mut W, bytes: &[u8]) -> bool
-        ensures writes { NotesWrite result (W.contents writer.old) (W.contents writer.new) bytes.now (noted_of self.old) (noted_of self.new) }
+        ensures writes { NotesWrite result (W.contents writer.old) (W.contents writer.new) bytes.now
+            (noted_of self.old) (noted_of self.new) }
         ensures tells { Tells result (W.told writer.old) (W.told writer.new) }
         ensures none { bytes.now ≡ [] → result ≡ true }
         ensures going { StaysOpen (W.sending writer.old) (W.sending writer.new) }

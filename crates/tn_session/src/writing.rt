@@ -7,8 +7,8 @@ ghost use Rattle.tn_streams.specs.Sending.{StaysOpen};
 
 use tn_streams::{Drain, is_interrupted};
 
-/// Writes these bytes, or the first of them where a write fails, and answers how many it wrote. A write that takes none
-/// has failed.
+/// Writes these bytes, or the first of them where a write fails, and answers how many it wrote. A write that
+/// takes none has failed.
 pub(crate) fn write_front<W: Drain>(writer: &mut W, bytes: &[u8]) -> usize
     ensures bound { result ≤ length bytes.now }
     ensures writes { Appends (W.contents writer.old) (W.contents writer.new) (take result bytes.now) }

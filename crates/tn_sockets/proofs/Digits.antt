@@ -12,7 +12,8 @@ none : (n : ℕ) → number_from (Some n) [] ≡ Some n
 unfolding number_from
 none n = refl
 
-pub reads_on : (xs : List ℕ) (i n m : ℕ) → i < length xs → with_digit n (get_or xs i 0) ≡ Some m → number_from (Some n) (drop i xs) ≡ number_from (Some m) (drop (i + 1) xs)
+pub reads_on : (xs : List ℕ) (i n m : ℕ) → i < length xs → with_digit n (get_or xs i 0) ≡ Some m
+    → number_from (Some n) (drop i xs) ≡ number_from (Some m) (drop (i + 1) xs)
 reads_on xs i n m short e = ap (λ (l : List ℕ). number_from (Some n) l) (drop_more xs i 0 short) ∙ more n m (get_or xs i 0) (drop (i + 1) xs) e
 
 pub all_read : (xs : List ℕ) (i n : ℕ) → length xs ≤ i → number_from (Some n) (drop i xs) ≡ Some n

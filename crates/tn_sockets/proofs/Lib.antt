@@ -3,5 +3,5 @@ pub mod Writing
 pub mod Passing
 pub mod lemmas
 pub mod Digits
-pub mod Taking
+pub mod Giving
 pub mod Sorting

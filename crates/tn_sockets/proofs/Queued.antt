@@ -1,5 +1,6 @@
 -- The end of a queue, and what is sent of it.
-use Rattle.std.proofs.Common.{◌≡◌, ℕ, ◌≤◌, arith, length, take, Result, Ok, Err, OnOk, OnErr, Bool, true, false, not, List, [], ◌∷◌, ◌++◌, Option, Some, None, option_map, refl, sym, ap, ◌∙◌, subst, append_assoc, append-nil}
+use Rattle.std.proofs.Common.{◌≡◌, ℕ, ◌≤◌, arith, length, take, Result, Ok, Err, OnOk, OnErr, Bool, true, false, not, List, [], ◌∷◌, ◌++◌, Option, Some, None}
+use Rattle.std.proofs.Common.{option_map, refl, sym, ap, ◌∙◌, subst, append_assoc, append-nil}
 use Rattle.std.specs.Global.{Vec}
 use Rattle.std.specs.Option.{is_some}
 use Rattle.std.specs.Io.KnownBytes.{Appends, Keeps}
@@ -7,7 +8,8 @@ use Rattle.std.specs.Vec.{vec_items}
 use Rattle.tn_queue.specs.Queue.{more, put_more, taken_more}
 use Rattle.tn_sockets.proofs.Writing.{appends_more, appends_kept, appends_none, take_all}
 use Rattle.tn_sockets.specs.Passing.{Begins}
-use Rattle.tn_sockets.specs.Queue.{Piece, Pieces, PieceHand, behind_end, bytes_of, count_behind, has_end, put_bytes, TakesOn, WritesTaken, WritesAllTaken, WritesToTheEnd}
+use Rattle.tn_sockets.specs.Queue.{Piece, Pieces, PieceHand, behind_end, bytes_of, count_behind, has_end, put_bytes, TakesOn, WritesTaken, WritesAllTaken}
+use Rattle.tn_sockets.specs.Queue.{WritesToTheEnd}
 
 pub there : {A : Type 0} (o : Option A) → (o ≡ None → ⊥) → (l : A) × (o ≡ Some l)
 there None known = absurd (known refl)
@@ -85,11 +87,13 @@ none_behind v w x l mine none e =
     ap (λ (u : PieceHand). count_behind u.put) e ∙ ap (λ (o : Option Pieces). count_behind (more o x)) mine ∙ ap length (behind-more l x none)
 
 -- one piece more was put
-pub put_appends : (v w : PieceHand) (x : Vec ℕ) (l : Pieces) (bytes : List ℕ) → v.put ≡ Some l → w ≡ put_more v (Some x) → vec_items x ≡ bytes → Appends (put_bytes v) (put_bytes w) bytes
+pub put_appends : (v w : PieceHand) (x : Vec ℕ) (l : Pieces) (bytes : List ℕ) → v.put ≡ Some l → w ≡ put_more v (Some x) → vec_items x ≡ bytes
+    → Appends (put_bytes v) (put_bytes w) bytes
 put_appends v w x l bytes mine e is =
     let old : put_bytes v ≡ Some (bytes_of l) = ap (λ (o : Option Pieces). option_map bytes_of o) mine in
     let put : w.put ≡ Some (l ++ Some x ∷ []) = ap (λ (u : PieceHand). u.put) e ∙ ap (λ (o : Option Pieces). more o (Some x)) mine in
-    let new : put_bytes w ≡ Some (bytes_of l ++ bytes) = ap (λ (o : Option Pieces). option_map bytes_of o) put ∙ ap Some (bytes_of-push l x ∙ ap (λ (b : List ℕ). bytes_of l ++ b) is) in
+    let new : put_bytes w ≡ Some (bytes_of l ++ bytes) = ap (λ (o : Option Pieces). option_map bytes_of o) put
+    ∙ ap Some (bytes_of-push l x ∙ ap (λ (b : List ℕ). bytes_of l ++ b) is) in
     rw old (rw new refl)
 
 -- or the end, which has none
@@ -98,14 +102,16 @@ end_keeps v w l mine e =
     ap (λ (u : PieceHand). put_bytes u) e ∙ ap (λ (o : Option Pieces). option_map bytes_of (more o None)) mine ∙ ap Some (bytes_of-end l)
     ∙ sym (ap (λ (o : Option Pieces). option_map bytes_of o) mine)
 
-pub end_either : {A E : Type 0} (r : Result A E) (v w : PieceHand) (l : Pieces) → v.put ≡ Some l → OnOk r (w ≡ put_more v None) → OnErr r (w ≡ v) → put_bytes w ≡ put_bytes v
+pub end_either : {A E : Type 0} (r : Result A E) (v w : PieceHand) (l : Pieces) → v.put ≡ Some l → OnOk r (w ≡ put_more v None) → OnErr r (w ≡ v)
+    → put_bytes w ≡ put_bytes v
 end_either (Ok a) v w l mine put kept = end_keeps v w l mine put
 end_either (Err e) v w l mine put kept = ap put_bytes kept
 
 pub still_takes : (v w : PieceHand) (x : Piece) (l : Pieces) → v.taken ≡ Some l → w ≡ taken_more v x → w.taken ≡ Some (l ++ x ∷ [])
 still_takes v w x l mine e = ap (λ (u : PieceHand). u.taken) e ∙ ap (λ (o : Option Pieces). more o x) mine
 
-pub wrote_whole : (v w : PieceHand) (x : Vec ℕ) (l : Pieces) (bytes : List ℕ) → v.put ≡ Some l → w ≡ put_more v (Some x) → vec_items x ≡ bytes → Appends (put_bytes v) (put_bytes w) (take (length bytes) bytes)
+pub wrote_whole : (v w : PieceHand) (x : Vec ℕ) (l : Pieces) (bytes : List ℕ) → v.put ≡ Some l → w ≡ put_more v (Some x) → vec_items x ≡ bytes
+    → Appends (put_bytes v) (put_bytes w) (take (length bytes) bytes)
 wrote_whole v w x l bytes mine one is =
     let Q : List ℕ → Type 0 = λ bs. Appends (put_bytes v) (put_bytes w) bs in
     let all : length bytes ≤ length bytes = omega arith in
@@ -134,7 +140,8 @@ takes_two u v w ps qs one two l mine = two (l ++ ps) (one l mine) ∙ ap Some (a
 pub all_none : (v : PieceHand) (a : Option (List ℕ)) → WritesAllTaken v v a a
 all_none v a = ([], takes_none v, appends_none a)
 
-pub all_more : (u v w : PieceHand) (x : Vec ℕ) (bytes : List ℕ) (a b b' d : Option (List ℕ)) → WritesAllTaken u v a b → w ≡ taken_more v (Some x) → b' ≡ b → bytes ≡ vec_items x → Appends b' d bytes → WritesAllTaken u w a d
+pub all_more : (u v w : PieceHand) (x : Vec ℕ) (bytes : List ℕ) (a b b' d : Option (List ℕ)) → WritesAllTaken u v a b → w ≡ taken_more v (Some x) → b' ≡ b
+    → bytes ≡ vec_items x → Appends b' d bytes → WritesAllTaken u w a d
 all_more u v w x bytes a b b' d one e same is two =
     let P : Option (List ℕ) → Type 0 = λ o. Appends o d bytes in
     let Q : List ℕ → Type 0 = λ bs. Appends a d bs in
@@ -156,7 +163,8 @@ end_written u v a b one = (one.0 ++ None ∷ [], bytes_of one.0, one.1, ([], app
 pub all_written : (u v : PieceHand) (a b : Option (List ℕ)) → WritesAllTaken u v a b → WritesTaken u v a b
 all_written u v a b one = (one.0, bytes_of one.0, one.1, ([], append-nil (bytes_of one.0)), one.2)
 
-pub broken : (u v w : PieceHand) (x : Vec ℕ) (bytes : List ℕ) (a b b' d : Option (List ℕ)) → WritesAllTaken u v a b → w ≡ taken_more v (Some x) → b' ≡ b → bytes ≡ vec_items x → Begins b' d bytes → WritesTaken u w a d
+pub broken : (u v w : PieceHand) (x : Vec ℕ) (bytes : List ℕ) (a b b' d : Option (List ℕ)) → WritesAllTaken u v a b → w ≡ taken_more v (Some x) → b' ≡ b
+    → bytes ≡ vec_items x → Begins b' d bytes → WritesTaken u w a d
 broken u v w x bytes a b b' d one e same is two =
     let P : Option (List ℕ) → Type 0 = λ o. Appends o d two.0 in
     let whole : two.0 ++ two.1.0 ≡ vec_items x = two.1.1 ∙ is in (
@@ -167,11 +175,16 @@ broken u v w x bytes a b b' d one e same is two =
       appends_more a b d (bytes_of one.0) two.0 one.2 (subst P same two.2),
     )
 
-pub discarded : (u v w : PieceHand) (a b b' d : Option (List ℕ)) → WritesTaken u v a b → ((qs : Pieces) × TakesOn v qs w) → b' ≡ b → Keeps b' d → WritesTaken u w a d
+pub discarded : (u v w : PieceHand) (a b b' d : Option (List ℕ)) → WritesTaken u v a b → ((qs : Pieces) × TakesOn v qs w) → b' ≡ b → Keeps b' d
+    → WritesTaken u w a d
 discarded u v w a b b' d one two same kept = (
   one.0 ++ two.0,
   one.1,
   takes_two u v w one.0 two.0 one.2 two.1,
-  (one.3.0 ++ bytes_of two.0, sym (append_assoc one.1 one.3.0 (bytes_of two.0)) ∙ ap (λ (l : List ℕ). l ++ bytes_of two.0) one.3.1 ∙ sym (bytes_of-append one.0 two.0)),
+  (
+    one.3.0 ++ bytes_of two.0,
+    sym (append_assoc one.1 one.3.0 (bytes_of two.0)) ∙ ap (λ (l : List ℕ). l ++ bytes_of two.0) one.3.1
+        ∙ sym (bytes_of-append one.0 two.0),
+  ),
   appends_kept a b d one.1 one.4 (let P : Option (List ℕ) → Type 0 = λ o. Keeps o d in subst P same kept),
 )

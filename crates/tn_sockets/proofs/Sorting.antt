@@ -1,5 +1,6 @@
 -- Bytes that are taken one by one give what stands among them.
-use Rattle.std.proofs.Common.{◌≡◌, ◌<◌, ◌+◌, ℕ, Bool, true, false, if◌then◌else◌, Option, None, Some, List, [], ◌∷◌, ◌++◌, length, map, take, refl, sym, ap, ◌∙◌, subst, append_assoc, append-nil}
+use Rattle.std.proofs.Common.{◌≡◌, ◌<◌, ◌+◌, ℕ, Bool, true, false, if◌then◌else◌, Option, None, Some, List, [], ◌∷◌, ◌++◌, length, map, take, refl, sym, ap}
+use Rattle.std.proofs.Common.{◌∙◌, subst, append_assoc, append-nil}
 use Rattle.std.proofs.Math.ListN.{get_or}
 use Rattle.std.proofs.lemmas.List.{take_more}
 use Rattle.tn_sockets.specs.Typing.{AreTaken, Obeys, command_in, commands, input_in, inputs, inputs_in, typed_after, waits_after, waits_behind}
@@ -19,12 +20,14 @@ taken old new [] (t ∷ made) is = absurd is
 taken old new (byte ∷ bytes) [] is = absurd is
 taken old new (byte ∷ bytes) (t ∷ made) is =
     let rest : inputs_in made ≡ inputs is.0.character is.0.waits bytes = taken is.0 new bytes made is.4 in
-    let settled : inputs_in made ≡ inputs old.character (waits_after old.character old.waits byte) bytes = rest ∙ ap (λ (c : Option ℕ). inputs c is.0.waits bytes) is.2 ∙ ap (λ (w : Bool). inputs old.character w bytes) is.3 in
+    let settled : inputs_in made ≡ inputs old.character (waits_after old.character old.waits byte) bytes =
+    rest ∙ ap (λ (c : Option ℕ). inputs c is.0.waits bytes) is.2 ∙ ap (λ (w : Bool). inputs old.character w bytes) is.3 in
     λ i. input_in (is.1 i) ++ settled i
 
 -- ONE BYTE MORE
 module _ (character : Option ℕ) where
-  inputs_push : (waits : Bool) (bytes : List ℕ) (byte : ℕ) → inputs character waits (bytes ++ byte ∷ []) ≡ inputs character waits bytes ++ input_in (typed_after character (waits_behind character waits bytes) byte)
+  inputs_push : (waits : Bool) (bytes : List ℕ) (byte : ℕ) → inputs character waits (bytes ++ byte ∷ []) ≡ inputs character waits bytes
+      ++ input_in (typed_after character (waits_behind character waits bytes) byte)
   inputs_push waits [] byte = append-nil (input_in (typed_after character waits byte))
   inputs_push waits (x ∷ bytes) byte =
       let first = input_in (typed_after character waits x) in
@@ -32,7 +35,8 @@ module _ (character : Option ℕ) where
       ap (λ (xs : List Input). first ++ xs) (inputs_push next bytes byte)
       ∙ sym (append_assoc first (inputs character next bytes) (input_in (typed_after character (waits_behind character next bytes) byte)))
 
-  commands_push : (waits : Bool) (bytes : List ℕ) (byte : ℕ) → commands character waits (bytes ++ byte ∷ []) ≡ commands character waits bytes ++ command_in (typed_after character (waits_behind character waits bytes) byte)
+  commands_push : (waits : Bool) (bytes : List ℕ) (byte : ℕ) → commands character waits (bytes ++ byte ∷ []) ≡ commands character waits bytes
+      ++ command_in (typed_after character (waits_behind character waits bytes) byte)
   commands_push waits [] byte = append-nil (command_in (typed_after character waits byte))
   commands_push waits (x ∷ bytes) byte =
       let first = command_in (typed_after character waits x) in
@@ -40,7 +44,8 @@ module _ (character : Option ℕ) where
       ap (λ (cs : List Command). first ++ cs) (commands_push next bytes byte)
       ∙ sym (append_assoc first (commands character next bytes) (command_in (typed_after character (waits_behind character next bytes) byte)))
 
-  waits_push : (waits : Bool) (bytes : List ℕ) (byte : ℕ) → waits_behind character waits (bytes ++ byte ∷ []) ≡ waits_after character (waits_behind character waits bytes) byte
+  waits_push : (waits : Bool) (bytes : List ℕ) (byte : ℕ) → waits_behind character waits (bytes ++ byte ∷ [])
+      ≡ waits_after character (waits_behind character waits bytes) byte
   waits_push waits [] byte = refl
   waits_push waits (x ∷ bytes) byte = waits_push (waits_after character waits x) bytes byte
 
@@ -62,8 +67,10 @@ module _ (character : Option ℕ) (waits : Bool) (given : List ℕ) where
     pub waits_are : escaping.waits ≡ waits_behind character waits (take place given)
 
   -- one byte more was taken
-  pub one_more : (first : List Input) (place d : ℕ) (kept more : List Input) (before now later : Option (List Command)) (escaping new : Escaping) (typed : Typed) → IsSorted first place kept before now escaping → place < length given
-      → typed ≡ typed_after escaping.character escaping.waits (get_or given place d) → new.character ≡ escaping.character → new.waits ≡ waits_after escaping.character escaping.waits (get_or given place d)
+  pub one_more : (first : List Input) (place d : ℕ) (kept more : List Input) (before now later : Option (List Command)) (escaping new : Escaping)
+      (typed : Typed) → IsSorted first place kept before now escaping → place < length given
+      → typed ≡ typed_after escaping.character escaping.waits (get_or given place d) → new.character ≡ escaping.character
+      → new.waits ≡ waits_after escaping.character escaping.waits (get_or given place d)
       → more ≡ kept ++ input_in typed → Obeys now (command_in typed) later → IsSorted first (place + 1) more before later new
   one_more first place d kept more before now later escaping new typed s few is character_stays waits_is put obeyed =
       let byte = get_or given place d in
@@ -71,27 +78,36 @@ module _ (character : Option ℕ) (waits : Bool) (given : List ℕ) where
       let longer : take (place + 1) given ≡ done ++ byte ∷ [] = take_more given place d few in
       let read : typed ≡ typed_after character (waits_behind character waits done) byte = is ∙ (λ i. typed_after (s.character_is i) (s.waits_are i) byte) in
       let inputs_are : inputs character waits (take (place + 1) given) ≡ inputs character waits done ++ input_in typed =
-      ap (λ (l : List ℕ). inputs character waits l) longer ∙ inputs_push character waits done byte ∙ ap (λ (t : Typed). inputs character waits done ++ input_in t) (sym read) in
+      ap (λ (l : List ℕ). inputs character waits l) longer ∙ inputs_push character waits done byte
+      ∙ ap (λ (t : Typed). inputs character waits done ++ input_in t) (sym read) in
       let commands_are : commands character waits (take (place + 1) given) ≡ commands character waits done ++ command_in typed =
-      ap (λ (l : List ℕ). commands character waits l) longer ∙ commands_push character waits done byte ∙ ap (λ (t : Typed). commands character waits done ++ command_in t) (sym read) in
+      ap (λ (l : List ℕ). commands character waits l) longer ∙ commands_push character waits done byte
+      ∙ ap (λ (t : Typed). commands character waits done ++ command_in t) (sym read) in
       record {
-        kept_are = put ∙ ap (λ (l : List Input). l ++ input_in typed) s.kept_are ∙ append_assoc first (inputs character waits done) (input_in typed) ∙ ap (λ (l : List Input). first ++ l) (sym inputs_are);
-        obeyed = subst (λ (l : List Command). Obeys before l later) (sym commands_are) (obeys_more before now later (commands character waits done) (command_in typed) s.obeyed obeyed);
+        kept_are = put ∙ ap (λ (l : List Input). l ++ input_in typed) s.kept_are ∙ append_assoc first (inputs character waits done) (input_in typed)
+            ∙ ap (λ (l : List Input). first ++ l) (sym inputs_are);
+        obeyed = subst (λ (l : List Command). Obeys before l later) (sym commands_are)
+            (obeys_more before now later (commands character waits done) (command_in typed) s.obeyed obeyed);
         character_is = character_stays ∙ s.character_is;
-        waits_are = waits_is ∙ (λ i. waits_after (s.character_is i) (s.waits_are i) byte) ∙ sym (waits_push character waits done byte) ∙ sym (ap (λ (l : List ℕ). waits_behind character waits l) longer);
+        waits_are = waits_is ∙ (λ i. waits_after (s.character_is i) (s.waits_are i) byte) ∙ sym (waits_push character waits done byte)
+            ∙ sym (ap (λ (l : List ℕ). waits_behind character waits l) longer);
       }
 
   -- and the commands are those with it
-  pub commands_with : (place d : ℕ) (escaping : Escaping) (typed : Typed) → place < length given → escaping.character ≡ character → escaping.waits ≡ waits_behind character waits (take place given)
-      → typed ≡ typed_after escaping.character escaping.waits (get_or given place d) → commands character waits (take (place + 1) given) ≡ commands character waits (take place given) ++ command_in typed
+  pub commands_with : (place d : ℕ) (escaping : Escaping) (typed : Typed) → place < length given → escaping.character ≡ character
+      → escaping.waits ≡ waits_behind character waits (take place given)
+      → typed ≡ typed_after escaping.character escaping.waits (get_or given place d)
+      → commands character waits (take (place + 1) given) ≡ commands character waits (take place given) ++ command_in typed
   commands_with place d escaping typed few character_is waits_are is =
       let byte = get_or given place d in
       let done = take place given in
       let read : typed ≡ typed_after character (waits_behind character waits done) byte = is ∙ (λ i. typed_after (character_is i) (waits_are i) byte) in
-      ap (λ (l : List ℕ). commands character waits l) (take_more given place d few) ∙ commands_push character waits done byte ∙ ap (λ (t : Typed). commands character waits done ++ command_in t) (sym read)
+      ap (λ (l : List ℕ). commands character waits l) (take_more given place d few) ∙ commands_push character waits done byte
+      ∙ ap (λ (t : Typed). commands character waits done ++ command_in t) (sym read)
 
   -- at first nothing was
-  pub none_yet : (first : List Input) (before : Option (List Command)) (escaping : Escaping) → escaping.character ≡ character → escaping.waits ≡ waits → IsSorted first 0 first before before escaping
+  pub none_yet : (first : List Input) (before : Option (List Command)) (escaping : Escaping) → escaping.character ≡ character → escaping.waits ≡ waits
+      → IsSorted first 0 first before before escaping
   none_yet first before escaping character_is waits_is = record {
     kept_are = sym (append-nil first);
     obeyed = obeys_none before;

@@ -1,5 +1,6 @@
 -- One write after another.
-use Rattle.std.proofs.Common.{◌≡◌, ℕ, ◌≤◌, List, [], ◌∷◌, ◌++◌, Option, Some, None, Result, Ok, zero, suc, refl, sym, ap, ◌∙◌, subst, append_assoc, append-nil, take-append-drop, arith, length, take, drop}
+use Rattle.std.proofs.Common.{◌≡◌, ℕ, ◌≤◌, List, [], ◌∷◌, ◌++◌, Option, Some, None, Result, Ok, zero, suc, refl, sym, ap, ◌∙◌, subst, append_assoc, append-nil}
+use Rattle.std.proofs.Common.{take-append-drop, arith, length, take, drop}
 use Rattle.std.specs.Io.KnownBytes.{Appends, Keeps, WriteAppends}
 use Rattle.tn_sockets.specs.Passing.{Begins}
 
@@ -37,5 +38,6 @@ stops_now a b c n k bytes rest e one two =
     let Q : List ℕ → Type 0 = λ zs. Appends a c zs in
     stops_at a c n bytes (subst Q (append-nil (take n bytes)) (appends_more a b c (take n bytes) [] one (subst P e two)))
 
-pub ok_writes : {E : Type 0} (old new : Option (List ℕ)) (r : Result ℕ E) (n : ℕ) (buf : List ℕ) → r ≡ Ok n → WriteAppends old new r buf → Appends old new (take n buf)
+pub ok_writes : {E : Type 0} (old new : Option (List ℕ)) (r : Result ℕ E) (n : ℕ) (buf : List ℕ) → r ≡ Ok n → WriteAppends old new r buf
+    → Appends old new (take n buf)
 ok_writes {E} old new r n buf e h = let P : Result ℕ E → Type 0 = λ u. WriteAppends old new u buf in subst P e h

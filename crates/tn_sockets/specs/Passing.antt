@@ -1,5 +1,6 @@
 -- What passes through: a write that fails on the way, and what a reader hands on.
-use Rattle.std.specs.Prelude.{◌≡◌, ◌≢◌, ℕ, List, [], ◌++◌, map, take, Option, option_to_list, Result, Ok, Err, IfOk, MatchResult}
+use Rattle.std.specs.Prelude.{◌≡◌, ◌≢◌, ℕ, List, [], ◌++◌, map, take, Option, option_to_list, Result, Ok, Err}
+use Rattle.std.specs.Prelude.{IfOk, MatchResult}
 use Rattle.std.specs.Io.KnownBytes.{Appends, Consumes, Keeps}
 use Rattle.tn_sockets.specs.Typing.{IsTakenUpTo, inputs, waits_behind}
 use Rattle.tn_sockets.specs.declared.escaping.Escaping.{Escaping}
@@ -29,10 +30,11 @@ given_of (Err e) buf = []
 abbrev pub handed_on : List ℕ → Option Control → List Input
 handed_on keys asked = map input.Key keys ++ map input.Control (option_to_list asked)
 
--- From one state of a console to a later one. What it gave, is to tell and keeps is what it was to tell and kept, and
--- then what a session gets of the next bytes that were typed: each once, in their order. Of these all were taken, or
--- those up to one that asks to close.
-pub record GivesInputs (old new : Option (List ℕ)) (was now : Escaping) (to_tell : Option Control) (kept : List Input)
+-- From one state of a console to a later one. What it gave, is to tell and keeps is what it was to tell and
+-- kept, and then what a session gets of the next bytes that were typed: each once, in their order. Of these
+-- all were taken, or those up to one that asks to close.
+pub record GivesInputs (old new : Option (List ℕ)) (was now : Escaping) (to_tell : Option Control)
+    (kept : List Input)
     (given : List ℕ) (telling : Option Control) (left : List Input) : Type 0 where
   pub bytes : List ℕ
   pub typed : Consumes old new bytes

@@ -1,6 +1,7 @@
--- The queue of what waits to be sent. Its rule is that of `tn_queue`: what was taken, and then what it holds, is what
--- was put.
-use Rattle.std.specs.Prelude.{◌≡◌, ℕ, Bool, true, false, List, Option, Some, None, option_map, [], ◌∷◌, ◌++◌, length}
+-- The queue of what waits to be sent. Its rule is that of `tn_queue`: what was taken, and then what it holds,
+-- is what was put.
+use Rattle.std.specs.Prelude.{◌≡◌, ℕ, Bool, true, false, List, Option, Some, None, option_map, [], ◌∷◌, ◌++◌}
+use Rattle.std.specs.Prelude.{length}
 use Rattle.std.specs.Global.{Vec}
 use Rattle.std.specs.Io.KnownBytes.{Appends}
 use Rattle.std.specs.Vec.{vec_items}
@@ -36,7 +37,8 @@ abbrev pub no_name : PieceKey
 no_name = no_key
 
 -- this is the channel that they name
-abbrev pub IsNamed : {S Q M L A : Type 0} → PieceTable → PieceKey → Rows (Badge (Key Piece)) S Q M (Key Piece) L A → Type 0
+abbrev pub IsNamed : {S Q M L A : Type 0} → PieceTable → PieceKey
+    → Rows (Badge (Key Piece)) S Q M (Key Piece) L A → Type 0
 IsNamed table key c = (c.stamps.shared.table_id ≡ table) × (c.stamps.shared.key ≡ key)
 
 -- a pass that is seated there
@@ -90,7 +92,8 @@ abbrev pub WritesToTheEnd : PieceHand → PieceHand → Option (List ℕ) → Op
 WritesToTheEnd v w old new =
     (pieces : Pieces) × TakesOn v (pieces ++ None ∷ []) w × Appends old new (bytes_of pieces)
 
--- Of a queue that was new: a log has the first of the bytes that were put, and all of them where the end was sent.
+-- Of a queue that was new: a log has the first of the bytes that were put, and all of them where the end was
+-- sent.
 pub record IsSent (put : Option (List ℕ)) (whole : Type 0) (logged : List ℕ) : Type 0 where
   pub first : (bytes : List ℕ) → put ≡ Some bytes → IsPrefixOf logged bytes
   pub all : whole → put ≡ Some logged

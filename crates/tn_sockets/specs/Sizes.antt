@@ -1,6 +1,7 @@
--- How the size of a window is told: a line of its width and its height, five characters each, a space between them and
--- a line feed behind them.
-use Rattle.std.specs.Prelude.{◌≡◌, ◌≤◌, ◌+◌, ◌-◌, ◌*◌, ◌==◌, ◌&&◌, nat_le, ℕ, List, [], ◌∷◌, Option, Some, None, option_and_then, take, drop, length, if◌then◌else◌}
+-- How the size of a window is told: a line of its width and its height, five characters each, a space between
+-- them and a line feed behind them.
+use Rattle.std.specs.Prelude.{◌≡◌, ◌≤◌, ◌+◌, ◌-◌, ◌*◌, ◌==◌, ◌&&◌, nat_le, ℕ, List, [], ◌∷◌, Option, Some}
+use Rattle.std.specs.Prelude.{None, option_and_then, take, drop, length, if◌then◌else◌}
 use Rattle.tn_streams.specs.declared.window.WindowSize.{WindowSize}
 
 -- one character more behind a number; a space adds nothing

@@ -1,6 +1,7 @@
 -- What is typed at a terminal, of which an escape character makes commands to the client itself, and control
 -- functions that are asked of the session.
-use Rattle.std.specs.Prelude.{◌≡◌, ◌≤◌, ◌⊎◌, ℕ, nat_eq, Bool, true, false, Option, None, Some, List, [], ◌∷◌, ◌++◌, length, take, if◌then◌else◌}
+use Rattle.std.specs.Prelude.{◌≡◌, ◌≤◌, ◌⊎◌, ℕ, nat_eq, Bool, true, false, Option, None, Some, List, [], ◌∷◌}
+use Rattle.std.specs.Prelude.{◌++◌, length, take, if◌then◌else◌}
 use Rattle.tn_sockets.specs.declared.escaping.Command.{Command}
 use Rattle.tn_sockets.specs.declared.escaping.Command.TheVariants.{Close, Help, Status, Suspend, Unknown}
 use Rattle.tn_sockets.specs.declared.escaping.Escaping.{Escaping}
@@ -67,7 +68,8 @@ inputs character waits (byte ∷ bytes) =
 abbrev pub commands : Option ℕ → Bool → List ℕ → List Command
 commands character waits [] = []
 commands character waits (byte ∷ bytes) =
-    command_in (typed_after character waits byte) ++ commands character (waits_after character waits byte) bytes
+    command_in (typed_after character waits byte)
+    ++ commands character (waits_after character waits byte) bytes
 
 -- the bytes were taken one by one, and gave these
 abbrev pub AreTaken : Escaping → List ℕ → List Typed → Escaping → Type 0

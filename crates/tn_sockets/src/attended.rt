@@ -74,7 +74,8 @@ impl Standing {
         Ok(Arc::new(alloc, standing)?)
     }
 
-    /// Ends the session as by a hang-up, at once where the system has a bell to give, else within half a second.
+    /// Ends the session as by a hang-up: at once where it is held and the system has a bell to give, else
+    /// within half a second.
     pub fn hang_up(&self) {
         self.hung_up.store(true, Ordering::SeqCst);
         self.bell.ring();
@@ -100,8 +101,8 @@ impl Standing {
         self.too_long.load(Ordering::SeqCst)
     }
 
-    /// Whether the session was ended while its peer may still send: by `hang_up`, or since it lasted too long, or what
-    /// came was not typed.
+    /// Whether the session was ended while its peer may still send: by `hang_up`, or since it lasted too
+    /// long, or what came was not typed.
     pub fn is_ended_here(&self) -> bool {
         self.is_hung_up() || self.is_too_long() || self.is_idle()
     }
@@ -111,7 +112,8 @@ impl Standing {
         self.is_finished() || self.gone.load(Ordering::SeqCst)
     }
 
-    /// For how many seconds nothing may pass on the way to the peer, nor on to what a job is joined to; 0 is for ever.
+    /// For how many seconds nothing may pass on the way to the peer, nor on to what a job is joined to; 0 is
+    /// for ever.
     pub fn patience(&self) -> usize {
         self.patience.load(Ordering::SeqCst)
     }
@@ -142,8 +144,8 @@ impl Standing {
         }
     }
 
-    /// The peer is told that no more comes, and before it why, where that is neither its own wish nor a job's. What
-    /// the connection does not take at once is dropped.
+    /// The peer is told that no more comes, and before it why, where that is neither its own wish nor a
+    /// job's. What the connection does not take at once is dropped.
     pub(crate) fn finish(&self) {
         if let Some(stream) = self.stream.get() {
             let count = send_at_once(stream, self.last_words());
@@ -179,8 +181,8 @@ impl Standing {
 }
 
 /// What a client sends. It ends, as by a hang-up, where the client types nothing for too long, where the
-/// session has lasted too long, where a job of it wants that, and where the client does not close in time after
-/// it was told that no more comes.
+/// session has lasted too long, where a job of it wants that, and where the client does not close in time
+/// after it was told that no more comes.
 #[derive(Drop)]
 pub struct Attended<H, S> {
     rt: H,
@@ -198,9 +200,10 @@ pub struct Attended<H, S> {
 }
 
 impl<H: Clock + Copy + Wait> Attended<H, TcpStream> {
-    /// The reading side of a connection. It ends where for `idle` seconds nothing came that reaches the terminal, or
-    /// after `longest` seconds; 0 is never. A write to it that the peer does not take for the shorter of the two
-    /// fails: while it waits, nobody hears that the peer is silent. The peer is told `idle` or `too long` before.
+    /// The reading side of a connection. It ends where for `idle` seconds nothing came that reaches the
+    /// terminal, or after `longest` seconds; 0 is never. A write to it that the peer does not take for the
+    /// shorter of the two fails: while it waits, nobody hears that the peer is silent. The peer is told
+    /// `idle` or `too long` before.
     pub fn new(
         rt: H,
         alloc: Global,
@@ -211,6 +214,7 @@ impl<H: Clock + Copy + Wait> Attended<H, TcpStream> {
     ) -> io::Result<Attended<H, TcpStream>>
         ensures idle { IfOk result (λ attended. attended.idle ≡ idle) }
         ensures longest { IfOk result (λ attended. attended.longest ≡ longest) }
+        ensures stream { IfOk result (λ attended. attended.stream ≡ stream) }
     {
         stream.set_read_timeout(Some(Duration::from_millis(u64::from(LOOK))))?;
         let bound = shorter(idle, longest);
@@ -243,8 +247,8 @@ impl<H: Clock + Copy, S: Drop> Attended<H, S> {
         }
     }
 
-    // Whether no more is read: the peer typed nothing for too long, or it had its time to close. One that was idle has
-    // no such time.
+    // Whether no more is read: the peer typed nothing for too long, or it had its time to close. One that was
+    // idle has no such time.
     fn is_over(&mut self) -> bool
         ensures { self.new.stream ≡ self.old.stream }
     {
@@ -286,10 +290,10 @@ impl<H: Clock + Copy, S: Drop> Attended<H, S> {
 }
 
 impl<H: Clock + Copy + Wait, S: AsRawFd + Drop + Read + Closing> Attended<H, S> {
-    // Waits for what the client sends, for a short time, or until a job wants the session to end. Whether it is to be
-    // read; once a job wants that, the read waits itself, for the client to close.
+    // Waits for what the client sends, for a short time, or until a job wants the session to end. Whether it
+    // is to be read; where no job holds the session, and once one wants that, the read waits itself.
     fn comes(&self) -> bool {
-        if self.standing.is_hung_up() {
+        if !self.standing.held.load(Ordering::SeqCst) || self.standing.is_hung_up() {
             return true;
         }
         self.standing.bell.wait(self.stream.as_raw_fd(), LOOK)

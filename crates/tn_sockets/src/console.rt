@@ -1,7 +1,7 @@
 //! Standard input as keys: it is waited for, so that a session ends though nobody types, and at a terminal
 //! the user speaks to the client itself behind an escape character.
 
-ghost use Rattle.std.specs.Prelude.{◌≡◌, ◌≢◌, ◌≤◌, ◌+◌, ◌++◌, ℕ, [], None, length, take};
+ghost use Rattle.std.specs.Prelude.{◌≡◌, ◌≢◌, ◌≤◌, ◌+◌, ◌++◌, ℕ, [], false, None, length, take};
 ghost use Rattle.std.specs.Io.{ReadsAtMost};
 ghost use Rattle.std.specs.Io.KnownBytes.{ReadConsumes};
 ghost use Rattle.std.specs.VecDeque.{deque_capacity, deque_len};
@@ -55,7 +55,8 @@ enum Ready {
 }
 
 /// Keys from standard input, and what its user asks the client itself for. Of what is typed nothing is known
-/// beforehand. While keys are held back, a user who speaks to the client itself is heard: what is typed is read ahead.
+/// beforehand. While keys are held back, a user who speaks to the client itself is heard: what is typed is
+/// read ahead.
 #[derive(Drop)]
 pub struct Console<H, K> {
     rt: H,
@@ -85,7 +86,11 @@ impl<H: Clock + Copy + Wait, K: Read + Drop> Console<H, K> {
         alloc: Global,
         mut typing: Typing<H, K>,
         escape: Option<u8>,
-    ) -> Console<H, K> {
+    ) -> Console<H, K>
+        ensures escape { (result.escaping.character ≡ escape) × (result.escaping.waits ≡ false) }
+        ensures keys { result.typing.keys ≡ typing.keys }
+        ensures nothing_yet { (result.kept.items ≡ []) × (result.asked ≡ None) × (result.resized ≡ None) }
+    {
         let terminal = typing.terminal.take();
         let terminal = terminal.unwrap_or(Terminal::new(None, None));
         Console {
@@ -203,8 +208,8 @@ impl<H: Clock + Copy + Wait, K: Read + Drop> Console<H, K> {
         self.terminal = terminal;
     }
 
-    // Gives the first of the keys that are kept, or has a control function told; where there is neither, it is as if
-    // a signal had come.
+    // Gives the first of the keys that are kept, or has a control function told; where there is neither, it
+    // is as if a signal had come.
     fn give(&mut self, buf: &mut [u8]) -> io::Result<usize>
         ensures bound { ReadsAtMost result buf.new }
         ensures inputs { handed_on (given_of result buf.new) self.new.asked ++ self.new.kept.items

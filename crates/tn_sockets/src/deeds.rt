@@ -70,8 +70,8 @@ impl<'a, H, K> Deeds<'a, H, K> {
     }
 }
 
-// Who edits lines. Without LINEMODE a server that echoes takes keys one by one and edits them, as a rule; where it
-// does not echo, they are not edited by anybody.
+// Who edits lines. Without LINEMODE a server that echoes takes keys one by one and edits them, as a rule;
+// where it does not echo, they are not edited by anybody.
 fn editing_of(link: &Link) -> &'static str {
     if link.edits_here() {
         return "lines are edited here";

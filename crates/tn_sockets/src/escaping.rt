@@ -2,7 +2,8 @@
 
 ghost use Rattle.std.specs.Prelude.{◌≡◌, ◌≤◌, ◌+◌, ◌++◌, false, List, Option, None, [], ◌∷◌, length, take};
 ghost use Rattle.std.specs.VecDeque.{deque_capacity, deque_len};
-ghost use Rattle.tn_sockets.specs.Typing.{IsTakenUpTo, Obeys, command, commands, inputs, is_escape, meant, reading, waits, waits_behind};
+ghost use Rattle.tn_sockets.specs.Typing.{IsTakenUpTo, Obeys, command, commands, inputs, is_escape, meant};
+ghost use Rattle.tn_sockets.specs.Typing.{reading, waits, waits_behind};
 
 use std::collections::VecDeque;
 use tn_streams::Control;
@@ -94,8 +95,8 @@ impl Escaping {
         Typed::Key(byte)
     }
 
-    /// Keeps what a session gets of these bytes, behind what is kept, and has each command obeyed once; both in
-    /// their order. Answers how many bytes were taken: what stands behind one that asks to close is not.
+    /// Keeps what a session gets of these bytes, behind what is kept, and has each command obeyed once; both
+    /// in their order. Returns how many bytes were taken: what stands behind one that asks to close is not.
     pub fn sort<O: Obey>(
         &mut self,
         bytes: &[u8],

@@ -24,8 +24,9 @@ impl Hook {
         Hook::new(&self.standing)
     }
 
-    /// Ends the session at once, as if its client had hung up: what its jobs have written before
-    /// is sent, the client is told that no more comes, and what it still sends is not read.
+    /// Ends the session, as if its client had hung up: at once where it is held, else within half a second.
+    /// What its jobs have written before is sent, the client is told that no more comes, and what it still
+    /// sends is not read.
     pub fn hang_up(&self) {
         self.standing.hang_up();
     }
@@ -36,8 +37,8 @@ impl Hook {
         self.standing.hold();
     }
 
-    /// What the job is joined to was not reached, for these causes, a line each. They are told with the session's
-    /// end.
+    /// What the job is joined to was not reached, for these causes, a line each. They are told with the
+    /// session's end.
     pub fn note_unreached<R: Wait>(&self, rt: &R, causes: Vec<u8>) {
         self.standing.note_unreached(rt, causes);
     }

@@ -23,7 +23,9 @@ pub struct Incoming<H, N> {
 
 impl<H, N> Incoming<H, N> {
     /// What comes from there.
-    pub fn new(reader: N, link: Arc<Link, Global>, trace: Trace<H>) -> Incoming<H, N> {
+    pub fn new(reader: N, link: Arc<Link, Global>, trace: Trace<H>) -> Incoming<H, N>
+        ensures { result.reader ≡ reader }
+    {
         Incoming {
             reader,
             link,
@@ -50,7 +52,8 @@ impl<H: Clock + Copy + Wait, N: Read> Read for Incoming<H, N> {
     fn read(&mut self, buf: &mut [u8]) -> io::Result<usize>
         ensures bound { ReadsAtMost result buf.new }
         ensures bytes { ReadConsumes None None result buf.new }
-        ensures hands_on { HandsOn (N.remaining self.old.reader) (N.remaining self.new.reader) result buf.new }
+        ensures hands_on { HandsOn (N.remaining self.old.reader)
+            (N.remaining self.new.reader) result buf.new }
     {
         let got = self.reader.read(buf);
         match &got {

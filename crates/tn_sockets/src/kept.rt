@@ -1,5 +1,5 @@
-//! What was typed and is still to be given to a session: a queue of keys, with the control functions that are asked for
-//! between them.
+//! What was typed and is still to be given to a session: a queue of keys, with the control functions that are
+//! asked for between them.
 
 ghost use Rattle.std.specs.Prelude.{◌≡◌, ◌≤◌, ◌+◌, ◌++◌, true, length, map, option_to_list, take};
 ghost use Rattle.std.specs.VecDeque.{deque_capacity, deque_len};

@@ -1,6 +1,6 @@
 //! What a session over a connection needs besides its threads: both sides of the connection, the terminal
-//! and its window, what is typed there and what an escape character makes of it, a screen, a trace of what passes,
-//! and how a job hangs up.
+//! and its window, what is typed there and what an escape character makes of it, a screen, a trace of what
+//! passes, and how a job hangs up.
 //!
 //! ```
 //! let (reader, writer) = Connection::split(stream)?;
@@ -14,9 +14,9 @@
 //! escaping.take(b'q'); // Typed::Command(Command::Close)
 //! ```
 //!
-//! It starts no thread and no session. Nothing is proved of what a socket or a terminal carries. It is proved that
-//! both sides of a connection hand on what their stream gives and takes, that what is sent is what was queued, in
-//! order, and that keys of a reader are its bytes.
+//! It starts no thread and no session. Nothing is proved of what a socket or a terminal carries. It is proved
+//! that both sides of a connection hand on what their stream gives and takes, that what is sent is what was
+//! queued, in order, and that keys of a reader are its bytes.
 #![tactic(auto)]
 
 pub use attended::{Attended, Standing};

@@ -4,8 +4,8 @@ use std::net::{Shutdown, TcpStream};
 use std::sync::atomic::{AtomicBool, AtomicUsize, Ordering};
 use std::sync::{OnceLock, Wait};
 
-/// How often what is sent may have to wait once the user has left, and once nothing more comes. Each time takes as
-/// long as a write waits.
+/// How often what is sent may have to wait once the user has left, and once nothing more comes. Each time
+/// takes as long as a write waits.
 const MAX_LATE: usize = 4;
 
 const MAX_LINGER: usize = 50;

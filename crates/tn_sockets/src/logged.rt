@@ -10,8 +10,8 @@ use crate::write_log::WriteLog;
 use std::io;
 use tn_streams::{Drain, Finish};
 
-/// A writer with a log of the bytes that it took, so that contracts see them though it tells nothing itself, as
-/// a socket does.
+/// A writer with a log of the bytes that it took, so that contracts see them though it tells nothing itself,
+/// as a socket does.
 #[derive(Drop)]
 pub struct Logged<W> {
     writer: W,
@@ -47,9 +47,11 @@ impl<W: Finish> Drain for Logged<W> {
 
     fn write_some(&mut self, buf: &[u8]) -> io::Result<usize>
         ensures bound { WritesAtMost result buf.now }
-        ensures bytes { WriteAppends (Some (logged self.old.log)) (Some (logged self.new.log)) result buf.now }
+        ensures bytes { WriteAppends (Some (logged self.old.log)) (Some (logged self.new.log)) result
+            buf.now }
         ensures goes { W.sending self.new.writer ≡ written_on (W.sending self.old.writer) }
-        ensures hands_on { WriteAppends (W.contents self.old.writer) (W.contents self.new.writer) result buf.now }
+        ensures hands_on { WriteAppends (W.contents self.old.writer) (W.contents self.new.writer) result
+            buf.now }
     {
         let count = self.writer.write_some(buf)?;
         let log = std::mem::replace(&mut self.log, WriteLog::new());

@@ -264,8 +264,8 @@ impl<H: Wait> Throttle<H> {
 }
 
 impl<H: Clock + Wait> Throttle<H> {
-    /// Whether no keys are to be given: more waits than the marks, though so many milliseconds were waited for some of
-    /// it to be sent, and somebody sends it.
+    /// Whether no keys are to be given: more waits than the marks, though so many milliseconds were waited
+    /// for some of it to be sent, and somebody sends it.
     pub(crate) fn holds(&self, milliseconds: u64) -> bool {
         if self.waiting.is_little() {
             return false;

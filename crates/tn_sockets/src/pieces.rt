@@ -1,4 +1,4 @@
-// The queue of what waits to be sent, of which `None` is the end: one puts and one takes.
+//! The queue of what waits to be sent, of which `None` is the end: one puts and one takes.
 
 use std::marker::Brand;
 pub use tn_queue::{Hand, InTurn};
@@ -14,7 +14,8 @@ pub type PieceSender = QueueSender<Piece>;
 
 pub type PieceReceiver = QueueReceiver<Piece>;
 
-/// One queue, for contracts: the table and the key of its channel, at which the passes of its ends are seated.
+/// One queue, for contracts: the table and the key of its channel, at which the passes of its ends are
+/// seated.
 pub trait Queue {
     ghost use Rattle.tn_sockets.specs.Queue.{PieceKey, PieceTable};
 

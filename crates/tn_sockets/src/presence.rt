@@ -4,8 +4,8 @@ use std::alloc::Global;
 use tn_codes::Command;
 use tn_nvt::{Decoder, Item, Params, Refused, Sink};
 
-/// Tells of each piece of what a client sends whether something of it reaches the terminal: data, and the commands that
-/// stand for keys there. Options, a size, NOP and AYT do not.
+/// Tells of each piece of what a client sends whether something of it reaches the terminal: data, and the
+/// commands that stand for keys there. Options, a size, NOP and AYT do not.
 #[derive(Drop)]
 pub(crate) struct Typed {
     decoder: Decoder,
@@ -19,7 +19,8 @@ impl Typed {
         }
     }
 
-    /// Whether something of the next piece is typed. Once memory ran out for the parameters of a subnegotiation, all is.
+    /// Whether something of the next piece is typed. Once memory ran out for the parameters of a
+    /// subnegotiation, all is.
     pub(crate) fn has_typed(&mut self, piece: &[u8]) -> bool {
         let mut seen = Seen(false);
         match self.decoder.feed_to(piece, &mut seen) {

@@ -5,7 +5,8 @@ ghost use Rattle.std.specs.Io.KnownBytes.{Appends};
 ghost use Rattle.crossbeam_channel.specs.Claims.{view, IsSeatAt};
 ghost use Rattle.crossbeam_channel.specs.Ends.{receives_on};
 ghost use Rattle.tn_queue.specs.Queue.{taken_more};
-ghost use Rattle.tn_sockets.specs.Queue.{Piece as PieceT, IsNamed, IsSeatIn, TakesOn, WritesTaken, WritesToTheEnd};
+ghost use Rattle.tn_sockets.specs.Queue.{Piece as PieceT, IsNamed, IsSeatIn, TakesOn, WritesTaken};
+ghost use Rattle.tn_sockets.specs.Queue.{WritesToTheEnd};
 ghost use Rattle.tn_sockets.specs.Passing.{Begins};
 
 use crate::link::Link;
@@ -48,8 +49,9 @@ pub enum Sent {
 
 impl<H: Copy + Wait, W: Drop + Finish, Q: Queue> Sending<H, W, Q> {
     // tools/progress: proctype Sending
-    /// Sends all up to the end, and finishes the writer. Where a write fails the link is ended, since the other
-    /// end hears no more. Once the user has left, what can't be sent in time is discarded, and the link is ended.
+    /// Sends all up to the end, and finishes the writer. Where a write fails the link is ended, since the
+    /// other end hears no more. Once the user has left, what can't be sent in time is discarded, and the link
+    /// is ended.
     pub fn run(&mut self) -> io::Result<Sent>
         ensures sent { WritesTaken (view self.old.pass) (view self.new.pass)
             (W.contents self.old.writer) (W.contents self.new.writer) }
@@ -132,8 +134,8 @@ impl<H: Copy + Wait, W: Drop + Finish, Q: Queue> Sending<H, W, Q> {
     }
 }
 
-// Writes these bytes, or the first of them where a write fails. A write that takes none has failed. Those that were
-// written do not wait any more.
+// Writes these bytes, or the first of them where a write fails. A write that takes none has failed. Those
+// that were written do not wait any more.
 fn send_whole<W: Drain>(
     writer: &mut W,
     bytes: &[u8],

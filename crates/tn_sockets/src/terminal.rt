@@ -9,8 +9,8 @@ const PROMPT: &[u8] = b"\r\ntn> ";
 /// The line that asks whoever set the terminal to stop the program: SUB and a line feed.
 const STOPS: &[u8] = b"\x1a\n";
 
-/// The terminal itself, whose standard output may be a file. Where there is none, nothing is shown. A line that can't
-/// be written is dropped.
+/// The terminal itself, whose standard output may be a file. Where there is none, nothing is shown. A line
+/// that can't be written is dropped.
 #[derive(Drop)]
 pub struct Terminal {
     /// What is shown at it.

@@ -1,5 +1,5 @@
-//! A trace of what comes and goes: a line for each item, in the order in which it passes, with the seconds since
-//! the beginning.
+//! A trace of what comes and goes: a line for each item, in the order in which it passes, with the seconds
+//! since the beginning.
 
 use std::alloc::{AllocError, Global};
 use std::fs::File;
@@ -75,8 +75,8 @@ impl Sides {
     }
 }
 
-/// Notes what passes, if a trace is wanted, and when: what is read or written at once has one time. Where there is no
-/// clock, each time is that of the beginning.
+/// Notes what passes, if a trace is wanted, and when: what is read or written at once has one time. Where
+/// there is no clock, each time is that of the beginning.
 #[derive(Drop)]
 pub struct Trace<H> {
     rt: H,

@@ -1,5 +1,5 @@
--- What a reader tells beside its bytes: the sizes of the window in which they are typed, and the control functions
--- that are asked for between them.
+-- What a reader tells beside its bytes: the sizes of the window in which they are typed, and the control
+-- functions that are asked for between them.
 use Rattle.std.specs.Prelude.{◌≡◌, Option, Some, None, List, ◌∷◌, ◌++◌}
 
 -- the next of these was told, or none; where they are not known, they stay so

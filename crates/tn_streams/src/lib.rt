@@ -67,8 +67,8 @@ pub trait Source {
         None
     }
 
-    /// The control function that is asked for right behind the bytes that were given, if there is one that was
-    /// not told.
+    /// The control function that is asked for right behind the bytes that were given, if there is one that
+    /// was not told.
     fn control(&mut self) -> Option<Control>
         ensures tells { TellsNext (controls self.old) result (controls self.new) }
         ensures bytes { remaining self.new ≡ remaining self.old }

@@ -76,7 +76,8 @@ same_sent false sent h later e f = refl
 stood : (c new : Run) → new.sent ≡ c.sent → new.history ≡ c.history → (new.progress.closed ≡ false → c.progress.closed ≡ false) → Typed c → Typed new
 stood c new e f g t = record { latest = λ o. e ∙ t.latest (g o) ∙ sym f; same = ap inputs e ∙ t.same ∙ sym (ap inputs f) }
 
-turned : (c new : Run) (from : Origin) (m : Message) → new.sent ≡ c.sent → new.history ≡ c.history → new.progress ≡ after_message from m c.progress → Typed c → Typed new
+turned : (c new : Run) (from : Origin) (m : Message) → new.sent ≡ c.sent → new.history ≡ c.history → new.progress ≡ after_message from m c.progress → Typed c
+    → Typed new
 turned c new from m e f g t = stood c new e f (λ o. opens from m c.progress (sym (ap (λ (p : Progress). p.closed) g) ∙ o)) t
 
 acts : (c new : Run) (from : Origin) (m : Message) → Acts c from m new → MayType c.progress.closed from m → Typed c → Typed new
@@ -101,13 +102,17 @@ acts c new from (Resized size) a may t =
       same = ap inputs e ∙ same_sent c.progress.closed c.sent c.history later t.same refl ∙ sym (ap inputs f);
     }
 acts c new Keys (Asked control) a may t =
-    let e = ap (λ (r : Run). r.sent) a ∙ sent_latest c.progress.closed c.sent (next c.history (client.sent (command_of control))) may ∙ sym (ap (λ (r : Run). r.history) a) in
+    let e = ap (λ (r : Run). r.sent) a ∙ sent_latest c.progress.closed c.sent (next c.history (client.sent (command_of control))) may
+    ∙ sym (ap (λ (r : Run). r.history) a) in
     record { latest = λ o. e; same = ap inputs e }
-acts c new Net (Asked control) a may t = stood c new (ap (λ (r : Run). r.sent) a) (ap (λ (r : Run). r.history) a) (λ o. sym (ap (λ (r : Run). r.progress.closed) a) ∙ o) t
+acts c new Net (Asked control) a may t = stood c new (ap (λ (r : Run). r.sent) a) (ap (λ (r : Run). r.history) a)
+    (λ o. sym (ap (λ (r : Run). r.progress.closed) a) ∙ o) t
 acts c new from HangUp a may t = turned c new from HangUp (ap (λ (r : Run). r.sent) a) (ap (λ (r : Run). r.history) a) (ap (λ (r : Run). r.progress) a) t
-acts c new from ReadFailed a may t = turned c new from ReadFailed (ap (λ (r : Run). r.sent) a) (ap (λ (r : Run). r.history) a) (ap (λ (r : Run). r.progress) a) t
+acts c new from ReadFailed a may t = turned c new from ReadFailed (ap (λ (r : Run). r.sent) a) (ap (λ (r : Run). r.history) a)
+    (ap (λ (r : Run). r.progress) a) t
 acts c new from Take a may t = turned c new from Take (ap (λ (r : Run). r.sent) a) (ap (λ (r : Run). r.history) a) (ap (λ (r : Run). r.progress) a) t
-acts c new from (Said job text after) a may t = turned c new from (Said job text after) (ap (λ (r : Run). r.sent) a) (ap (λ (r : Run). r.history) a) (ap (λ (r : Run). r.progress) a) t
+acts c new from (Said job text after) a may t = turned c new from (Said job text after) (ap (λ (r : Run). r.sent) a) (ap (λ (r : Run). r.history) a)
+    (ap (λ (r : Run). r.progress) a) t
 acts c new from Refused a may t = turned c new from Refused (ap (λ (r : Run). r.sent) a) (ap (λ (r : Run). r.history) a) (ap (λ (r : Run). r.progress) a) t
 acts c new from Left a may t = turned c new from Left (ap (λ (r : Run). r.sent) a) (ap (λ (r : Run). r.history) a) (ap (λ (r : Run). r.progress) a) t
 
@@ -117,9 +122,12 @@ handles false c new x a may t = acts c new x.from x.message a may t
 
 turn_typed : (c new : Run) (x : Told) (k : Mark) → Turns c (x, k) new → MayType c.progress.closed x.from x.message → Typed c → Typed new
 turn_typed c new x mark.Whole a may t = handles c.progress.over c new x a may t
-turn_typed c new x mark.WriteFailed a may t = stood a.1 new (ap (λ (r : Run). r.sent) a.3) (ap (λ (r : Run). r.history) a.3) (λ o. sym (ap (λ (r : Run). r.progress.closed) a.3) ∙ o) (handles c.progress.over c a.1 x a.2 may t)
-turn_typed c new x mark.ShowFailed a may t = stood a.1 new (ap (λ (r : Run). r.sent) a.3) (ap (λ (r : Run). r.history) a.3) (λ o. sym (ap (λ (r : Run). r.progress.closed) a.3) ∙ o) (handles c.progress.over c a.1 x a.2 may t)
-turn_typed c new x (mark.Refused f) a may t = stood a.1 new (ap (λ (r : Run). r.sent) a.3) (ap (λ (r : Run). r.history) a.3) (λ o. sym (ap (λ (r : Run). r.progress.closed) a.3) ∙ o) (handles c.progress.over c a.1 x a.2 may t)
+turn_typed c new x mark.WriteFailed a may t = stood a.1 new (ap (λ (r : Run). r.sent) a.3) (ap (λ (r : Run). r.history) a.3)
+    (λ o. sym (ap (λ (r : Run). r.progress.closed) a.3) ∙ o) (handles c.progress.over c a.1 x a.2 may t)
+turn_typed c new x mark.ShowFailed a may t = stood a.1 new (ap (λ (r : Run). r.sent) a.3) (ap (λ (r : Run). r.history) a.3)
+    (λ o. sym (ap (λ (r : Run). r.progress.closed) a.3) ∙ o) (handles c.progress.over c a.1 x a.2 may t)
+turn_typed c new x (mark.Refused f) a may t = stood a.1 new (ap (λ (r : Run). r.sent) a.3) (ap (λ (r : Run). r.history) a.3)
+    (λ o. sym (ap (λ (r : Run). r.progress.closed) a.3) ∙ o) (handles c.progress.over c a.1 x a.2 may t)
 
 -- what leaves the network open
 abbrev IsOpen : Origin → Message → Type 0
@@ -202,11 +210,14 @@ first_of_keys Keys Left ms l = last l
 first_of_keys Keys (Resized size) ms l = more tt l
 first_of_keys Keys (Asked control) ms l = more tt l
 
-pub run_typed : (marked : List (Told × Mark)) (c new : Run) → Runs c marked new → c.progress.closed ≡ false → LeftLast (keys_messages (tolds marked)) → Typed c → Typed new
+pub run_typed : (marked : List (Told × Mark)) (c new : Run) → Runs c marked new → c.progress.closed ≡ false → LeftLast (keys_messages (tolds marked)) → Typed c
+    → Typed new
 run_typed [] c new r open_now l t = typed_as c new r t
-run_typed ((x, k) ∷ marked) c new r open_now l t = go (first_of_keys x.from x.message (keys_messages (tolds marked)) l) (turn_typed c r.0 x k r.1 (may_always c.progress.closed x.from x.message open_now) t) (run_typed marked r.0 new r.2)
+run_typed ((x, k) ∷ marked) c new r open_now l t = go (first_of_keys x.from x.message (keys_messages (tolds marked)) l)
+    (turn_typed c r.0 x k r.1 (may_always c.progress.closed x.from x.message open_now) t) (run_typed marked r.0 new r.2)
   where
-    go : First x.from x.message (keys_messages (tolds marked)) → Typed r.0 → (r.0.progress.closed ≡ false → LeftLast (keys_messages (tolds marked)) → Typed r.0 → Typed new) → Typed new
+    go : First x.from x.message (keys_messages (tolds marked)) → Typed r.0
+        → (r.0.progress.closed ≡ false → LeftLast (keys_messages (tolds marked)) → Typed r.0 → Typed new) → Typed new
     go (last n) u later = run_closed marked r.0 new r.2 n u
     go (more is l) u later = later (turn_open c r.0 x k is r.1 ∙ open_now) l u
 
@@ -228,7 +239,8 @@ ending_last Left left e = tt
 ending_last (Resized size) left e = absurd e
 ending_last (Asked control) left e = absurd e
 
-closes_last : (may_stop : Bool) (pieces : List (List ℕ)) (left : Option (List ℕ)) (foretold : Option Failures) (close : List Message) → Closes may_stop pieces left foretold close → LeftLast close
+closes_last : (may_stop : Bool) (pieces : List (List ℕ)) (left : Option (List ℕ)) (foretold : Option Failures) (close : List Message)
+    → Closes may_stop pieces left foretold close → LeftLast close
 closes_last may_stop pieces left foretold close closes =
     ⊎_elim
     (λ x. subst (λ (l : List Message). LeftLast l) (sym x.2) (ending_last x.0 left x.1.0))
@@ -238,7 +250,8 @@ closes_last may_stop pieces left foretold close closes =
 abbrev messages_in : List Mail → List Message
 messages_in xs = map (λ x. x.message) xs
 
-told_more : (s : Sender) (m : Message) (xs : List Mail) → keys_messages (all_told xs) ≡ messages_in (from sender.Keys xs) → keys_messages (all_told (mail s m ∷ xs)) ≡ messages_in (from sender.Keys (mail s m ∷ xs))
+told_more : (s : Sender) (m : Message) (xs : List Mail) → keys_messages (all_told xs) ≡ messages_in (from sender.Keys xs)
+    → keys_messages (all_told (mail s m ∷ xs)) ≡ messages_in (from sender.Keys (mail s m ∷ xs))
 told_more sender.Keys m xs ih = ap (λ (l : List Message). m ∷ l) ih
 told_more sender.Net m xs ih = ih
 told_more sender.Desk m xs ih = ih
@@ -252,8 +265,11 @@ mailed : (ms : List Message) → messages_in (map (mail sender.Keys) ms) ≡ ms
 mailed [] = refl
 mailed (m ∷ ms) = ap (λ (l : List Message). m ∷ l) (mailed ms)
 
-pub inputs_sent : (width height limit : ℕ) (marked : List (Told × Mark)) (new : Run) (handled : List Mail) (may_stop : Bool) (told : List Telling) (left : Option (List ℕ)) (foretold : Option Failures) (close : List Message)
-    → Runs (start width height limit) marked new → tolds marked ≡ all_told handled → from sender.Keys handled ≡ map (mail sender.Keys) (told_messages told ++ close) → Closes may_stop (pieces_in told) left foretold close → inputs new.sent ≡ inputs new.history
+pub inputs_sent : (width height limit : ℕ) (marked : List (Told × Mark)) (new : Run) (handled : List Mail) (may_stop : Bool) (told : List Telling)
+    (left : Option (List ℕ)) (foretold : Option Failures) (close : List Message)
+    → Runs (start width height limit) marked new → tolds marked ≡ all_told handled
+    → from sender.Keys handled ≡ map (mail sender.Keys) (told_messages told ++ close) → Closes may_stop (pieces_in told) left foretold close
+    → inputs new.sent ≡ inputs new.history
 inputs_sent width height limit marked new handled may_stop told left foretold close runs is sent closes =
     let all = ap keys_messages is ∙ told_all handled ∙ ap messages_in sent ∙ mailed (told_messages told ++ close) in
     let l = subst (λ (ms : List Message). LeftLast ms) (sym all) (told_last told close (closes_last may_stop (pieces_in told) left foretold close closes)) in

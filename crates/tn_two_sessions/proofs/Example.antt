@@ -1,5 +1,6 @@
 -- Two sessions whose transcripts a socket carries: a line is typed, heard and taken, and both hang up.
-use Rattle.std.proofs.Common.{◌≡◌, ℕ, zero, suc, inl, true, false, Option, Some, None, List, [], ◌∷◌, ◌++◌, refl, sym, ap, ◌∙◌, subst, map, append-nil, append_assoc, arith, lit<}
+use Rattle.std.proofs.Common.{◌≡◌, ℕ, zero, suc, inl, true, false, Option, Some, None, List, [], ◌∷◌, ◌++◌, refl, sym, ap, ◌∙◌, subst, map, append-nil}
+use Rattle.std.proofs.Common.{append_assoc, arith, lit<}
 use Rattle.std.proofs.lemmas.List.Elements.{All-nil, All-cons}
 use Rattle.tn_client.specs.Screen.{text_shown}
 use Rattle.tn_machines.proofs.lemmas.client.Bringing.{in_order}
@@ -31,7 +32,8 @@ use Rattle.tn_nvt.specs.declared.items.Item.TheVariants.{Byte}
 use Rattle.tn_option.specs.Options.{state_of, options_after_wish, new_options}
 use Rattle.tn_option.specs.QMethod.{cell}
 use Rattle.tn_server.specs.declared.wishes.Editing.{Editing}
-use Rattle.tn_session.proofs.lemmas.Sessions.{ServerTranscript, ClientTranscript, server_transcript, server_reads, server_noted, client_transcript, client_reads, client_noted}
+use Rattle.tn_session.proofs.lemmas.Sessions.{ServerTranscript, ClientTranscript, server_transcript, server_reads, server_noted, client_transcript}
+use Rattle.tn_session.proofs.lemmas.Sessions.{client_reads, client_noted}
 use Rattle.tn_session.specs.Notes.{Note, Noted, no_notes, notes}
 use Rattle.tn_session.specs.Transcripts.{exchange_of}
 use Rattle.tn_session.specs.Client as of_client
@@ -103,7 +105,8 @@ nothing_first [] ys e = refl
 nothing_first (x ∷ xs) ys e = cc
 
 -- the server's part alone
-read_first : (ss : List Exchange) (done later : List Step) → map served ss ≡ done ++ later → (client_steps done ≡ []) × IsPrefixOf (all_read (server_steps done)) (all_read ss)
+read_first : (ss : List Exchange) (done later : List Step) → map served ss ≡ done ++ later → (client_steps done ≡ [])
+    × IsPrefixOf (all_read (server_steps done)) (all_read ss)
 read_first ss [] later e = (refl, (all_read ss, refl))
 read_first [] (d ∷ done) later e = cc
 read_first (x ∷ ss) (d ∷ done) later e =
@@ -113,7 +116,8 @@ read_first (x ∷ ss) (d ∷ done) later e =
     subst P h.0 (r.0, (r.1.0, append_assoc x.read (all_read (server_steps done)) r.1.0 ∙ ap (λ (l : List ℕ). x.read ++ l) r.1.1))
 
 -- what came before: so much was written by the client
-timely : (cs ss : List Exchange) (wrote : List ℕ) → all_read ss ≡ wrote ++ all_wrote cs → all_read cs ≡ [] → (done later : List Step) → clients_first cs ss ≡ done ++ later
+timely : (cs ss : List Exchange) (wrote : List ℕ) → all_read ss ≡ wrote ++ all_wrote cs → all_read cs ≡ [] → (done later : List Step)
+    → clients_first cs ss ≡ done ++ later
     → IsPrefixOf (all_read (server_steps done)) (wrote ++ all_wrote (client_steps done)) × (all_read (client_steps done) ≡ [])
 timely cs ss wrote e none [] later is = ((wrote ++ [], refl), refl)
 timely [] ss wrote e none (d ∷ done) later is =
@@ -125,7 +129,8 @@ timely (c ∷ cs) ss wrote e none (d ∷ done) later is =
     let first = nothing_first c.read (all_read cs) none in
     let rest : all_read cs ≡ [] = ap (λ (l : List ℕ). l ++ all_read cs) (sym first) ∙ none in
     let r = timely cs ss (wrote ++ c.wrote) (e ∙ sym (append_assoc wrote c.wrote (all_wrote cs))) rest done later h.1 in
-    let P : Step → Type 0 = λ s. IsPrefixOf (all_read (server_steps (s ∷ done))) (wrote ++ all_wrote (client_steps (s ∷ done))) × (all_read (client_steps (s ∷ done)) ≡ []) in
+    let P : Step → Type 0 = λ s. IsPrefixOf (all_read (server_steps (s ∷ done))) (wrote ++ all_wrote (client_steps (s ∷ done)))
+    × (all_read (client_steps (s ∷ done)) ≡ []) in
     subst P h.0 (
       subst (λ (l : List ℕ). IsPrefixOf (all_read (server_steps done)) l) (append_assoc wrote c.wrote (all_wrote (client_steps done))) r.0,
       ap (λ (l : List ℕ). l ++ all_read (client_steps done)) first ∙ r.1,
@@ -138,7 +143,11 @@ one_way ss cs e none = record {
   of_client = clients_of cs ss;
   in_time = λ done later is.
       let t = timely cs ss [] e none done later is in
-      record { to_server = t.0; to_client = subst (λ (l : List ℕ). IsPrefixOf l (all_wrote (server_steps done))) (sym t.1) (all_wrote (server_steps done), refl) };
+      record {
+        to_server = t.0;
+        to_client = subst (λ (l : List ℕ). IsPrefixOf l (all_wrote (server_steps done))) (sym t.1)
+            (all_wrote (server_steps done), refl);
+      };
 }
 
 -- THE SERVER'S SESSION
@@ -176,7 +185,8 @@ from_back = mail who.Back Left ∷ []
 
 abbrev marked : List (Message × term_mark.Mark)
 marked =
-    (Piece bytes, term_is.Whole) ∷ (Take, term_is.Whole) ∷ (Said first_job [] Stay, term_is.Whole) ∷ (HangUp, term_is.Whole) ∷ (Take, term_is.Whole) ∷ (Left, term_is.Whole)
+    (Piece bytes, term_is.Whole) ∷ (Take, term_is.Whole) ∷ (Said first_job [] Stay, term_is.Whole) ∷ (HangUp, term_is.Whole) ∷ (Take, term_is.Whole)
+    ∷ (Left, term_is.Whole)
     ∷ (Left, term_is.Whole) ∷ (Left, term_is.Whole) ∷ []
 
 woven : (s : Sender) → from s handled ≡ four from_net from_desk from_back [] s
@@ -254,7 +264,16 @@ module _ (editing : Editing) where
   }
 
   read : ReaderSends who.Net false a_socket result.views.net
-  read = (piece_told bytes ∷ [], None, HangUp ∷ Left ∷ [], tt, inl (HangUp, (tt, tt), refl), refl, All-cons IsPiece bytes [] is_piece (All-nil IsPiece), (None, refl))
+  read = (
+    piece_told bytes ∷ [],
+    None,
+    HangUp ∷ Left ∷ [],
+    tt,
+    inl (HangUp, (tt, tt), refl),
+    refl,
+    All-cons IsPiece bytes [] is_piece (All-nil IsPiece),
+    (None, refl),
+  )
 
   abbrev jobs : SessionJobs (Unit {0})
   jobs = record { first = first_job; job = tt; queue = []; tostop = false }
@@ -270,7 +289,8 @@ module _ (editing : Editing) where
     whole = refl;
     here = refl;
     first =
-        (Piece bytes, term_is.Whole) ∷ (Take, term_is.Whole) ∷ (Said first_job [] Stay, term_is.Whole) ∷ (HangUp, term_is.Whole) ∷ (Take, term_is.Whole) ∷ (Left, term_is.Whole)
+        (Piece bytes, term_is.Whole) ∷ (Take, term_is.Whole) ∷ (Said first_job [] Stay, term_is.Whole) ∷ (HangUp, term_is.Whole) ∷ (Take, term_is.Whole)
+        ∷ (Left, term_is.Whole)
         ∷ (Left, term_is.Whole) ∷ [];
     later = (Left, term_is.Whole) ∷ [];
     marks = refl;
@@ -428,7 +448,8 @@ module _ (width height : ℕ) where
   abbrev client_said : ClientTranscript c0 told_all c5 (of_client.says c5)
   client_said = client_transcript width height example.canon.limit told_all c5 (of_client.says c5) [] client_runs (sym (append-nil (of_client.says c5)))
 
-  abbrev client_notes : (noted : Noted) × (steps : List Note) × (notes noted ≡ notes no_notes ++ steps) × (map (λ n. n.took) steps ≡ map (λ x. Some x) mails) × (client_said.transcript ≡ map (exchange_of of_client.brought_by) steps)
+  abbrev client_notes : (noted : Noted) × (steps : List Note) × (notes noted ≡ notes no_notes ++ steps) × (map (λ n. n.took) steps ≡ map (λ x. Some x) mails)
+      × (client_said.transcript ≡ map (exchange_of of_client.brought_by) steps)
   client_notes = client_noted width height example.canon.limit told_all c5 (of_client.says c5) mails client_said refl
 
   abbrev client_result : ClientResult
@@ -459,7 +480,16 @@ module _ (width height : ℕ) where
   not_stopped e = cc
 
   keys_sent : ReaderSends who.Keys false keys_reader client_result.keys
-  keys_sent = (piece_told typed ∷ [], Some [], HangUp ∷ Left ∷ [], refl, inl (HangUp, (refl, tt), refl), refl, All-cons IsPiece typed [] short (All-nil IsPiece), (None, refl))
+  keys_sent = (
+    piece_told typed ∷ [],
+    Some [],
+    HangUp ∷ Left ∷ [],
+    refl,
+    inl (HangUp, (refl, tt), refl),
+    refl,
+    All-cons IsPiece typed [] short (All-nil IsPiece),
+    (None, refl),
+  )
 
   net_sent : ReaderSends who.Net false a_socket client_result.net
   net_sent = ([], None, HangUp ∷ Left ∷ [], tt, inl (HangUp, (tt, tt), refl), refl, All-nil IsPiece, (None, refl))
@@ -541,13 +571,30 @@ sessions_carry editing =
     let s_reads : all_read s_said.transcript ≡ bytes = server_reads (r0 editing) marked r (of_server.says r) s_said in
     let c_reads : all_read c_said.transcript ≡ [] = client_reads (c0 80 24) (told_all 80 24) c (of_client.says c) c_said in
     let whole : all_read s_said.transcript ≡ all_wrote c_said.transcript = s_reads ∙ sym (c_said.writes ∙ client_says 80 24) in
-    let s : Served example.any_jobs example.canon = record { editing = editing; to_make = None; reader = a_socket; writer = writes_unknown; result = result editing; ran = running editing } in
-    let c : Connected example.canon.limit = record { width = 80; height = 24; keys = keys_known 80 24; reader = a_socket; writer = writes_unknown; screen = writes_unknown; result = client_result 80 24; ran = conversing 80 24 } in
+    let s : Served example.any_jobs example.canon = record {
+      editing = editing;
+      to_make = None;
+      reader = a_socket;
+      writer = writes_unknown;
+      result = result editing;
+      ran = running editing;
+    } in
+    let c : Connected example.canon.limit = record {
+      width = 80;
+      height = 24;
+      keys = keys_known 80 24;
+      reader = a_socket;
+      writer = writes_unknown;
+      screen = writes_unknown;
+      result = client_result 80 24;
+      ran = conversing 80 24;
+    } in
     record {
       server = s;
       client = c;
       edited = refl;
-      with_keys = All-cons (λ input. HasKey example.canon.settings input) (key_typed 97) (key_typed 13 ∷ []) tt (All-cons (λ input. HasKey example.canon.settings input) (key_typed 13) [] tt (All-nil (λ input. HasKey example.canon.settings input)));
+      with_keys = All-cons (λ input. HasKey example.canon.settings input) (key_typed 97) (key_typed 13 ∷ []) tt
+          (All-cons (λ input. HasKey example.canon.settings input) (key_typed 13) [] tt (All-nil (λ input. HasKey example.canon.settings input)));
       carried = one_way s_said.transcript c_said.transcript whole c_reads;
       ran = record { server = refl; client = refl; whole = whole };
       typed_keys = refl;

@@ -1,5 +1,6 @@
 -- Of keys and commands, those that a reader gives and those that were read, and what more of them add.
-use Rattle.std.proofs.Common.{◌≡◌, ℕ, Bool, true, All, Option, Some, None, option_to_list, List, [], ◌∷◌, ◌++◌, map, refl, sym, ap, ◌∙◌, subst, append_assoc, append-nil}
+use Rattle.std.proofs.Common.{◌≡◌, ℕ, Bool, true, All, Option, Some, None, option_to_list, List, [], ◌∷◌, ◌++◌, map, refl, sym, ap, ◌∙◌, subst, append_assoc}
+use Rattle.std.proofs.Common.{append-nil}
 use Rattle.std.proofs.lemmas.Grind.{flat_map-append}
 use Rattle.std.proofs.lemmas.List.Elements.{All-nil, All-cons, All-head, All-tail, All-pop}
 use Rattle.std.specs.Io.KnownBytes.{Consumes}
@@ -32,7 +33,8 @@ use Rattle.tn_world.proofs.lemmas.Histories.{AreTypeable, keys_typed}
 use Rattle.tn_world.specs.Commands.{IsTypeable, key_for, key_if, interrupt_key}
 
 -- of what a reader gives, these bytes come first
-pub given_first : (all : List ℕ) (left : Option (List ℕ)) (first later bytes : List ℕ) → bytes ≡ first ++ later → Consumes (Some all) left bytes → (more : List ℕ) × (all ≡ first ++ more)
+pub given_first : (all : List ℕ) (left : Option (List ℕ)) (first later bytes : List ℕ) → bytes ≡ first ++ later → Consumes (Some all) left bytes
+    → (more : List ℕ) × (all ≡ first ++ more)
 given_first all None first later bytes e c = absurd c
 given_first all (Some ys) first later bytes e c = (later ++ ys, c ∙ ap (λ (bs : List ℕ). bs ++ ys) e ∙ append_assoc first later ys)
 
@@ -67,7 +69,8 @@ there s standard isig = subst (λ (c : Characters). interrupt_key (record { flag
 intr_is : (s : Settings) → s.chars ≡ standard_characters → s.flags.isig ≡ true → option_to_list (interrupt_key s) ≡ option_to_list s.chars.intr
 intr_is s standard isig = ap option_to_list (there s standard isig ∙ sym (ap (λ (c : Characters). c.intr) standard))
 
-key_as : (s : Settings) (command : UserCommand) → s.chars ≡ standard_characters → HasKey s (command_sent command) → option_to_list (key_for command s) ≡ key_of s (command_sent command)
+key_as : (s : Settings) (command : UserCommand) → s.chars ≡ standard_characters → HasKey s (command_sent command)
+    → option_to_list (key_for command s) ≡ key_of s (command_sent command)
 key_as s user.Brk standard has = intr_is s standard has
 key_as s user.Ip standard has = intr_is s standard has
 key_as s user.Ayt standard has = refl
@@ -94,7 +97,8 @@ module _ (s : Settings) (standard : s.chars ≡ standard_characters) where
   typed_as (next k (client.sent command)) all =
       let both = last_of (inputs k) (command_sent command) all in
       let one = key_of s (command_sent command) in
-      ap (λ (ks : List ℕ). keys_typed s k ++ ks) (key_as s command standard both.1 ∙ sym (append-nil one)) ∙ ap (λ (ks : List ℕ). ks ++ (one ++ [])) (typed_as k both.0)
+      ap (λ (ks : List ℕ). keys_typed s k ++ ks) (key_as s command standard both.1 ∙ sym (append-nil one))
+      ∙ ap (λ (ks : List ℕ). ks ++ (one ++ [])) (typed_as k both.0)
       ∙ sym (keys_of-append s (inputs k) (command_sent command ∷ []))
   typed_as (next k (got item)) all = typed_as k all
   typed_as (next k (resized width height)) all = typed_as k all

@@ -1,5 +1,6 @@
 -- What one loop brings about: after each event all bytes are carried, in one order.
-use Rattle.std.proofs.Common.{◌≡◌, ◌⊎◌, inl, inr, ℕ, All, Bool, true, false, Option, Some, None, List, [], ◌∷◌, ◌++◌, refl, sym, ap, ◌∙◌, subst, map, append_assoc, append-nil}
+use Rattle.std.proofs.Common.{◌≡◌, ◌⊎◌, inl, inr, ℕ, All, Bool, true, false, Option, Some, None, List, [], ◌∷◌, ◌++◌, refl, sym, ap, ◌∙◌, subst, map}
+use Rattle.std.proofs.Common.{append_assoc, append-nil}
 use Rattle.std.proofs.lemmas.List.{map-append}
 use Rattle.std.proofs.lemmas.Fn.{FoldsTo-push}
 use Rattle.std.specs.List.{FoldsTo}
@@ -77,7 +78,8 @@ none_left (d ∷ ds) later e = absurd (none_some e)
     none_some f = cc
 
 -- the first of these steps and one more are the first of these, or all
-first_or_all : (xs : List Step) (x : Step) (done later : List Step) → xs ++ x ∷ [] ≡ done ++ later → ((more : List Step) × (xs ≡ done ++ more)) ⊎ (done ≡ xs ++ x ∷ [])
+first_or_all : (xs : List Step) (x : Step) (done later : List Step) → xs ++ x ∷ [] ≡ done ++ later → ((more : List Step) × (xs ≡ done ++ more))
+    ⊎ (done ≡ xs ++ x ∷ [])
 first_or_all xs x [] later e = inl (xs, refl)
 first_or_all [] x (d ∷ ds) later e =
     let p = parts x d [] (ds ++ later) e in
@@ -86,11 +88,13 @@ first_or_all (y ∷ ys) x (d ∷ ds) later e =
     let p = parts y d (ys ++ x ∷ []) (ds ++ later) e in
     go p.0 (first_or_all ys x ds later p.1)
   where
-    go : y ≡ d → ((more : List Step) × (ys ≡ ds ++ more)) ⊎ (ds ≡ ys ++ x ∷ []) → ((more : List Step) × (y ∷ ys ≡ d ∷ (ds ++ more))) ⊎ (d ∷ ds ≡ y ∷ (ys ++ x ∷ []))
+    go : y ≡ d → ((more : List Step) × (ys ≡ ds ++ more)) ⊎ (ds ≡ ys ++ x ∷ []) → ((more : List Step) × (y ∷ ys ≡ d ∷ (ds ++ more)))
+        ⊎ (d ∷ ds ≡ y ∷ (ys ++ x ∷ []))
     go same (inl m) = inl (m.0, λ i. same i ∷ m.1 i)
     go same (inr m) = inr (λ i. sym same i ∷ m i)
 
-in_time_more : (order : List Step) (x : Step) → AllInTime order → IsInTime (server_steps (order ++ x ∷ [])) (client_steps (order ++ x ∷ [])) → AllInTime (order ++ x ∷ [])
+in_time_more : (order : List Step) (x : Step) → AllInTime order → IsInTime (server_steps (order ++ x ∷ [])) (client_steps (order ++ x ∷ []))
+    → AllInTime (order ++ x ∷ [])
 in_time_more order x before now done later e = go (first_or_all order x done later e)
   where
     go : ((more : List Step) × (order ≡ done ++ more)) ⊎ (done ≡ order ++ x ∷ []) → IsInTime (server_steps done) (client_steps done)
@@ -98,7 +102,8 @@ in_time_more order x before now done later e = go (first_or_all order x done lat
     go (inr m) = subst (λ (d : List Step). IsInTime (server_steps d) (client_steps d)) (sym m) now
 
 -- what has come is the first of what was written, where the rest is on its way
-in_time_by : (order : List Step) (to_server to_client : List ℕ) → all_wrote (client_steps order) ≡ all_read (server_steps order) ++ to_server → all_wrote (server_steps order) ≡ all_read (client_steps order) ++ to_client → IsInTime (server_steps order) (client_steps order)
+in_time_by : (order : List Step) (to_server to_client : List ℕ) → all_wrote (client_steps order) ≡ all_read (server_steps order) ++ to_server
+    → all_wrote (server_steps order) ≡ all_read (client_steps order) ++ to_client → IsInTime (server_steps order) (client_steps order)
 in_time_by order to_server to_client e f = record { to_server = (to_server, sym e); to_client = (to_client, sym f) }
 
 -- THE MESSAGES OF THE USER
@@ -125,7 +130,8 @@ left_last : (ss : List ClientStep) → AllInputs ss → LeftLast (keys_messages 
 left_last [] all = tt
 left_last (s ∷ ss) all = go s.0.0.from s.0.0.message all.0 (left_last ss all.1)
   where
-    go : (from : Origin) (m : Message) → IsInput m → LeftLast (keys_messages (tolds (map (λ (t : ClientStep). t.0) ss))) → LeftLast (keys_messages ((record { from = from; message = m }) ∷ tolds (map (λ (t : ClientStep). t.0) ss)))
+    go : (from : Origin) (m : Message) → IsInput m → LeftLast (keys_messages (tolds (map (λ (t : ClientStep). t.0) ss)))
+        → LeftLast (keys_messages ((record { from = from; message = m }) ∷ tolds (map (λ (t : ClientStep). t.0) ss)))
     go origin.Net m is later = later
     go origin.Keys (message.Piece piece) is later = later
     go origin.Keys (message.Asked control) is later = later
@@ -142,7 +148,8 @@ typed_in ss = inputs_brought (tolds (map (λ s. s.0) ss))
 
 typed-push : (ss : List ClientStep) (s : ClientStep) → typed_in (ss ++ s ∷ []) ≡ typed_in ss ++ inputs_from s.0.0.from s.0.0.message
 typed-push [] s = append-nil (inputs_from s.0.0.from s.0.0.message)
-typed-push (t ∷ ts) s = ap (λ (l : List Input). inputs_from t.0.0.from t.0.0.message ++ l) (typed-push ts s) ∙ sym (append_assoc (inputs_from t.0.0.from t.0.0.message) (typed_in ts) (inputs_from s.0.0.from s.0.0.message))
+typed-push (t ∷ ts) s = ap (λ (l : List Input). inputs_from t.0.0.from t.0.0.message ++ l) (typed-push ts s)
+    ∙ sym (append_assoc (inputs_from t.0.0.from t.0.0.message) (typed_in ts) (inputs_from s.0.0.from s.0.0.message))
 
 unwritten_one : (m : core_mark.Mark) → core.is_written m ≡ false → core.is_whole m ≡ false
 unwritten_one core_is.Whole e = e
@@ -203,7 +210,8 @@ module _ (canon : Canon) (editing : Editing) (jobs : Jobs) (width height : ℕ) 
         told_by = refl;
         of_server = refl;
         of_client = refl;
-        in_time = in_time_more [] (served (record { read = []; wrote = opening })) nothing (in_time_by first j.to_server.items j.to_client.items to_server to_client);
+        in_time = in_time_more [] (served (record { read = []; wrote = opening })) nothing
+            (in_time_by first j.to_server.items j.to_client.items to_server to_client);
         to_server = to_server;
         to_client = to_client;
         puts = sym start.puts;
@@ -219,7 +227,8 @@ module _ (canon : Canon) (editing : Editing) (jobs : Jobs) (width height : ℕ) 
           none_some f = cc
 
   -- the terminal handles a message, whose bytes were on their way
-  serves : (typed : List Input) (old mid new : Joined) (m : Message) → Here typed old → mid.term ≡ old.term → mid.core ≡ old.core → mid.to_client ≡ old.to_client → mid.puts ≡ old.puts → old.to_server.items ≡ bytes_in m ++ mid.to_server.items → ServesOne mid m new → Here typed new
+  serves : (typed : List Input) (old mid new : Joined) (m : Message) → Here typed old → mid.term ≡ old.term → mid.core ≡ old.core
+      → mid.to_client ≡ old.to_client → mid.puts ≡ old.puts → old.to_server.items ≡ bytes_in m ++ mid.to_server.items → ServesOne mid m new → Here typed new
   serves typed old mid new m h term_is core_is to_client_is puts_is comes one =
       let at = subst (λ (t : Term). term_reach.LeadsTo h.server t) (sym term_is) h.at_server in
       let q = one.turn.leads h.server at in
@@ -228,12 +237,18 @@ module _ (canon : Canon) (editing : Editing) (jobs : Jobs) (width height : ℕ) 
       let over = λ (p : term_progress.Progress). p.over in
       let server_is : server_steps order ≡ server_steps h.order ++ x ∷ [] = server-append h.order (served x ∷ []) in
       let client_is : client_steps order ≡ client_steps h.order = client-append h.order (served x ∷ []) ∙ append-nil (client_steps h.order) in
-      let server_read : all_read (server_steps order) ≡ all_read (server_steps h.order) ++ bytes_in m = ap all_read server_is ∙ one_read (server_steps h.order) x in
-      let server_wrote : all_wrote (server_steps order) ≡ all_wrote (server_steps h.order) ++ one.bytes = ap all_wrote server_is ∙ one_wrote (server_steps h.order) x in
+      let server_read : all_read (server_steps order) ≡ all_read (server_steps h.order) ++ bytes_in m =
+      ap all_read server_is ∙ one_read (server_steps h.order) x in
+      let server_wrote : all_wrote (server_steps order) ≡ all_wrote (server_steps h.order) ++ one.bytes =
+      ap all_wrote server_is ∙ one_wrote (server_steps h.order) x in
       let flight : mid.to_server.items ≡ new.to_server.items = ap (λ v. v.items) (sym one.to_server) in
-      let to_server : all_wrote (client_steps order) ≡ all_read (server_steps order) ++ new.to_server.items = ap all_wrote client_is ∙ h.to_server ∙ ap (λ (l : List ℕ). all_read (server_steps h.order) ++ l) comes ∙ sym (append_assoc (all_read (server_steps h.order)) (bytes_in m) mid.to_server.items) ∙ (λ i. sym server_read i ++ flight i) in
+      let to_server : all_wrote (client_steps order) ≡ all_read (server_steps order) ++ new.to_server.items =
+      ap all_wrote client_is ∙ h.to_server ∙ ap (λ (l : List ℕ). all_read (server_steps h.order) ++ l) comes
+      ∙ sym (append_assoc (all_read (server_steps h.order)) (bytes_in m) mid.to_server.items) ∙ (λ i. sym server_read i ++ flight i) in
       let sent : new.to_client.items ≡ old.to_client.items ++ one.bytes = one.to_client ∙ ap (λ v. v.items ++ one.bytes) to_client_is in
-      let to_client : all_wrote (server_steps order) ≡ all_read (client_steps order) ++ new.to_client.items = server_wrote ∙ ap (λ (l : List ℕ). l ++ one.bytes) h.to_client ∙ append_assoc (all_read (client_steps h.order)) old.to_client.items one.bytes ∙ (λ i. all_read (sym client_is i) ++ sym sent i) in
+      let to_client : all_wrote (server_steps order) ≡ all_read (client_steps order) ++ new.to_client.items =
+      server_wrote ∙ ap (λ (l : List ℕ). l ++ one.bytes) h.to_client ∙ append_assoc (all_read (client_steps h.order)) old.to_client.items one.bytes
+      ∙ (λ i. all_read (sym client_is i) ++ sym sent i) in
       record {
         order = order;
         ss = h.ss ++ ((m, one.mark), one.bytes) ∷ [];
@@ -242,17 +257,19 @@ module _ (canon : Canon) (editing : Editing) (jobs : Jobs) (width height : ℕ) 
         client = h.client;
         at_server = q.2;
         at_client = subst (λ (c : Core). core_reach.LeadsTo h.client c) (sym core_is ∙ sym one.core) h.at_client;
-        served_by = FoldsTo-push (IsStep term.Turns terms.says terms.is_over terms.is_marked_whole) first_server h.ss h.server ((m, one.mark), one.bytes) q.0 h.served_by (record {
-          turn = q.1;
-          rest = q.4;
-          said = q.5;
-          all = q.6;
-          over = λ e. sym (ap over q.2.progress) ∙ one.turn.over e;
-          stays = λ off. sym (ap over q.2.progress) ∙ one.turn.stays (ap over at.progress ∙ off);
-          idle = λ off. (one.turn.idle (ap over at.progress ∙ off)).0;
-        });
+        served_by = FoldsTo-push (IsStep term.Turns terms.says terms.is_over terms.is_marked_whole) first_server h.ss h.server
+            ((m, one.mark), one.bytes) q.0 h.served_by (record {
+              turn = q.1;
+              rest = q.4;
+              said = q.5;
+              all = q.6;
+              over = λ e. sym (ap over q.2.progress) ∙ one.turn.over e;
+              stays = λ off. sym (ap over q.2.progress) ∙ one.turn.stays (ap over at.progress ∙ off);
+              idle = λ off. (one.turn.idle (ap over at.progress ∙ off)).0;
+            });
         told_by = h.told_by;
-        of_server = server_is ∙ ap (λ (l : List Exchange). l ++ x ∷ []) h.of_server ∙ ap (λ (l : List Exchange). record { read = []; wrote = opening } ∷ l) (sym (map-append served_step h.ss (((m, one.mark), one.bytes) ∷ [])));
+        of_server = server_is ∙ ap (λ (l : List Exchange). l ++ x ∷ []) h.of_server
+            ∙ ap (λ (l : List Exchange). record { read = []; wrote = opening } ∷ l) (sym (map-append served_step h.ss (((m, one.mark), one.bytes) ∷ [])));
         of_client = client_is ∙ h.of_client;
         in_time = in_time_more h.order (served x) h.in_time (in_time_by order new.to_server.items new.to_client.items to_server to_client);
         to_server = to_server;
@@ -263,7 +280,9 @@ module _ (canon : Canon) (editing : Editing) (jobs : Jobs) (width height : ℕ) 
       }
 
   -- the core handles what comes, from the user or from the network
-  tells : (typed : List Input) (old mid new : Joined) (t : Told) → Here typed old → mid.term ≡ old.term → mid.core ≡ old.core → mid.to_server ≡ old.to_server → mid.puts ≡ old.puts → IsInput t.message → old.to_client.items ≡ brought_from origin.Net t.from t.message ++ mid.to_client.items → TellsOne mid t new → Here (typed ++ inputs_from t.from t.message) new
+  tells : (typed : List Input) (old mid new : Joined) (t : Told) → Here typed old → mid.term ≡ old.term → mid.core ≡ old.core → mid.to_server ≡ old.to_server
+      → mid.puts ≡ old.puts → IsInput t.message → old.to_client.items ≡ brought_from origin.Net t.from t.message ++ mid.to_client.items → TellsOne mid t new
+      → Here (typed ++ inputs_from t.from t.message) new
   tells typed old mid new t h term_is core_is to_server_is puts_is input comes one =
       let at = subst (λ (c : Core). core_reach.LeadsTo h.client c) (sym core_is) h.at_client in
       let q = one.turn.leads h.client at in
@@ -274,11 +293,16 @@ module _ (canon : Canon) (editing : Editing) (jobs : Jobs) (width height : ℕ) 
       let client_is : client_steps order ≡ client_steps h.order ++ x ∷ [] = client-append h.order (told x ∷ []) in
       let server_is : server_steps order ≡ server_steps h.order = server-append h.order (told x ∷ []) ∙ append-nil (server_steps h.order) in
       let client_read : all_read (client_steps order) ≡ all_read (client_steps h.order) ++ brings = ap all_read client_is ∙ one_read (client_steps h.order) x in
-      let client_wrote : all_wrote (client_steps order) ≡ all_wrote (client_steps h.order) ++ one.bytes = ap all_wrote client_is ∙ one_wrote (client_steps h.order) x in
+      let client_wrote : all_wrote (client_steps order) ≡ all_wrote (client_steps h.order) ++ one.bytes =
+      ap all_wrote client_is ∙ one_wrote (client_steps h.order) x in
       let flight : mid.to_client.items ≡ new.to_client.items = ap (λ v. v.items) (sym one.to_client) in
-      let to_client : all_wrote (server_steps order) ≡ all_read (client_steps order) ++ new.to_client.items = ap all_wrote server_is ∙ h.to_client ∙ ap (λ (l : List ℕ). all_read (client_steps h.order) ++ l) comes ∙ sym (append_assoc (all_read (client_steps h.order)) brings mid.to_client.items) ∙ (λ i. sym client_read i ++ flight i) in
+      let to_client : all_wrote (server_steps order) ≡ all_read (client_steps order) ++ new.to_client.items =
+      ap all_wrote server_is ∙ h.to_client ∙ ap (λ (l : List ℕ). all_read (client_steps h.order) ++ l) comes
+      ∙ sym (append_assoc (all_read (client_steps h.order)) brings mid.to_client.items) ∙ (λ i. sym client_read i ++ flight i) in
       let sent : new.to_server.items ≡ old.to_server.items ++ one.bytes = one.to_server ∙ ap (λ v. v.items ++ one.bytes) to_server_is in
-      let to_server : all_wrote (client_steps order) ≡ all_read (server_steps order) ++ new.to_server.items = client_wrote ∙ ap (λ (l : List ℕ). l ++ one.bytes) h.to_server ∙ append_assoc (all_read (server_steps h.order)) old.to_server.items one.bytes ∙ (λ i. all_read (sym server_is i) ++ sym sent i) in
+      let to_server : all_wrote (client_steps order) ≡ all_read (server_steps order) ++ new.to_server.items =
+      client_wrote ∙ ap (λ (l : List ℕ). l ++ one.bytes) h.to_server ∙ append_assoc (all_read (server_steps h.order)) old.to_server.items one.bytes
+      ∙ (λ i. all_read (sym server_is i) ++ sym sent i) in
       record {
         order = order;
         ss = h.ss;
@@ -288,15 +312,16 @@ module _ (canon : Canon) (editing : Editing) (jobs : Jobs) (width height : ℕ) 
         at_server = subst (λ (u : Term). term_reach.LeadsTo h.server u) (sym term_is ∙ sym one.term) h.at_server;
         at_client = q.2;
         served_by = h.served_by;
-        told_by = FoldsTo-push (IsStep core.Turns cores.says cores.is_over cores.is_marked_written) first_client h.cs h.client ((t, one.mark), one.bytes) q.0 h.told_by (record {
-          turn = q.1;
-          rest = q.3.0;
-          said = q.3.1;
-          all = q.3.2;
-          over = λ e. sym (ap over q.2.progress) ∙ one.turn.over (unwritten_one one.mark e);
-          stays = λ off. sym (ap over q.2.progress) ∙ one.turn.stays (ap over at.progress ∙ off);
-          idle = λ off. (one.turn.idle (ap over at.progress ∙ off)).0;
-        });
+        told_by = FoldsTo-push (IsStep core.Turns cores.says cores.is_over cores.is_marked_written) first_client h.cs h.client
+            ((t, one.mark), one.bytes) q.0 h.told_by (record {
+              turn = q.1;
+              rest = q.3.0;
+              said = q.3.1;
+              all = q.3.2;
+              over = λ e. sym (ap over q.2.progress) ∙ one.turn.over (unwritten_one one.mark e);
+              stays = λ off. sym (ap over q.2.progress) ∙ one.turn.stays (ap over at.progress ∙ off);
+              idle = λ off. (one.turn.idle (ap over at.progress ∙ off)).0;
+            });
         of_server = server_is ∙ h.of_server;
         of_client = client_is ∙ ap (λ (l : List Exchange). l ++ x ∷ []) h.of_client ∙ sym (map-append told_step h.cs (((t, one.mark), one.bytes) ∷ []));
         in_time = in_time_more h.order (told x) h.in_time (in_time_by order new.to_server.items new.to_client.items to_server to_client);
@@ -311,22 +336,29 @@ module _ (canon : Canon) (editing : Editing) (jobs : Jobs) (width height : ℕ) 
   happens typed old new (Typed keys) h one = tells typed old old new (from_user (message.Piece keys)) h refl refl refl refl tt refl one
   happens typed old new (Asked control) h one = tells typed old old new (from_user (message.Asked control)) h refl refl refl refl tt refl one
   happens typed old new (ToServer count) h one =
-      subst (λ (l : List Input). Here l new) (sym (append-nil typed)) (serves typed old one.mid new (message.Piece one.piece) h one.term one.core one.to_client one.puts one.taken.whole one.served)
-  happens typed old new (ToClient count) h one = tells typed old one.mid new (from_network one.piece) h one.term one.core one.to_server one.puts tt one.taken.whole one.told
-  happens typed old new Take h one = subst (λ (l : List Input). Here l new) (sym (append-nil typed)) (serves typed old old new message.Take h refl refl refl refl refl one)
-  happens typed old new (Said job text after) h one = subst (λ (l : List Input). Here l new) (sym (append-nil typed)) (serves typed old old new (message.Said job text after) h refl refl refl refl refl one)
+      subst (λ (l : List Input). Here l new) (sym (append-nil typed))
+      (serves typed old one.mid new (message.Piece one.piece) h one.term one.core one.to_client one.puts one.taken.whole one.served)
+  happens typed old new (ToClient count) h one = tells typed old one.mid new
+      (from_network one.piece) h one.term one.core one.to_server one.puts tt one.taken.whole one.told
+  happens typed old new Take h one = subst (λ (l : List Input). Here l new) (sym (append-nil typed))
+      (serves typed old old new message.Take h refl refl refl refl refl one)
+  happens typed old new (Said job text after) h one = subst (λ (l : List Input). Here l new) (sym (append-nil typed))
+      (serves typed old old new (message.Said job text after) h refl refl refl refl refl one)
 
-  all_happen : (typed : List Input) (script : List Event) (old new : Joined) → Here typed old → FoldsTo Happens old script new → Here (typed ++ inputs_of script) new
+  all_happen : (typed : List Input) (script : List Event) (old new : Joined) → Here typed old → FoldsTo Happens old script new
+      → Here (typed ++ inputs_of script) new
   all_happen typed [] old new h goes = subst (λ (l : List Input). Here l new) (sym (append-nil typed)) (subst (λ (j : Joined). Here typed j) goes h)
   all_happen typed (event ∷ events) old new h goes =
       let one = happens typed old goes.0 event h goes.1 in
-      subst (λ (l : List Input). Here l new) (append_assoc typed (inputs_by event) (inputs_of events)) (all_happen (typed ++ inputs_by event) events goes.0 new one goes.2)
+      subst (λ (l : List Input). Here l new) (append_assoc typed (inputs_by event) (inputs_of events))
+      (all_happen (typed ++ inputs_by event) events goes.0 new one goes.2)
 
   -- THE SENTENCE
   said_at_first : IsUpTo term.Turns terms.says terms.is_over terms.is_marked_whole first_server opening
   said_at_first = (([], append-nil opening), inl refl)
 
-  reads_all : (typed : List Input) (j : Joined) → canon.settings.chars ≡ standard_characters → All (λ input. HasKey canon.settings input) typed → Here typed j → ReadsAll canon typed j
+  reads_all : (typed : List Input) (j : Joined) → canon.settings.chars ≡ standard_characters → All (λ input. HasKey canon.settings input) typed → Here typed j
+      → ReadsAll canon typed j
   reads_all typed j standard have h =
       let marked = map (λ (s : ServerStep). s.0) h.ss in
       let cmarked = map (λ (s : ClientStep). s.0) h.cs in
@@ -334,8 +366,11 @@ module _ (canon : Canon) (editing : Editing) (jobs : Jobs) (width height : ℕ) 
       let tied = ties canon editing width height standard in
       let s_transcribed = server_stepped first_server h.server h.ss opening h.served_by said_at_first in
       let c_transcribed = client_stepped first_client h.client h.cs h.told_by refl in
-      let carried : IsCarried (record { read = []; wrote = opening } ∷ map served_step h.ss) (map told_step h.cs) = record { order = h.order; of_server = h.of_server; of_client = h.of_client; in_time = h.in_time } in
-      let at = holds canon editing width height true jobs (λ k l. AreTied canon k l) tied (None ∷ map (λ (m : Message × term_mark.Mark). Some m) marked) cmarked last (opening ++ total h.ss) (total h.cs) _ _ s_transcribed c_transcribed carried in
+      let carried : IsCarried (record { read = []; wrote = opening } ∷ map served_step h.ss) (map told_step h.cs) =
+      record { order = h.order; of_server = h.of_server; of_client = h.of_client; in_time = h.in_time } in
+      let at = holds canon editing width height true jobs (λ k l. AreTied canon k l) tied
+      (None ∷ map (λ (m : Message × term_mark.Mark). Some m) marked) cmarked last (opening ++ total h.ss)
+      (total h.cs) _ _ s_transcribed c_transcribed carried in
       let s_runs = steps_run h.ss first_server h.server h.served_by in
       let c_runs = told_run h.cs first_client h.client h.told_by in
       let hear = hears true canon editing jobs marked h.server s_runs in
@@ -343,28 +378,42 @@ module _ (canon : Canon) (editing : Editing) (jobs : Jobs) (width height : ℕ) 
       let same = (run_typed cmarked first_client h.client c_runs refl (left_last h.cs h.are_inputs) (record { latest = λ e. refl; same = refl })).same in
       let of_inputs : typed ≡ inputs h.client.history ++ order.untyped = sym h.keys ∙ order.typed in
       let Have : List Input → Type 0 = λ xs. All (λ input. HasKey canon.settings input) xs in
-      let have_keys : HaveKeys canon.settings standard (inputs h.client.sent) = subst Have (sym same) (first_of_all (λ input. HasKey canon.settings input) (inputs h.client.history) order.untyped (subst Have of_inputs have)) in
+      let have_keys : HaveKeys canon.settings standard (inputs h.client.sent) =
+      subst Have (sym same) (first_of_all (λ input. HasKey canon.settings input) (inputs h.client.history) order.untyped (subst Have of_inputs have)) in
       let both : TiedHistories canon h.server.history h.client.sent = at.tied (typeable canon.settings standard h.client.sent have_keys) in
       let typed_first : List ℕ = keys_of canon.settings (inputs h.client.history) in
-      let sent_keys : typed_entries canon (keys_typed canon.settings h.client.sent) ≡ typed_entries canon typed_first = ap (λ (ks : List ℕ). typed_entries canon ks) (typed_as canon.settings standard h.client.sent have_keys ∙ ap (λ (xs : List Input). keys_of canon.settings xs) same) in
-      let keys_first : keys_of canon.settings typed ≡ typed_first ++ keys_of canon.settings order.untyped = ap (λ (xs : List Input). keys_of canon.settings xs) of_inputs ∙ keys_of-append canon.settings (inputs h.client.history) order.untyped in
+      let sent_keys : typed_entries canon (keys_typed canon.settings h.client.sent) ≡ typed_entries canon typed_first =
+      ap (λ (ks : List ℕ). typed_entries canon ks) (typed_as canon.settings standard h.client.sent have_keys
+      ∙ ap (λ (xs : List Input). keys_of canon.settings xs) same) in
+      let keys_first : keys_of canon.settings typed ≡ typed_first ++ keys_of canon.settings order.untyped =
+      ap (λ (xs : List Input). keys_of canon.settings xs) of_inputs ∙ keys_of-append canon.settings (inputs h.client.history) order.untyped in
       let fronts = puts_are_front true canon editing jobs marked h.server s_runs in
-      let front : IsPrefixOf (entries_put j.puts.items) (entries h.server.history) = (fronts.0, ap (λ (ps : List (Option Entry)). entries_put ps ++ fronts.0) (sym h.puts) ∙ fronts.1) in
-      let mid : IsPrefixOf (entries h.server.history) (typed_entries canon typed_first) = subst (λ (es : List Entry). IsPrefixOf (entries h.server.history) es) sent_keys (histories.prefix canon h.server.history h.client.sent both) in
+      let front : IsPrefixOf (entries_put j.puts.items) (entries h.server.history) =
+      (fronts.0, ap (λ (ps : List (Option Entry)). entries_put ps ++ fronts.0) (sym h.puts) ∙ fronts.1) in
+      let mid : IsPrefixOf (entries h.server.history) (typed_entries canon typed_first) =
+      subst (λ (es : List Entry). IsPrefixOf (entries h.server.history) es) sent_keys (histories.prefix canon h.server.history h.client.sent both) in
       record {
-        prefix = prefix_trans _ _ _ front (prefix_trans _ _ _ mid (more_entries canon typed_first (keys_of canon.settings order.untyped) (keys_of canon.settings typed) keys_first));
+        prefix = prefix_trans _ _ _ front (prefix_trans _ _ _ mid
+            (more_entries canon typed_first (keys_of canon.settings order.untyped) (keys_of canon.settings typed) keys_first));
         all = λ none s_on c_on.
             let s_live : h.server.progress.over ≡ false = ap (λ (p : term_progress.Progress). p.over) (sym h.at_server.progress) ∙ s_on in
             let c_live : h.client.progress.over ≡ false = ap (λ (p : core_progress.Progress). p.over) (sym h.at_client.progress) ∙ c_on in
-            let read : all_read (server_steps h.order) ≡ total h.cs = sym (append-nil (all_read (server_steps h.order))) ∙ ap (λ (l : List ℕ). all_read (server_steps h.order) ++ l) (sym none) ∙ sym h.to_server ∙ ap all_wrote h.of_client ∙ wrote_by h.cs in
-            let stream : h.server.stream ≡ total h.cs = sym (append-nil h.server.stream) ∙ ap (λ (l : List ℕ). h.server.stream ++ l) (sym (hear.all s_live)) ∙ sym hear.stream_first ∙ sym (read_by h.ss) ∙ ap all_read (sym h.of_server) ∙ read in
+            let read : all_read (server_steps h.order) ≡ total h.cs =
+            sym (append-nil (all_read (server_steps h.order))) ∙ ap (λ (l : List ℕ). all_read (server_steps h.order) ++ l) (sym none) ∙ sym h.to_server
+            ∙ ap all_wrote h.of_client ∙ wrote_by h.cs in
+            let stream : h.server.stream ≡ total h.cs = sym (append-nil h.server.stream) ∙ ap (λ (l : List ℕ). h.server.stream ++ l) (sym (hear.all s_live))
+            ∙ sym hear.stream_first ∙ sym (read_by h.ss) ∙ ap all_read (sym h.of_server) ∙ read in
             let said : total h.cs ≡ cores.says h.client = all_said h.cs first_client h.client h.told_by c_live refl in
-            let whole = histories.complete canon h.server.history h.client.sent both (heard_all h.server.stream (server.items h.server.history) (client_says.items_said h.client.sent) hear.read (sent-fits h.client.sent) (stream ∙ said)) in
+            let whole = histories.complete canon h.server.history h.client.sent both
+            (heard_all h.server.stream (server.items h.server.history) (client_says.items_said h.client.sent) hear.read (sent-fits h.client.sent)
+            (stream ∙ said)) in
             let given = puts_are_given true canon editing jobs marked h.server s_runs s_live in
-            let all_keys : typed_first ≡ keys_of canon.settings typed = sym (keys_first ∙ ap (λ (xs : List Input). typed_first ++ keys_of canon.settings xs) (order.all c_live).0 ∙ append-nil typed_first) in (
+            let all_keys : typed_first ≡ keys_of canon.settings typed =
+            sym (keys_first ∙ ap (λ (xs : List Input). typed_first ++ keys_of canon.settings xs) (order.all c_live).0 ∙ append-nil typed_first) in (
               h.server,
               h.at_server,
-              ap (λ (ps : List (Option Entry)). entries_put ps ++ waiting h.server.history) (sym h.puts) ∙ given.all ∙ whole ∙ sent_keys ∙ ap (λ (ks : List ℕ). typed_entries canon ks) all_keys,
+              ap (λ (ps : List (Option Entry)). entries_put ps ++ waiting h.server.history) (sym h.puts) ∙ given.all ∙ whole ∙ sent_keys
+                  ∙ ap (λ (ks : List ℕ). typed_entries canon ks) all_keys,
             );
         server = record { read = []; wrote = opening } ∷ map served_step h.ss;
         client = map told_step h.cs;
@@ -373,11 +422,13 @@ module _ (canon : Canon) (editing : Editing) (jobs : Jobs) (width height : ℕ) 
         to_client = ap all_wrote (sym h.of_server) ∙ h.to_client ∙ ap (λ (xs : List Exchange). all_read xs ++ j.to_client.items) h.of_client;
       }
     where
-      steps_run : (ss : List ServerStep) (p q : term_run.Run) → FoldsTo (IsStep term.Turns terms.says terms.is_over terms.is_marked_whole) p ss q → term.Runs p (map (λ s. s.0) ss) q
+      steps_run : (ss : List ServerStep) (p q : term_run.Run) → FoldsTo (IsStep term.Turns terms.says terms.is_over terms.is_marked_whole) p ss q
+          → term.Runs p (map (λ s. s.0) ss) q
       steps_run [] p q r = r
       steps_run (s ∷ ss) p q r = (r.0, r.1.turn, steps_run ss r.0 q r.2)
 
-      told_run : (cs : List ClientStep) (p q : core_run.Run) → FoldsTo (IsStep core.Turns cores.says cores.is_over cores.is_marked_written) p cs q → core.Runs p (map (λ s. s.0) cs) q
+      told_run : (cs : List ClientStep) (p q : core_run.Run) → FoldsTo (IsStep core.Turns cores.says cores.is_over cores.is_marked_written) p cs q
+          → core.Runs p (map (λ s. s.0) cs) q
       told_run [] p q r = r
       told_run (s ∷ cs) p q r = (r.0, r.1.turn, told_run cs r.0 q r.2)
 
@@ -392,10 +443,12 @@ module _ (canon : Canon) (editing : Editing) (jobs : Jobs) (width height : ℕ) 
       true_false : true ≡ false → ⊥
       true_false e = cc
 
-      all_said : (cs : List ClientStep) (p q : core_run.Run) → FoldsTo (IsStep core.Turns cores.says cores.is_over cores.is_marked_written) p cs q → cores.is_over q ≡ false → cores.says p ≡ [] → total cs ≡ cores.says q
+      all_said : (cs : List ClientStep) (p q : core_run.Run) → FoldsTo (IsStep core.Turns cores.says cores.is_over cores.is_marked_written) p cs q
+          → cores.is_over q ≡ false → cores.says p ≡ [] → total cs ≡ cores.says q
       all_said cs p q r on silent = ap (λ (l : List ℕ). l ++ total cs) (sym silent) ∙ go cs p q r on
         where
-          stays : (ds : List ClientStep) (a b : core_run.Run) → FoldsTo (IsStep core.Turns cores.says cores.is_over cores.is_marked_written) a ds b → cores.is_over a ≡ true → cores.is_over b ≡ true
+          stays : (ds : List ClientStep) (a b : core_run.Run) → FoldsTo (IsStep core.Turns cores.says cores.is_over cores.is_marked_written) a ds b
+              → cores.is_over a ≡ true → cores.is_over b ≡ true
           stays [] a b f off = subst (λ (c : core_run.Run). cores.is_over c ≡ true) f off
           stays (d ∷ ds) a b f off = stays ds f.0 b f.2 (f.1.stays off)
 
@@ -403,13 +456,16 @@ module _ (canon : Canon) (editing : Editing) (jobs : Jobs) (width height : ℕ) 
           whole true never = refl
           whole false never = absurd (never refl)
 
-          go : (ds : List ClientStep) (a b : core_run.Run) → FoldsTo (IsStep core.Turns cores.says cores.is_over cores.is_marked_written) a ds b → cores.is_over b ≡ false → cores.says a ++ total ds ≡ cores.says b
+          go : (ds : List ClientStep) (a b : core_run.Run) → FoldsTo (IsStep core.Turns cores.says cores.is_over cores.is_marked_written) a ds b
+              → cores.is_over b ≡ false → cores.says a ++ total ds ≡ cores.says b
           go [] a b f live = append-nil (cores.says a) ∙ ap cores.says f
           go (d ∷ ds) a b f live =
               let written = whole (cores.is_marked_written d.0) (λ e. true_false (sym (stays ds f.0 b f.2 (f.1.over e)) ∙ live)) in
-              let one : cores.says a ++ d.1 ≡ cores.says f.0 = ap (λ (l : List ℕ). cores.says a ++ l) (sym (append-nil d.1) ∙ ap (λ (l : List ℕ). d.1 ++ l) (sym (f.1.all written))) ∙ sym f.1.said in
+              let one : cores.says a ++ d.1 ≡ cores.says f.0 = ap (λ (l : List ℕ). cores.says a ++ l)
+              (sym (append-nil d.1) ∙ ap (λ (l : List ℕ). d.1 ++ l) (sym (f.1.all written))) ∙ sym f.1.said in
               sym (append_assoc (cores.says a) d.1 (total ds)) ∙ ap (λ (l : List ℕ). l ++ total ds) one ∙ go ds f.0 b f.2 live
 
 pub loop_reads : LoopReads
 loop_reads canon editing jobs width height first last script standard have start goes =
-    reads_all canon editing jobs width height (inputs_of script) last standard have (all_happen canon editing jobs width height [] script first last (begins canon editing jobs width height first start) goes)
+    reads_all canon editing jobs width height (inputs_of script) last standard have
+    (all_happen canon editing jobs width height [] script first last (begins canon editing jobs width height first start) goes)

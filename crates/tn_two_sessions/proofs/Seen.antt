@@ -32,7 +32,9 @@ use Rattle.tn_machines.proofs.lemmas.server.Hearing.{hears}
 use Rattle.tn_world.proofs.lemmas.Histories as histories
 use Rattle.tn_world.proofs.lemmas.Histories.{TiedHistories, keys_typed}
 
-module _ {J : Type 0} (facts : JobFacts J) (canon : Canon) (s : Served facts canon) (c : Connected canon.limit) (standard : canon.settings.chars ≡ standard_characters) (typed_there : All (λ input. HasKey canon.settings input) c.ran.inputs) (carried : IsCarried s.ran.transcript c.ran.transcript) where
+module _ {J : Type 0} (facts : JobFacts J) (canon : Canon) (s : Served facts canon) (c : Connected canon.limit)
+    (standard : canon.settings.chars ≡ standard_characters) (typed_there : All (λ input. HasKey canon.settings input) c.ran.inputs)
+    (carried : IsCarried s.ran.transcript c.ran.transcript) where
   abbrev last : Both
   last = record { server = s.ran.schedule.run; client = c.ran.run }
 
@@ -41,7 +43,8 @@ module _ {J : Type 0} (facts : JobFacts J) (canon : Canon) (s : Served facts can
   same_inputs =
       let typed = c.ran.typed in
       let sent = one_list c.ran.from_keys (map (mail who.Keys) (told_messages typed.0 ++ typed.2)) (sym c.ran.keys_is ∙ typed.5) in
-      inputs_sent c.width c.height canon.limit c.ran.marked c.ran.run c.ran.handled _ typed.0 typed.1 _ typed.2 c.ran.runs c.ran.messages (c.ran.woven who.Keys ∙ sent) typed.4
+      inputs_sent c.width c.height canon.limit c.ran.marked c.ran.run c.ran.handled _ typed.0 typed.1 _ typed.2 c.ran.runs c.ran.messages
+      (c.ran.woven who.Keys ∙ sent) typed.4
 
   -- it is the first of what was read
   first_read : c.ran.inputs ≡ inputs c.ran.run.history ++ c.ran.in_order.untyped
@@ -59,19 +62,23 @@ module _ {J : Type 0} (facts : JobFacts J) (canon : Canon) (s : Served facts can
       let schedule = s.ran.schedule in
       let Tied : server.History → client.History → Type 0 = λ h k. AreTied canon h k in
       let tied = ties canon s.editing c.width c.height standard in
-      let at = holds canon s.editing c.width c.height schedule.wrote_opening s.ran.jobs Tied tied (None ∷ map (λ m. Some m) schedule.marked) c.ran.marked last schedule.written c.ran.written s.ran.transcript c.ran.transcript s.ran.noted.transcribed c.ran.transcribed carried in
+      let at = holds canon s.editing c.width c.height schedule.wrote_opening s.ran.jobs Tied tied
+      (None ∷ map (λ m. Some m) schedule.marked) c.ran.marked last schedule.written c.ran.written s.ran.transcript c.ran.transcript s.ran.noted.transcribed
+      c.ran.transcribed carried in
       let both : TiedHistories canon last.server.history last.client.sent = at.tied (typeable canon.settings standard c.ran.run.sent have_keys) in
       record {
         prefix = histories.prefix canon last.server.history last.client.sent both;
         complete = λ all. histories.complete canon last.server.history last.client.sent both
-            (heard_all last.server.stream (server.items last.server.history) (client_says.items_said last.client.sent) (hears schedule.wrote_opening canon s.editing s.ran.jobs schedule.marked last.server schedule.runs).read (sent-fits last.client.sent) all);
+            (heard_all last.server.stream (server.items last.server.history) (client_says.items_said last.client.sent)
+            (hears schedule.wrote_opening canon s.editing s.ran.jobs schedule.marked last.server schedule.runs).read (sent-fits last.client.sent) all);
       }
 
   abbrev typed_first : List ℕ
   typed_first = keys_of canon.settings (inputs c.ran.run.history)
 
   local : typed_entries canon (keys_typed canon.settings c.ran.run.sent) ≡ typed_entries canon typed_first
-  local = ap (λ (ks : List ℕ). typed_entries canon ks) (typed_as canon.settings standard c.ran.run.sent have_keys ∙ ap (λ (xs : List Input). keys_of canon.settings xs) same_inputs)
+  local = ap (λ (ks : List ℕ). typed_entries canon ks) (typed_as canon.settings standard c.ran.run.sent have_keys
+      ∙ ap (λ (xs : List Input). keys_of canon.settings xs) same_inputs)
 
   keys_first : keys_at canon c ≡ typed_first ++ keys_of canon.settings c.ran.in_order.untyped
   keys_first = ap (λ (xs : List Input). keys_of canon.settings xs) first_read ∙ keys_of-append canon.settings (inputs c.ran.run.history) c.ran.in_order.untyped
@@ -83,7 +90,8 @@ module _ {J : Type 0} (facts : JobFacts J) (canon : Canon) (s : Served facts can
       let front : IsPrefixOf s.ran.entries_taken h = (s.ran.in_order.0, ap (λ (l : List Entry). l ++ s.ran.in_order.0) s.ran.entries_are ∙ s.ran.in_order.1) in
       let mid : IsPrefixOf h ks = subst (λ (l : List Entry). IsPrefixOf h l) local lines.prefix in
       prefix_trans s.ran.entries_taken h (typed_entries canon (keys_at canon c)) front
-      (prefix_trans h ks (typed_entries canon (keys_at canon c)) mid (more_entries canon typed_first (keys_of canon.settings c.ran.in_order.untyped) (keys_at canon c) keys_first))
+      (prefix_trans h ks (typed_entries canon (keys_at canon c)) mid
+      (more_entries canon typed_first (keys_of canon.settings c.ran.in_order.untyped) (keys_at canon c) keys_first))
 
   -- all that a client wrote is all that it says, where it ended without a fault
   all_said : c.result.report.ended ≡ HangUp → all_wrote c.ran.transcript ≡ client_said last
@@ -103,9 +111,11 @@ module _ {J : Type 0} (facts : JobFacts J) (canon : Canon) (s : Served facts can
   taken_of : (given : List ℕ) → c.keys.reader.bytes ≡ Some given → c.keys.controls ≡ Some [] → IsPrefixOf s.ran.entries_taken (typed_entries canon given)
   taken_of given known none =
       let read = c.ran.keys_were_read in
-      let more = given_first given read.0 c.ran.keys_read [] c.ran.keys_read (sym (append-nil c.ran.keys_read)) (subst (λ (o : Option (List ℕ)). Consumes o read.0 c.ran.keys_read) known read.1) in
+      let more = given_first given read.0 c.ran.keys_read [] c.ran.keys_read (sym (append-nil c.ran.keys_read))
+      (subst (λ (o : Option (List ℕ)). Consumes o read.0 c.ran.keys_read) known read.1) in
       prefix_trans s.ran.entries_taken (typed_entries canon c.ran.keys_read) (typed_entries canon given)
-      (subst (λ (ks : List ℕ). IsPrefixOf s.ran.entries_taken (typed_entries canon ks)) (keys_alone none) taken_first) (more_entries canon c.ran.keys_read more.0 given more.1)
+      (subst (λ (ks : List ℕ). IsPrefixOf s.ran.entries_taken (typed_entries canon ks)) (keys_alone none) taken_first)
+      (more_entries canon c.ran.keys_read more.0 given more.1)
 
   taken_all : RanToTheEnd s c → s.ran.entries_taken ≡ typed_entries canon (keys_at canon c)
   taken_all ran =

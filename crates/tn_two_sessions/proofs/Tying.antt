@@ -14,7 +14,8 @@ use Rattle.tn_world.proofs.lemmas.Histories.{AreTypeable, TiedHistories}
 abbrev pub AreTied : Canon → server.History → client.History → Type 0
 AreTied canon h k = AreTypeable canon.settings k → TiedHistories canon h k
 
-pub ties : (canon : Canon) (editing : Editing) (width height : ℕ) → canon.settings.chars ≡ standard_characters → Ties canon editing width height (λ h k. AreTied canon h k)
+pub ties : (canon : Canon) (editing : Editing) (width height : ℕ) → canon.settings.chars ≡ standard_characters
+    → Ties canon editing width height (λ h k. AreTied canon h k)
 ties canon editing width height standard = record {
   begins = λ ok. histories.begins canon editing width height (length (queue (server.next (server.begun canon) (server.wished editing)))) standard;
   reaches = λ h k x p t ok. histories.reaches canon h k x p (t ok);

@@ -33,34 +33,43 @@ use Rattle.tn_streams.specs.Prefixes.{IsPrefixOf}
 -- item coming only in the order in which it was said.
 pub record Ties (canon : Canon) (editing : Editing) (width height : ℕ) (Tied : server.History → client.History → Type 0) : Type 0 where
   pub begins : Tied (term_run.opening canon editing) (client.begun width height canon.limit)
-  pub reaches : (h : server.History) (k : client.History) (x : Item) → IsPrefixOf (server.items h ++ x ∷ []) (client_says.items_said k) → Tied h k → Tied (server.next h (server.got x)) k
+  pub reaches : (h : server.History) (k : client.History) (x : Item) → IsPrefixOf (server.items h ++ x ∷ []) (client_says.items_said k) → Tied h k
+      → Tied (server.next h (server.got x)) k
   pub takes : (h : server.History) (k : client.History) → Tied h k → Tied (server.next h server.took) k
   pub writes : (h : server.History) (k : client.History) (bytes : List ℕ) → Tied h k → Tied (server.next h (server.wrote bytes)) k
   pub pulls : (h : server.History) (k : client.History) (n : ℕ) → Tied h k → Tied (server.next h (server.pulled n)) k
   pub types_on : (h : server.History) (k : client.History) (key : ℕ) → Tied h k → Tied h (client.next k (client.typed key))
   pub resizes : (h : server.History) (k : client.History) (w t : ℕ) → Tied h k → Tied h (client.next k (client.resized w t))
   pub sends : (h : server.History) (k : client.History) (command : UserCommand) → Tied h k → Tied h (client.next k (client.sent command))
-  pub returns : (h : server.History) (k : client.History) (x : Item) → IsPrefixOf (client.items k ++ x ∷ []) (server_says.items_said h) → Tied h k → Tied h (client.next k (client.got x))
+  pub returns : (h : server.History) (k : client.History) (x : Item) → IsPrefixOf (client.items k ++ x ∷ []) (server_says.items_said h) → Tied h k
+      → Tied h (client.next k (client.got x))
 
 joins : {P A : Type 0} (R : P → A → P → Type 0) (p m q : P) (xs : List A) (x : A) → FoldsTo R p xs m → R m x q → FoldsTo R p (xs ++ x ∷ []) q
 joins {P} {A} R p m q [] x f r = (q, subst (λ (u : P). R u x q) (sym f) r, refl)
 joins R p m q (y ∷ ys) x f r = (f.0, f.1, joins R f.0 m q ys x f.2 r)
 
-module _ (canon : Canon) (editing : Editing) (width height : ℕ) (opens : Bool) (jobs : Jobs) (Tied : server.History → client.History → Type 0) (ties : Ties canon editing width height Tied) where
+module _ (canon : Canon) (editing : Editing) (width height : ℕ) (opens : Bool) (jobs : Jobs) (Tied : server.History → client.History → Type 0)
+    (ties : Ties canon editing width height Tied) where
   abbrev pub first : Both
   first = began opens canon editing jobs width height canon.limit
 
   abbrev pub At : Both → Type 0
   At now = ClientAt (λ k. Tied now.server.history k) now.client
 
-  server_heard : (done : List Step) (now : Both) → Runs first done now → IsInTime now → IsPrefixOf (server.items now.server.history) (client_says.items_said now.client.sent)
-  server_heard done now r i = heard_first now.server.stream (server.items now.server.history) (client_says.items_said now.client.sent) (hears opens canon editing jobs (server_steps done) now.server r.0).read (sent-fits now.client.sent) i.to_server
+  server_heard : (done : List Step) (now : Both) → Runs first done now → IsInTime now
+      → IsPrefixOf (server.items now.server.history) (client_says.items_said now.client.sent)
+  server_heard done now r i = heard_first now.server.stream (server.items now.server.history) (client_says.items_said now.client.sent)
+      (hears opens canon editing jobs (server_steps done) now.server r.0).read (sent-fits now.client.sent) i.to_server
 
-  client_heard : (done : List Step) (now : Both) → Runs first done now → IsInTime now → IsPrefixOf (client.items now.client.history) (server_says.items_said now.server.history)
-  client_heard done now r i = heard_first now.client.stream (client.items now.client.history) (server_says.items_said now.server.history) (in_order width height canon.limit (client_steps done) now.client r.1).read (sent-fit now.server.history) i.to_client
+  client_heard : (done : List Step) (now : Both) → Runs first done now → IsInTime now
+      → IsPrefixOf (client.items now.client.history) (server_says.items_said now.server.history)
+  client_heard done now r i = heard_first now.client.stream (client.items now.client.history) (server_says.items_said now.server.history)
+      (in_order width height canon.limit (client_steps done) now.client r.1).read (sent-fit now.server.history) i.to_client
 
   -- one step of the terminal
-  pub server_goes : (done : List Step) (now : Both) (m : Message) (k : term_mark.Mark) (mid : term_run.Run) → Runs first (done ++ served (m, k) ∷ []) (record { server = mid; client = now.client }) → IsInTime (record { server = mid; client = now.client }) → term.Turns now.server (m, k) mid → At now → At (record { server = mid; client = now.client })
+  pub server_goes : (done : List Step) (now : Both) (m : Message) (k : term_mark.Mark) (mid : term_run.Run)
+      → Runs first (done ++ served (m, k) ∷ []) (record { server = mid; client = now.client }) → IsInTime (record { server = mid; client = now.client })
+      → term.Turns now.server (m, k) mid → At now → At (record { server = mid; client = now.client })
   server_goes done now m k mid r i t at =
       let sent = now.client.sent in
       record {
@@ -74,7 +83,9 @@ module _ (canon : Canon) (editing : Editing) (width height : ℕ) (opens : Bool)
       }
 
   -- and one of the core
-  pub client_goes : (done : List Step) (now : Both) (x : Told) (k : core_mark.Mark) (mid : core_run.Run) → Runs first (done ++ told (x, k) ∷ []) (record { server = now.server; client = mid }) → IsInTime (record { server = now.server; client = mid }) → core.Turns now.client (x, k) mid → At now → At (record { server = now.server; client = mid })
+  pub client_goes : (done : List Step) (now : Both) (x : Told) (k : core_mark.Mark) (mid : core_run.Run)
+      → Runs first (done ++ told (x, k) ∷ []) (record { server = now.server; client = mid }) → IsInTime (record { server = now.server; client = mid })
+      → core.Turns now.client (x, k) mid → At now → At (record { server = now.server; client = mid })
   client_goes done now x k mid r i t at =
       let h = now.server.history in
       client_turns (λ c. Tied h c) (server_says.items_said h) (record {
@@ -85,16 +96,22 @@ module _ (canon : Canon) (editing : Editing) (width height : ℕ) (opens : Bool)
       }) now.client mid x k t (client_heard (done ++ told (x, k) ∷ []) (record { server = now.server; client = mid }) r i) at
 
   -- the steps so far, and one more
-  pub more_served : (done : List Step) (now : Both) (m : Message × term_mark.Mark) (mid : term_run.Run) → Runs first done now → term.Turns now.server m mid → Runs first (done ++ served m ∷ []) (record { server = mid; client = now.client })
+  pub more_served : (done : List Step) (now : Both) (m : Message × term_mark.Mark) (mid : term_run.Run) → Runs first done now → term.Turns now.server m mid
+      → Runs first (done ++ served m ∷ []) (record { server = mid; client = now.client })
   more_served done now m mid r t = (
-    subst (λ (l : List (Message × term_mark.Mark)). FoldsTo term.Turns first.server l mid) (sym (server-append done (served m ∷ []))) (joins term.Turns first.server now.server mid (server_steps done) m r.0 t),
-    subst (λ (l : List (Told × core_mark.Mark)). FoldsTo core.Turns first.client l now.client) (sym (client-append done (served m ∷ []) ∙ append-nil (client_steps done))) r.1,
+    subst (λ (l : List (Message × term_mark.Mark)). FoldsTo term.Turns first.server l mid) (sym (server-append done (served m ∷ [])))
+        (joins term.Turns first.server now.server mid (server_steps done) m r.0 t),
+    subst (λ (l : List (Told × core_mark.Mark)). FoldsTo core.Turns first.client l now.client)
+        (sym (client-append done (served m ∷ []) ∙ append-nil (client_steps done))) r.1,
   )
 
-  pub more_told : (done : List Step) (now : Both) (x : Told × core_mark.Mark) (mid : core_run.Run) → Runs first done now → core.Turns now.client x mid → Runs first (done ++ told x ∷ []) (record { server = now.server; client = mid })
+  pub more_told : (done : List Step) (now : Both) (x : Told × core_mark.Mark) (mid : core_run.Run) → Runs first done now → core.Turns now.client x mid
+      → Runs first (done ++ told x ∷ []) (record { server = now.server; client = mid })
   more_told done now x mid r t = (
-    subst (λ (l : List (Message × term_mark.Mark)). FoldsTo term.Turns first.server l now.server) (sym (server-append done (told x ∷ []) ∙ append-nil (server_steps done))) r.0,
-    subst (λ (l : List (Told × core_mark.Mark)). FoldsTo core.Turns first.client l mid) (sym (client-append done (told x ∷ []))) (joins core.Turns first.client now.client mid (client_steps done) x r.1 t),
+    subst (λ (l : List (Message × term_mark.Mark)). FoldsTo term.Turns first.server l now.server)
+        (sym (server-append done (told x ∷ []) ∙ append-nil (server_steps done))) r.0,
+    subst (λ (l : List (Told × core_mark.Mark)). FoldsTo core.Turns first.client l mid) (sym (client-append done (told x ∷ [])))
+        (joins core.Turns first.client now.client mid (client_steps done) x r.1 t),
   )
 
   begun_history : (b : Bool) → (term.run_after_opening b (term_run.start canon editing jobs)).history ≡ term_run.opening canon editing

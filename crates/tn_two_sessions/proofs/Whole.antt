@@ -70,5 +70,6 @@ run_tells : (marked : List (Told × Mark)) (c new : Run) → Runs c marked new �
 run_tells [] c new r t = subst (λ (x : Run). Tells x) r t
 run_tells ((x, k) ∷ marked) c new r t = run_tells marked r.0 new r.2 (turn_tells c r.0 x k r.1 t)
 
-pub goes_on_to_end : (width height limit : ℕ) (marked : List (Told × Mark)) (new : Run) → Runs (start width height limit) marked new → new.progress.ended ≡ ended.HangUp → new.progress.over ≡ false
+pub goes_on_to_end : (width height limit : ℕ) (marked : List (Told × Mark)) (new : Run) → Runs (start width height limit) marked new
+    → new.progress.ended ≡ ended.HangUp → new.progress.over ≡ false
 goes_on_to_end width height limit marked new r = run_tells marked (start width height limit) new r (λ e. refl)

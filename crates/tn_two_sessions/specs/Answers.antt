@@ -12,9 +12,10 @@ use Rattle.tn_session.specs.Transcripts.{Exchange, all_wrote}
 use Rattle.tn_machines.specs.server.Marks.{run_after_opening}
 use Rattle.tn_machines.specs.server.Run as term_run
 
--- By these steps the run has come so far, and all that it says by then was written in them; or they wrote all that was
--- ever written, as a write failed.
-pub record AreAnswered {R M : Type 0} (turns : R → M → R → Type 0) (says : R → List ℕ) (first : R) (messages : List M)
+-- By these steps the run has come so far, and all that it says by then was written in them; or they wrote all
+-- that was ever written, as a write failed.
+pub record AreAnswered {R M : Type 0} (turns : R → M → R → Type 0) (says : R → List ℕ) (first : R)
+    (messages : List M)
     (written : List ℕ) (done : List Exchange) : Type 0 where
   pub front : List M
   pub later : List M
@@ -24,8 +25,9 @@ pub record AreAnswered {R M : Type 0} (turns : R → M → R → Type 0) (says :
   pub leads : FoldsTo turns first front by_then
   pub answered : (all_wrote done ≡ says by_then) ⊎ (all_wrote done ≡ written)
 
--- NO ANSWER COMES LATE: so it is after each step of a transcript, before the core takes its next mail. What a step is,
--- and that the core noted it as it did it, is said by `noted` of `RunningSession` and of `RunningClient`.
+-- NO ANSWER COMES LATE: so it is after each step of a transcript, before the core takes its next mail. What a
+-- step is, and that the core noted it as it did it, is said by `noted` of `RunningSession` and of
+-- `RunningClient`.
 abbrev pub AnswersOfServer : {J : Type 0} {facts : JobFacts J} {canon : Canon} → Served facts canon → Type 0
 AnswersOfServer {J} {facts} {canon} s =
     (done later : List Exchange) (step : Exchange) → s.ran.transcript ≡ (done ++ step ∷ []) ++ later

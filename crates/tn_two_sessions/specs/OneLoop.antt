@@ -1,5 +1,5 @@
--- The machines of two sessions, run by one loop: no socket, no thread and no pipe is between them but two lists of
--- bytes. Read `Happens`, and `ReadsAll` at the end.
+-- The machines of two sessions, run by one loop: no socket, no thread and no pipe is between them but two
+-- lists of bytes. Read `Happens`, and `ReadsAll` at the end.
 use Rattle.std.specs.Prelude.{◌≡◌, ◌<◌, ◌⊎◌, ℕ, false, All, List, [], ◌∷◌, ◌++◌, flat_map, length, min}
 use Rattle.std.specs.List.{FoldsTo}
 use Rattle.tn_machines.specs.client.Reaching as core
@@ -14,7 +14,8 @@ use Rattle.tn_jobs.specs.Jobs.{Jobs}
 use Rattle.tn_machines.specs.client.Bringing.{Input, inputs_in}
 use Rattle.tn_two_sessions.specs.Transcripts.{HasKey, IsCarried, keys_of}
 use Rattle.tn_two_sessions.specs.declared.one_loop.Event.{Event}
-use Rattle.tn_two_sessions.specs.declared.one_loop.Event.TheVariants.{Typed, Asked, ToServer, ToClient, Take, Said}
+use Rattle.tn_two_sessions.specs.declared.one_loop.Event.TheVariants.{Typed, Asked, ToServer, ToClient, Take}
+use Rattle.tn_two_sessions.specs.declared.one_loop.Event.TheVariants.{Said}
 use Rattle.tn_two_sessions.specs.declared.one_loop.Joined.{Joined}
 use Rattle.tn_machines.specs.declared.messages.Message.{Message}
 use Rattle.tn_machines.specs.declared.messages.Message.TheVariants as message
@@ -33,7 +34,8 @@ use Rattle.tn_machines.specs.declared.server.messages.Put.{Put}
 use Rattle.tn_machines.specs.declared.server.terminal.Term.{Term}
 
 -- both were started: the opening words are on their way to the client
-pub record IsStart (canon : Canon) (editing : Editing) (jobs : Jobs) (width height : ℕ) (j : Joined) : Type 0 where
+pub record IsStart (canon : Canon) (editing : Editing) (jobs : Jobs) (width height : ℕ)
+    (j : Joined) : Type 0 where
   pub server : term.LeadsTo (term_run.start canon editing jobs) j.term
   pub client : core.LeadsTo (core_run.start width height canon.limit) j.core
   pub to_server : j.to_server.items ≡ []
@@ -155,9 +157,9 @@ inputs_by _ = []
 abbrev pub inputs_of : List Event → List Input
 inputs_of events = flat_map inputs_by events
 
--- THE SENTENCE, with nothing between the two: what was put for the foreground job is the first of what a local terminal
--- gives for what was typed; and where nothing is on its way to the server, and nothing failed, that and what waits for
--- the job is all of it. That the bytes are carried is a part of it, and no premise.
+-- THE SENTENCE, with nothing between the two: what was put for the foreground job is the first of what a
+-- local terminal gives for what was typed; and where nothing is on its way to the server, and nothing failed,
+-- that and what waits for the job is all of it. That the bytes are carried is a part of it, and no premise.
 pub record ReadsAll (canon : Canon) (typed : List Input) (j : Joined) : Type 0 where
   pub prefix : IsPrefixOf (entries_put j.puts.items) (typed_entries canon (keys_of canon.settings typed))
   pub all : j.to_server.items ≡ [] → j.term.progress.over ≡ false → j.core.progress.over ≡ false
@@ -173,7 +175,9 @@ pub record ReadsAll (canon : Canon) (typed : List Input) (j : Joined) : Type 0 w
 -- from the start on, with the standard special characters, of which INTR interrupts if BRK or IP was sent
 abbrev pub LoopReads : Type 0
 LoopReads =
-    (canon : Canon) (editing : Editing) (jobs : Jobs) (width height : ℕ) (first last : Joined) (script : List Event)
-    → canon.settings.chars ≡ standard_characters → All (λ input. HasKey canon.settings input) (inputs_of script)
+    (canon : Canon) (editing : Editing) (jobs : Jobs) (width height : ℕ) (first last : Joined)
+    (script : List Event)
+    → canon.settings.chars ≡ standard_characters
+    → All (λ input. HasKey canon.settings input) (inputs_of script)
     → IsStart canon editing jobs width height first → FoldsTo Happens first script last
     → ReadsAll canon (inputs_of script) last

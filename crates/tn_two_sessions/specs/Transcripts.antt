@@ -1,6 +1,8 @@
 -- The headline over two running sessions, of what can be seen of them: what each read from its connection and
--- wrote to it. Read `Headline` at the end first, and what `RunningSession` and `RunningClient` say of a transcript.
-use Rattle.std.specs.Prelude.{◌≡◌, ℕ, true, ⊤, All, Option, Some, List, [], ◌∷◌, ◌++◌, flat_map, option_to_list}
+-- wrote to it. Read `Headline` at the end first, and what `RunningSession` and `RunningClient` say of a
+-- transcript.
+use Rattle.std.specs.Prelude.{◌≡◌, ℕ, true, ⊤, All, Option, Some, List, [], ◌∷◌, ◌++◌, flat_map}
+use Rattle.std.specs.Prelude.{option_to_list}
 use Rattle.tn_client.specs.declared.commands.UserCommand.TheVariants.{Brk, Ip}
 use Rattle.tn_machines.specs.client.Bringing.{Input, key_typed, command_sent}
 use Rattle.tn_discipline.specs.Canon.{Canon, typed_entries}
@@ -15,7 +17,8 @@ use Rattle.tn_session.specs.Transcripts.{Exchange, all_read, all_wrote}
 use Rattle.tn_streams.specs.Known.{KnownReader, KnownTyping, KnownWriting}
 use Rattle.tn_streams.specs.Prefixes.{IsPrefixOf}
 
--- A server's session that ran, with a terminal of this canon: what `serve_session` promises of what it returned.
+-- A server's session that ran, with a terminal of this canon: what `serve_session` promises of what it
+-- returned.
 pub record Served {J : Type 0} (facts : JobFacts J) (canon : Canon) : Type 0 where
   pub editing : Editing
   pub to_make : Option ℕ
@@ -36,8 +39,8 @@ pub record Connected (limit : ℕ) : Type 0 where
   pub ran : RunningClient (record { width = width; height = height; limit = limit }) keys reader writer screen
       result
 
--- WHAT A USER TYPES, as keys of a terminal with these settings: BRK and IP count as the key INTR, AYT and NOP as
--- nothing
+-- WHAT A USER TYPES, as keys of a terminal with these settings: BRK and IP count as the key INTR, AYT and NOP
+-- as nothing
 abbrev pub key_of : Settings → Input → List ℕ
 key_of s (key_typed key) = key ∷ []
 key_of s (command_sent Brk) = option_to_list s.chars.intr
@@ -73,9 +76,9 @@ pub record IsInTime (server client : List Exchange) : Type 0 where
   pub to_server : IsPrefixOf (all_read server) (all_wrote client)
   pub to_client : IsPrefixOf (all_read client) (all_wrote server)
 
--- THE SOCKET, of two transcripts. There is one order of the steps of both, such that after each step what either
--- has read so far begins what the other has written so far: nothing was lost, added or turned round on the way,
--- and no byte came before it was written.
+-- THE SOCKET, of two transcripts. There is one order of the steps of both, such that after each step what
+-- either has read so far begins what the other has written so far: nothing was lost, added or turned round on
+-- the way, and no byte came before it was written.
 pub record IsCarried (server client : List Exchange) : Type 0 where
   pub order : List Step
   pub of_server : server_steps order ≡ server
@@ -94,9 +97,9 @@ pub record RanToTheEnd {J : Type 0} {facts : JobFacts J} {canon : Canon} (s : Se
 abbrev pub keys_at : (canon : Canon) → Connected canon.limit → List ℕ
 keys_at canon c = keys_of canon.settings c.ran.inputs
 
--- WHAT YOU TYPE IS WHAT THE JOB READS: what the foreground job took is a prefix of the entries that the keys which
--- the client read give at one local terminal, with the commands between them, and is all of them where both ran to
--- the end.
+-- WHAT YOU TYPE IS WHAT THE JOB READS: what the foreground job took is a prefix of the entries that the keys
+-- which the client read give at one local terminal, with the commands between them, and is all of them where
+-- both ran to the end.
 pub record ReadsWhatIsTyped {J : Type 0} {facts : JobFacts J} {canon : Canon} (s : Served facts canon)
     (c : Connected canon.limit) : Type 0 where
   pub prefix : IsPrefixOf s.ran.entries_taken (typed_entries canon (keys_at canon c))
@@ -105,9 +108,9 @@ pub record ReadsWhatIsTyped {J : Type 0} {facts : JobFacts J} {canon : Canon} (s
   pub of_given : (given : List ℕ) → c.keys.reader.bytes ≡ Some given → c.keys.controls ≡ Some []
       → IsPrefixOf s.ran.entries_taken (typed_entries canon given)
 
--- THE SENTENCE. So it is of any two sessions, with lines of one limit and the standard special characters, of which
--- INTR interrupts if BRK or IP was sent, whose transcripts a socket carries: whatever the schedules, the cuts, the
--- modes and the faults.
+-- THE SENTENCE. So it is of any two sessions, with lines of one limit and the standard special characters, of
+-- which INTR interrupts if BRK or IP was sent, whose transcripts a socket carries: whatever the schedules,
+-- the cuts, the modes and the faults.
 abbrev pub Headline : {J : Type 0} → JobFacts J → Type 0
 Headline facts =
     (canon : Canon) (s : Served facts canon) (c : Connected canon.limit)

@@ -1,5 +1,5 @@
-//! Both machines of two sessions, run by one loop: what one of them appends is on its way to the other, and comes
-//! there in pieces of any length.
+//! Both machines of two sessions, run by one loop: what one of them appends is on its way to the other, and
+//! comes there in pieces of any length.
 //!
 //! ```
 //! let mut joined = Joined::start(alloc, settings, limit, editing, table, 80, 24)?;
@@ -10,7 +10,8 @@
 
 ghost use Rattle.std.specs.Prelude.{◌≡◌, ◌<◌, ◌++◌, OnErr, OnOk, IfOk, IfErr, length};
 ghost use Rattle.std.specs.List.{FoldsTo};
-ghost use Rattle.tn_two_sessions.specs.OneLoop.{Happens, IsRefused, IsStart, ServesNone, ServesOne, StopsIn, TellsNone, TellsOne, TakesFirst};
+ghost use Rattle.tn_two_sessions.specs.OneLoop.{Happens, IsRefused, IsStart, ServesNone, ServesOne, StopsIn};
+ghost use Rattle.tn_two_sessions.specs.OneLoop.{TellsNone, TellsOne, TakesFirst};
 ghost use Rattle.tn_machines.specs.server.Run.{puts_of};
 
 use std::alloc::{AllocError, Global};
@@ -44,8 +45,9 @@ pub enum Event {
     },
 }
 
-/// The machine of a server's session and that of a client's, the bytes that are on their way between them, what is
-/// shown to the user, and what was put for the foreground job, where `None` is the end of its entries.
+/// The machine of a server's session and that of a client's, the bytes that are on their way between them,
+/// what is shown to the user, and what was put for the foreground job, where `None` is the end of its
+/// entries.
 #[derive(Drop)]
 pub struct Joined {
     pub term: Term,
@@ -85,8 +87,9 @@ fn keep(puts: &mut Vec<Option<Entry>>, put: Put) -> Result<(), AllocError>
 }
 
 impl Joined {
-    /// Starts both: a terminal with these settings, whose lines have at most `limit` bytes at both ends, edited at one
-    /// side, with these jobs; and a client in a window of this size. The opening words are on their way.
+    /// Starts both: a terminal with these settings, whose lines have at most `limit` bytes at both ends,
+    /// edited at one side, with these jobs; and a client in a window of this size. The opening words are on
+    /// their way.
     pub fn start(
         alloc: Global,
         settings: Settings,

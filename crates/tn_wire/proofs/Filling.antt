@@ -12,7 +12,8 @@ length-three xs n a b c =
     let two = slice_set one (n + 1) b in
     length-set two (n + 2) c ∙ length-set one (n + 1) b ∙ length-set xs n a
 
-pub three_more : (xs : List ℕ) (n m a b c : ℕ) → m ≡ n + 3 → n + 2 < length xs → take m (slice_set (slice_set (slice_set xs n a) (n + 1) b) (n + 2) c) ≡ take n xs ++ a ∷ b ∷ c ∷ []
+pub three_more : (xs : List ℕ) (n m a b c : ℕ) → m ≡ n + 3 → n + 2 < length xs
+    → take m (slice_set (slice_set (slice_set xs n a) (n + 1) b) (n + 2) c) ≡ take n xs ++ a ∷ b ∷ c ∷ []
 three_more xs n m a b c is room =
     let one = slice_set xs n a in
     let two = slice_set one (n + 1) b in
@@ -24,6 +25,7 @@ three_more xs n m a b c is room =
     ∙ ap (λ (ys : List ℕ). ys ++ c ∷ []) (append_assoc (take n xs) (a ∷ []) (b ∷ []))
     ∙ append_assoc (take n xs) (a ∷ b ∷ []) (c ∷ [])
 
-pub octets_more : (triples : List Triple) (i : ℕ) (d : Triple) → i < length triples → flat_map octets_of (take i triples) ++ octets_of (get_or triples i d) ≡ flat_map octets_of (take (i + 1) triples)
+pub octets_more : (triples : List Triple) (i : ℕ) (d : Triple) → i < length triples
+    → flat_map octets_of (take i triples) ++ octets_of (get_or triples i d) ≡ flat_map octets_of (take (i + 1) triples)
 octets_more triples i d within =
     flat_map_more octets_of [] (take i triples) (get_or triples i d) ∙ ap (λ (ts : List Triple). flat_map octets_of ts) (sym (take_more triples i d within))

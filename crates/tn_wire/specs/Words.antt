@@ -1,5 +1,6 @@
 -- What either end says as items, and what a subnegotiation says to it.
-use Rattle.std.specs.Prelude.{◌≡◌, ◌≢◌, ℕ, Bool, true, false, not, ◌&&◌, nat_le, Option, Some, None, List, [], ◌∷◌, length, if◌then◌else◌}
+use Rattle.std.specs.Prelude.{◌≡◌, ◌≢◌, ℕ, Bool, true, false, not, ◌&&◌, nat_le, Option, Some, None, List, []}
+use Rattle.std.specs.Prelude.{◌∷◌, length, if◌then◌else◌}
 use Rattle.tn_codes.specs.PayloadOf.{payload_of}
 use Rattle.tn_codes.specs.Payloads.{option_of, parameters_of}
 use Rattle.tn_codes.specs.declared.codes.Verb.{Verb}

@@ -1,5 +1,7 @@
 -- A text is split at its last colon.
-use Rattle.std.proofs.Common.{◌≡◌, ◌≢◌, ◌⊎◌, inl, inr, ℕ, zero, suc, ◌+◌, ◌-◌, ◌<◌, ◌≤◌, ◌==◌, ◌&&◌, ◌||◌, Bool, true, false, not, Option, Some, None, IfSome, List, [], ◌∷◌, ◌++◌, length, get_or, take, drop, slice_index, cond, eqb, eqb-true, take-append-drop, refl, sym, ap, ap₂, ◌∙◌, subst, arith, option_map, MatchOption, codes}
+use Rattle.std.proofs.Common.{◌≡◌, ◌≢◌, ◌⊎◌, inl, inr, ℕ, zero, suc, ◌+◌, ◌-◌, ◌<◌, ◌≤◌, ◌==◌, ◌&&◌, ◌||◌, Bool, true, false, not, Option, Some, None, IfSome}
+use Rattle.std.proofs.Common.{List, [], ◌∷◌, ◌++◌, length, get_or, take, drop, slice_index, cond, eqb, eqb-true, take-append-drop, refl, sym, ap, ap₂, ◌∙◌}
+use Rattle.std.proofs.Common.{subst, arith, option_map, MatchOption, codes}
 use Rattle.std.specs.List.{after_first, ends_with, starts_with}
 use Rattle.std.specs.Borrow.{Bor}
 use Rattle.std.specs.Str.Parse.{AllDigits, digits_value, without_leading_plus}
@@ -7,7 +9,8 @@ use Rattle.std.specs.Char.{digit_value}
 use Rattle.std.specs.Str.{NoCharPasses}
 use Rattle.std.specs.Str.Pattern.{FindsCharPrefix, FindsCharSuffix, RFindsChar, SplitsAroundMatch}
 use Rattle.std.proofs.lemmas.List.{append_cancel_right}
-use Rattle.std.proofs.lemmas.Str.Pattern.{IsSplitOnceResult, NoCharPasses-char, drop_at_char, split_once_first, split_parts, strip_prefix_char, strip_suffix_char}
+use Rattle.std.proofs.lemmas.Str.Pattern.{IsSplitOnceResult, NoCharPasses-char, drop_at_char, split_once_first, split_parts, strip_prefix_char}
+use Rattle.std.proofs.lemmas.Str.Pattern.{strip_suffix_char}
 use Rattle.tn_words.specs.Addresses.{WritesAddress, WritesBare, WritesHost, WritesName, WritesPlace, has_colon, has_one_colon, has_port}
 use Rattle.tn_words.specs.Numbers.{Writes}
 
@@ -59,7 +62,8 @@ split_same (a ∷ h) (b ∷ g) p q is p_lacks q_lacks =
     let rest = split_same h g p q (ap (λ (l : List ℕ). drop 1 l) is) p_lacks q_lacks in
     (ap (λ (x : ℕ). x ∷ h) first ∙ ap (λ (l : List ℕ). b ∷ l) rest.0, rest.1)
 
-pub writes_so : (text front number : List ℕ) (h : List ℕ) (port : ℕ) → text ≡ front ++ 58 ∷ number → Lacks 58 number → (w : WritesAddress text h port) → (front ≡ w.front) × (number ≡ w.number)
+pub writes_so : (text front number : List ℕ) (h : List ℕ) (port : ℕ) → text ≡ front ++ 58 ∷ number → Lacks 58 number → (w : WritesAddress text h port)
+    → (front ≡ w.front) × (number ≡ w.number)
 writes_so text front number h port is lacks w =
     split_same front w.front number w.number (sym is ∙ w.text_is) lacks (number_lacks w.number port w.writes)
 
@@ -95,7 +99,8 @@ one_place text h g (Some p) (Some q) one two = (one_host text h g p q one.1 two.
 
 -- a text that writes no address, or no host alone, writes no place
 
-pub no_port : (text : List ℕ) → has_port text ≡ true → ((h : List ℕ) (p : ℕ) → WritesAddress text h p → ⊥) → (h : List ℕ) (p : Option ℕ) → WritesPlace text h p → ⊥
+pub no_port : (text : List ℕ) → has_port text ≡ true → ((h : List ℕ) (p : ℕ) → WritesAddress text h p → ⊥) → (h : List ℕ) (p : Option ℕ) → WritesPlace text h p
+    → ⊥
 no_port text is none h None w = clash (has_port text) w.0 is
 no_port text is none h (Some p) w = none h p w.1
 
@@ -110,10 +115,12 @@ empty [] is = refl
 empty (x ∷ l) is = let none : length (x ∷ l) ≡ 0 = eqb-true _ _ is in absurd (omega (arith, none))
 
 abbrev pub StripsFront : List ℕ → Option (Bor (List ℕ)) → Type 0
-StripsFront text r = MatchOption r (FindsCharPrefix 91 text None) (λ x. (n : ℕ) × FindsCharPrefix 91 text (Some n) × (x.now ≡ drop n text) × (length x.now + n ≡ length text))
+StripsFront text r = MatchOption r (FindsCharPrefix 91 text None)
+    (λ x. (n : ℕ) × FindsCharPrefix 91 text (Some n) × (x.now ≡ drop n text) × (length x.now + n ≡ length text))
 
 abbrev pub StripsBack : List ℕ → Option (Bor (List ℕ)) → Type 0
-StripsBack text r = MatchOption r (FindsCharSuffix 93 text None) (λ x. (n : ℕ) × FindsCharSuffix 93 text (Some n) × (x.now ≡ take (length text - n) text) × (length x.now + n ≡ length text))
+StripsBack text r = MatchOption r (FindsCharSuffix 93 text None)
+    (λ x. (n : ℕ) × FindsCharSuffix 93 text (Some n) × (x.now ≡ take (length text - n) text) × (length x.now + n ≡ length text))
 
 pub front_some : (text : List ℕ) (r : Option (Bor (List ℕ))) (x : Bor (List ℕ)) → StripsFront text r → r ≡ Some x → text ≡ 91 ∷ x.now
 front_some text r x strips is = strip_prefix_char 91 text (Some x) (subst (StripsFront text) is strips) (omega arith)
@@ -121,7 +128,8 @@ front_some text r x strips is = strip_prefix_char 91 text (Some x) (subst (Strip
 pub front_none : (text : List ℕ) (r : Option (Bor (List ℕ))) → StripsFront text r → r ≡ None → (rest : List ℕ) → text ≢ 91 ∷ rest
 front_none text r strips is = strip_prefix_char 91 text None (subst (StripsFront text) is strips) (omega arith)
 
-back_some : (text rest : List ℕ) (r : Option (Bor (List ℕ))) → text ≡ 91 ∷ rest → MatchOption r ((front : List ℕ) → rest ≢ front ++ 93 ∷ []) (λ x. rest ≡ x.now ++ 93 ∷ []) → IfSome r (λ name. WritesName text name.now)
+back_some : (text rest : List ℕ) (r : Option (Bor (List ℕ))) → text ≡ 91 ∷ rest
+    → MatchOption r ((front : List ℕ) → rest ≢ front ++ 93 ∷ []) (λ x. rest ≡ x.now ++ 93 ∷ []) → IfSome r (λ name. WritesName text name.now)
 back_some text rest None is strips = tt
 back_some text rest (Some x) is strips = inr (is ∙ ap (λ (l : List ℕ). 91 ∷ l) strips)
 
@@ -158,7 +166,8 @@ colon_none text r splits is =
     let lacks = split_parts 58 text None (subst (IsSplitOnceResult 58 text) is splits) (omega arith) in
     ap (λ b. b && not (has_colon (after_first (λ byte. byte == 58) text))) (has_none text lacks)
 
-pub colon_some : (text : List ℕ) (r : Option (Bor (List ℕ) × Bor (List ℕ))) (x : Bor (List ℕ) × Bor (List ℕ)) → IsSplitOnceResult 58 text r → r ≡ Some x → not (has_colon x.1.now) ≡ has_one_colon text
+pub colon_some : (text : List ℕ) (r : Option (Bor (List ℕ) × Bor (List ℕ))) (x : Bor (List ℕ) × Bor (List ℕ)) → IsSplitOnceResult 58 text r → r ≡ Some x
+    → not (has_colon x.1.now) ≡ has_one_colon text
 colon_some text r x splits is =
     let at = subst (IsSplitOnceResult 58 text) is splits in
     let first = split_once_first 58 text (Some x) at (omega arith) in
@@ -166,7 +175,8 @@ colon_some text r x splits is =
     let has : has_colon text ≡ true = ap has_colon parts.0 ∙ has_that x.0.now x.1.now in
     ap (λ l. not (has_colon l)) first.2 ∙ sym (ap (λ b. b && not (has_colon (after_first (λ byte. byte == 58) text))) has)
 
-pub port_by : (text : List ℕ) (one begins ends : Bool) → one ≡ has_one_colon text → begins ≡ starts_with eqb text (codes "[") → ends ≡ ends_with eqb text (codes "]")
+pub port_by : (text : List ℕ) (one begins ends : Bool) → one ≡ has_one_colon text → begins ≡ starts_with eqb text (codes "[")
+    → ends ≡ ends_with eqb text (codes "]")
     → (one || (begins && not ends)) ≡ has_port text
 port_by text one begins ends is_one is_begins is_ends =
     ap₂ (λ a b. a || b) is_one (ap₂ (λ a b. a && not b) is_begins is_ends)
@@ -180,23 +190,27 @@ parts : (text : List ℕ) (r : Option (Bor (List ℕ) × Bor (List ℕ))) → Sp
     → MatchOption r (Lacks 58 text) (λ x. (text ≡ x.0.now ++ 58 ∷ x.1.now) × Lacks 58 x.1.now)
 parts text None none = λ i under. NoCharPasses-char 58 text i none (omega arith) under
 parts text (Some x) h = (
-  sym (take-append-drop h.0 text) ∙ ap₂ (λ (front back : List ℕ). front ++ back) (sym h.3) (drop_at_char 58 text h.0 h.1 h.2.1 (omega arith) ∙ ap (λ (l : List ℕ). 58 ∷ l) (sym h.4)),
+  sym (take-append-drop h.0 text) ∙ ap₂ (λ (front back : List ℕ). front ++ back) (sym h.3)
+      (drop_at_char 58 text h.0 h.1 h.2.1 (omega arith) ∙ ap (λ (l : List ℕ). 58 ∷ l) (sym h.4)),
   λ i under. NoCharPasses-char 58 x.1.now i (subst (NoCharPasses (λ d. eqb d 58)) (sym h.4) h.2.0) (omega arith) under,
 )
 
-pub parts_some : (text : List ℕ) (r : Option (Bor (List ℕ) × Bor (List ℕ))) (x : Bor (List ℕ) × Bor (List ℕ)) → Splits text r → r ≡ Some x → (text ≡ x.0.now ++ 58 ∷ x.1.now) × Lacks 58 x.1.now
+pub parts_some : (text : List ℕ) (r : Option (Bor (List ℕ) × Bor (List ℕ))) (x : Bor (List ℕ) × Bor (List ℕ)) → Splits text r → r ≡ Some x
+    → (text ≡ x.0.now ++ 58 ∷ x.1.now) × Lacks 58 x.1.now
 parts_some text r x splits is = parts text (Some x) (subst (λ o. Splits text o) is splits)
 
 pub parts_none : (text : List ℕ) (r : Option (Bor (List ℕ) × Bor (List ℕ))) → Splits text r → r ≡ None → Lacks 58 text
 parts_none text r splits is = parts text None (subst (λ o. Splits text o) is splits)
 
 -- what stands before the colon writes the host
-pub named_none : (text front number : List ℕ) → (text ≡ front ++ 58 ∷ number) × Lacks 58 number → ((h : List ℕ) → WritesHost front h → ⊥) → (h : List ℕ) (port : ℕ) → WritesAddress text h port → ⊥
+pub named_none : (text front number : List ℕ) → (text ≡ front ++ 58 ∷ number) × Lacks 58 number → ((h : List ℕ) → WritesHost front h → ⊥)
+    → (h : List ℕ) (port : ℕ) → WritesAddress text h port → ⊥
 named_none text front number split none h port w =
     none h (subst (λ l. WritesHost l h) (sym (writes_so text front number h port split.0 split.1 w).0) w.named)
 
 -- the number that stands there is the port's
-pub numbered : (text front number : List ℕ) → (text ≡ front ++ 58 ∷ number) × Lacks 58 number → (h : List ℕ) (port : ℕ) → WritesAddress text h port → Writes number port × (1 ≤ port) × (port ≤ 65535)
+pub numbered : (text front number : List ℕ) → (text ≡ front ++ 58 ∷ number) × Lacks 58 number → (h : List ℕ) (port : ℕ) → WritesAddress text h port
+    → Writes number port × (1 ≤ port) × (port ≤ 65535)
 numbered text front number split h port w =
     let same = (writes_so text front number h port split.0 split.1 w).1 in
     (subst (λ n. Writes n port) (sym same) w.writes, w.at_least, w.at_most)

@@ -1,7 +1,9 @@
 -- What a parse of the words says of them.
-use Rattle.std.proofs.Common.{◌≡◌, ◌≢◌, ◌⊎◌, inl, inr, ℕ, Bool, true, false, Option, Some, None, List, [], ◌∷◌, codes, slice_index, option_map, refl, sym, ap, ◌∙◌, subst, arith, ◌<◌}
+use Rattle.std.proofs.Common.{◌≡◌, ◌≢◌, ◌⊎◌, inl, inr, ℕ, Bool, true, false, Option, Some, None, List, [], ◌∷◌, codes, slice_index, option_map, refl, sym, ap}
+use Rattle.std.proofs.Common.{◌∙◌, subst, arith, ◌<◌}
 use Rattle.std.specs.Prelude.{unwrap_or, ⊤}
-use Rattle.clap.specs.Words.{App, Row, Text, subcommand_name_of, subcommand_of, subcommand_rows_of, HasMatchesOf, takes, fault_of, is_simple, is_simple_and_free, IsAmong}
+use Rattle.clap.specs.Words.{App, Row, Text, subcommand_name_of, subcommand_of, subcommand_rows_of, HasMatchesOf, takes, fault_of, is_simple}
+use Rattle.clap.specs.Words.{is_simple_and_free, IsAmong}
 use Rattle.clap.specs.declared.error.kind.ErrorKind.{ErrorKind}
 use Rattle.clap.specs.declared.error.kind.ErrorKind.TheVariants as kind
 use Rattle.clap.specs.declared.parser.matches.ArgMatches.{ArgMatches}
@@ -34,12 +36,14 @@ among : (k asked : ErrorKind) (words : List (List ℕ)) → k ≡ asked → aske
 among k asked words is wants (inl ran_out) = absurd (wants (sym is ∙ ran_out))
 among k asked words is wants (inr found) = subst (λ x. IsAmong x (fault_of tn words)) is found
 
-wrong : (k : ErrorKind) (words : List (List ℕ)) → k ≢ kind.OutOfMemory → k ≢ kind.DisplayHelp → k ≢ kind.DisplayVersion → IsKind k (fault_of tn words) → AreWrong words
+wrong : (k : ErrorKind) (words : List (List ℕ)) → k ≢ kind.OutOfMemory → k ≢ kind.DisplayHelp → k ≢ kind.DisplayVersion → IsKind k (fault_of tn words)
+    → AreWrong words
 wrong k words wants help version (inl ran_out) = absurd (wants ran_out)
 wrong k words wants help version (inr found) = (k, help, version, found)
 
 -- an error of the parse is told as it must be
-refused : (words : List (List ℕ)) (k : ErrorKind) (f : WordsFault) → (takes tn words ≡ true → k ≡ kind.OutOfMemory) → IsKind k (fault_of tn words) → TellsKind k f → Refuses words f
+refused : (words : List (List ℕ)) (k : ErrorKind) (f : WordsFault) → (takes tn words ≡ true → k ≡ kind.OutOfMemory) → IsKind k (fault_of tn words)
+    → TellsKind k f → Refuses words f
 refused words k (fault.Usage detail) passes kinds tells =
     inl (not_taken (takes tn words) k passes tells.0, wrong k words tells.0 tells.1 tells.2 kinds)
 refused words k fault.Memory passes kinds tells = tt
@@ -48,9 +52,11 @@ refused words k (fault.Help text) passes kinds tells =
 refused words k fault.Version passes kinds tells =
     (not_taken (takes tn words) k passes (λ ran_out. absurd (cc)), among k kind.DisplayVersion words tells (λ ran_out. absurd (cc)) kinds)
 
-pub refused_by : (app : App) (words : List (List ℕ)) (k : ErrorKind) (f : WordsFault) → app ≡ tn → (takes app words ≡ true → k ≡ kind.OutOfMemory) → IsKind k (fault_of app words) → TellsKind k f → Refuses words f
+pub refused_by : (app : App) (words : List (List ℕ)) (k : ErrorKind) (f : WordsFault) → app ≡ tn → (takes app words ≡ true → k ≡ kind.OutOfMemory)
+    → IsKind k (fault_of app words) → TellsKind k f → Refuses words f
 refused_by app words k f is passes kinds tells =
-    refused words k f (subst (λ (a : App). takes a words ≡ true → k ≡ kind.OutOfMemory) is passes) (subst (λ (a : App). IsKind k (fault_of a words)) is kinds) tells
+    refused words k f (subst (λ (a : App). takes a words ≡ true → k ≡ kind.OutOfMemory) is passes)
+    (subst (λ (a : App). IsKind k (fault_of a words)) is kinds) tells
 
 composed : {A B C : Type 0} (f : A → B) (g : B → C) (o : Option A) → option_map g (option_map f o) ≡ option_map (λ x. g (f x)) o
 composed f g None = refl

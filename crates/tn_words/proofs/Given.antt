@@ -1,5 +1,6 @@
 -- What `clap` gives of an option that has a text.
-use Rattle.std.proofs.Common.{◌≡◌, ◌∙◌, ℕ, true, false, List, Option, Some, None, MatchOption, IfSome, is_some, option_map, codes, sym, ap, ap₂, subst, refl, slice_get}
+use Rattle.std.proofs.Common.{◌≡◌, ◌∙◌, ℕ, true, false, List, Option, Some, None, MatchOption, IfSome, is_some, option_map, codes, sym, ap, ap₂, subst, refl}
+use Rattle.std.proofs.Common.{slice_get}
 use Rattle.std.specs.Prelude.{string_bytes, unwrap_or, option_and_then, find}
 use Rattle.std.specs.Borrow.{Bor}
 use Rattle.std.specs.Option.{option_map_or}
@@ -45,7 +46,8 @@ same_number rows name least most n m a b =
     let same : a.text ≡ b.text = ap (λ o. unwrap_or o a.text) (sym a.has ∙ b.has) in
     sym a.writes.value ∙ (ap (λ t. digits_value 10 (without_leading_plus t)) same ∙ b.writes.value)
 
-pub same_maybe : (rows : List Row) (name : Text) (least most : ℕ) (a b : Option ℕ) → MayHaveNumber rows name least most a → MayHaveNumber rows name least most b → a ≡ b
+pub same_maybe : (rows : List Row) (name : Text) (least most : ℕ) (a b : Option ℕ) → MayHaveNumber rows name least most a → MayHaveNumber rows name least most b
+    → a ≡ b
 same_maybe rows name least most None None a b = refl
 same_maybe rows name least most None (Some m) a b =
     let bad : false ≡ true = sym a ∙ number_is_given rows name least most m b in absurd (cc)
@@ -54,7 +56,8 @@ same_maybe rows name least most (Some n) None a b =
 same_maybe rows name least most (Some n) (Some m) a b = ap Some (same_number rows name least most n m a b)
 
 -- the ports that are given give the one that is asked for
-pub the_port : (rows : List Row) (within option place : Option ℕ) (port : ℕ) → MayHaveNumber rows (codes "port") 1 65535 option → MayHaveNumber rows (codes "at") 1 65535 place
+pub the_port : (rows : List Row) (within option place : Option ℕ) (port : ℕ) → MayHaveNumber rows (codes "port") 1 65535 option
+    → MayHaveNumber rows (codes "at") 1 65535 place
     → AsksPort rows within port → one_port option place within (is_given (codes "host") rows) ≡ Some port
 the_port rows within option place port by_option by_place asks =
     ap₂ (λ o p. one_port o p within (is_given (codes "host") rows))
@@ -80,7 +83,8 @@ place_given rows text (Some p) is writes =
 pub place_none : (rows : List Row) (text h : Text) (v : Option ℕ) → first_of (codes "host") rows ≡ Some text → HasPlace rows h v → WritesPlace text h v
 place_none rows text h v is has = subst (λ o. MatchOption o ((h ≡ codes "127.0.0.1") × (v ≡ None)) (λ t. WritesPlace t h v)) is has
 
-here : (o : Option Text) (h : Text) (v : Option ℕ) → o ≡ None → h ≡ codes "127.0.0.1" → v ≡ None → MatchOption o ((h ≡ codes "127.0.0.1") × (v ≡ None)) (λ text. WritesPlace text h v)
+here : (o : Option Text) (h : Text) (v : Option ℕ) → o ≡ None → h ≡ codes "127.0.0.1" → v ≡ None
+    → MatchOption o ((h ≡ codes "127.0.0.1") × (v ≡ None)) (λ text. WritesPlace text h v)
 here None h v is is_here is_none = (is_here, is_none)
 here (Some text) h v is is_here is_none = let bad : true ≡ false = ap is_some is in absurd (cc)
 
@@ -99,12 +103,14 @@ place_is rows h g p q one two =
 pub no_place : (rows : List Row) → ((h : Text) (v : Option ℕ) → HasPlace rows h v → ⊥) → (h : Text) (p : ℕ) → AsksPlace rows h p → ⊥
 no_place rows none h p asks = none h asks.within asks.named
 
-pub no_port_at : (rows : List Row) (host : Text) (within : Option ℕ) → HasPlace rows host within → ((p : ℕ) → AsksPort rows within p → ⊥) → (h : Text) (p : ℕ) → AsksPlace rows h p → ⊥
+pub no_port_at : (rows : List Row) (host : Text) (within : Option ℕ) → HasPlace rows host within → ((p : ℕ) → AsksPort rows within p → ⊥) → (h : Text) (p : ℕ)
+    → AsksPlace rows h p → ⊥
 no_port_at rows host within has none h p asks =
     none p (subst (λ v. AsksPort rows v p) (same_place rows h host asks.within within asks.named has).1 asks.ports)
 
 -- what a flag's text says
-pub flagged : (rows : List Row) (name : Text) (o : Option Text) → first_of name rows ≡ o → option_map_or (λ text. bytes_eq text (codes "true")) o false ≡ is_flagged name rows
+pub flagged : (rows : List Row) (name : Text) (o : Option Text) → first_of name rows ≡ o
+    → option_map_or (λ text. bytes_eq text (codes "true")) o false ≡ is_flagged name rows
 flagged rows name o is = sym (ap (λ o. option_map_or (λ text. bytes_eq text (codes "true")) o false) is)
 
 -- an option without a text has not this one

@@ -1,5 +1,6 @@
 -- What words of `connect` that are written out ask for.
-use Rattle.std.proofs.Common.{◌≡◌, inl, inr, ℕ, true, false, Option, Some, None, is_some, List, [], ◌∷◌, codes, slice_index, string_bytes, option_map, refl, sym, ap, ◌∙◌, subst, arith}
+use Rattle.std.proofs.Common.{◌≡◌, inl, inr, ℕ, true, false, Option, Some, None, is_some, List, [], ◌∷◌, codes, slice_index, string_bytes, option_map, refl}
+use Rattle.std.proofs.Common.{sym, ap, ◌∙◌, subst, arith}
 use Rattle.std.specs.Prelude.{unwrap_or}
 use Rattle.clap.specs.Words.{Row, Text, subcommand_of, takes, one_of, first_of}
 use Rattle.clap.proofs.OnLiterals.{clap_on_literals}
@@ -8,7 +9,8 @@ use Rattle.tn_words.proofs.Asking.{connects_not}
 use Rattle.tn_words.proofs.Given.{no_port_at, place_is, same_maybe, same_number, the_port}
 use Rattle.tn_words.specs.Commands.{tn}
 use Rattle.tn_words.specs.Escapes.{IsControlOf, WritesEscape}
-use Rattle.tn_words.specs.Words.{AskFor, AskForHost, AsksConnect, AsksIn, AsksNothing, AsksPlace, HasEscape, HasNumber, HasPlace, MayHaveNumber, is_given, line_end_in, one_port}
+use Rattle.tn_words.specs.Words.{AskFor, AskForHost, AsksConnect, AsksIn, AsksNothing, AsksPlace, HasEscape, HasNumber, HasPlace, MayHaveNumber, is_given}
+use Rattle.tn_words.specs.Words.{line_end_in, one_port}
 use Rattle.tn_words.specs.declared.settings.Connecting.{Connecting}
 use Rattle.tn_words.specs.declared.settings.Escape.{Escape}
 use Rattle.tn_words.specs.declared.settings.Escape.TheVariants as escape
@@ -28,7 +30,8 @@ asks_connect None asked asks = absurd asks
 asks_connect (Some p) asked asks = asks.1
 
 -- an option without a text has no number
-not_given : (rows : List Row) (name : Text) (least most : ℕ) (size : Option ℕ) → is_given name rows ≡ false → MayHaveNumber rows name least most size → size ≡ None
+not_given : (rows : List Row) (name : Text) (least most : ℕ) (size : Option ℕ) → is_given name rows ≡ false → MayHaveNumber rows name least most size
+    → size ≡ None
 not_given rows name least most size none has = same_maybe rows name least most size None has none
 
 -- the place that words ask for is the one that they write
@@ -42,7 +45,8 @@ seven_at rows name has = record { text = codes "7"; has = has; writes = seven; a
 
 -- ports of which no one is asked for
 no_one : (rows : List Row) (host : Text) (within option place : Option ℕ) → HasPlace rows host within → MayHaveNumber rows (codes "port") 1 65535 option
-    → MayHaveNumber rows (codes "at") 1 65535 place → one_port option place within (is_given (codes "host") rows) ≡ None → (connecting : Connecting) → AsksConnect rows connecting → ⊥
+    → MayHaveNumber rows (codes "at") 1 65535 place → one_port option place within (is_given (codes "host") rows) ≡ None → (connecting : Connecting)
+    → AsksConnect rows connecting → ⊥
 no_one rows host within option place has by_option by_place none connecting asks =
     no_port_at rows host within has (λ port at.
     let bad : false ≡ true = ap is_some (sym none ∙ the_port rows within option place port by_option by_place at) in absurd (cc))
@@ -195,7 +199,13 @@ unfolding clap_on_literals
 none_asks asked asks =
     let a = asks_connect (subcommand_of tn host_words) asked asks.1 in
     let zero_is : HasNumber (rows_for host_words) (codes "wait") 0 86400 0 =
-    record { text = codes "0"; has = refl; writes = record { numeral = (omega arith, (omega arith, tt)); value = refl }; at_least = omega arith; at_most = omega arith } in (
+    record {
+      text = codes "0";
+      has = refl;
+      writes = record { numeral = (omega arith, (omega arith, tt)); value = refl };
+      at_least = omega arith;
+      at_most = omega arith;
+    } in (
       not_given (rows_for host_words) (codes "width") 0 65535 asked.width refl a.width,
       not_given (rows_for host_words) (codes "height") 0 65535 asked.height refl a.height,
       standard (rows_for host_words) asked.escape refl a.escape,
@@ -210,7 +220,13 @@ unfolding clap_on_literals
 wait_asks asked asks =
     let a = asks_connect (subcommand_of tn wait_words) asked asks.1 in
     let two_is : HasNumber (rows_for wait_words) (codes "wait") 0 86400 2 =
-    record { text = codes "2"; has = refl; writes = record { numeral = (omega arith, (omega arith, tt)); value = refl }; at_least = omega arith; at_most = omega arith } in
+    record {
+      text = codes "2";
+      has = refl;
+      writes = record { numeral = (omega arith, (omega arith, tt)); value = refl };
+      at_least = omega arith;
+      at_most = omega arith;
+    } in
     same_number (rows_for wait_words) (codes "wait") 0 86400 asked.wait 2 a.wait two_is
 
 pub lf_asks : AsksNothing (subcommand_of tn lf_words)

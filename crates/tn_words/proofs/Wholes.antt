@@ -50,6 +50,7 @@ module _ {E : Type 0} (explains digits : List ℕ → Result ℕ E → Type 0) (
   misses result least most n value none small h = some≢none n (sym (reads result least most n value h small) ∙ none)
 
   -- where one was read that lies outside of its range, neither
-  pub lies_outside : (result : Option ℕ) (least most number n : ℕ) → ((text : List ℕ) → one_text f name ≡ Some text → ReadsOne (Gives explains digits) text result)
+  pub lies_outside : (result : Option ℕ) (least most number n : ℕ)
+      → ((text : List ℕ) → one_text f name ≡ Some text → ReadsOne (Gives explains digits) text result)
       → result ≡ Some number → most < 2 ^ 32 → HasNumber (rows_of f) name least most n → n ≡ number
   lies_outside result least most number n value is small h = some_of n number (sym (reads result least most n value h small) ∙ is)

@@ -1,5 +1,6 @@
 -- Hosts and ports, as the command line writes them.
-use Rattle.std.specs.Prelude.{◌≡◌, ◌≢◌, ◌≤◌, ◌⊎◌, ◌==◌, eqb, ◌&&◌, ◌||◌, ℕ, Bool, true, false, not, Option, None, Some, List, [], ◌∷◌, ◌++◌, codes}
+use Rattle.std.specs.Prelude.{◌≡◌, ◌≢◌, ◌≤◌, ◌⊎◌, ◌==◌, eqb, ◌&&◌, ◌||◌, ℕ, Bool, true, false, not, Option}
+use Rattle.std.specs.Prelude.{None, Some, List, [], ◌∷◌, ◌++◌, codes}
 use Rattle.std.specs.List.{after_first, ends_with, list_any, starts_with}
 use Rattle.tn_words.specs.Numbers.{Writes}
 

@@ -1,5 +1,7 @@
 -- What words ask for, of the command line that `tn` takes.
-use Rattle.std.specs.Prelude.{◌≡◌, ◌≢◌, ◌⊎◌, ◌<◌, ◌≤◌, ◌||◌, ⊤, ℕ, Bool, true, false, if◌then◌else◌, unwrap_or, Option, Some, None, MatchOption, is_some, option_map, List, [], length, codes, string_bytes}
+use Rattle.std.specs.Prelude.{◌≡◌, ◌≢◌, ◌⊎◌, ◌<◌, ◌≤◌, ◌||◌, ⊤, ℕ, Bool, true, false, if◌then◌else◌}
+use Rattle.std.specs.Prelude.{unwrap_or, Option, Some, None, MatchOption, is_some, option_map, List, []}
+use Rattle.std.specs.Prelude.{length, codes, string_bytes}
 use Rattle.std.specs.Option.{option_map_or}
 use Rattle.std.specs.Str.{bytes_eq}
 use Rattle.clap.specs.Words.{Row, Text, subcommand_of, takes, fault_of, first_of, one_of, IsAmong}
@@ -93,12 +95,13 @@ service_line_end_in rows =
     service_line_end (is_given (codes "to") rows) (is_flagged (codes "crlf") rows)
     (is_flagged (codes "cr") rows)
 
--- what is done with a line that may have been cut: it is sent, or, with `end`, ends the session; no other word is
--- accepted, and none where no service is named
+-- what is done with a line that may have been cut: it is sent, or, with `end`, ends the session; no other
+-- word is accepted, and none where no service is named
 abbrev pub chosen_cut : Bool → Option Text → Option Bool
 chosen_cut named None = Some false
 chosen_cut true (Some text) =
-    if bytes_eq text (codes "end") then Some true else (if bytes_eq text (codes "send") then Some false else None)
+    if bytes_eq text (codes "end") then Some true
+    else (if bytes_eq text (codes "send") then Some false else None)
 chosen_cut false (Some text) = None
 
 abbrev pub ends_cut_in : List Row → Option Bool
@@ -163,8 +166,8 @@ abbrev pub has_telnet_option : List Row → Bool
 has_telnet_option rows = is_given (codes "escape") rows || is_given (codes "trace") rows
     || is_given (codes "width") rows || is_given (codes "height") rows
 
--- the line end that `--plain`, `--lf` and `--cr` choose, or none of it; no other choice of them is accepted, and with
--- `--plain` no option for Telnet
+-- the line end that `--plain`, `--lf` and `--cr` choose, or none of it; no other choice of them is accepted,
+-- and with `--plain` no option for Telnet
 abbrev pub chosen_line_end : Bool → Bool → Bool → Bool → Option (Option LineEnd)
 chosen_line_end false false false telnet = Some None
 chosen_line_end true false false false = Some (Some CrLf)

@@ -1,7 +1,8 @@
 //! The command line that `tn` takes, as `clap` reads it.
 
 ghost use Rattle.std.specs.Prelude.{◌≡◌, false, IfOk, codes, pos};
-ghost use Rattle.tn_words.specs.Commands.{tn, alone, offline, plain, serve, connect, whole_rule, with_default, flag_rule};
+ghost use Rattle.tn_words.specs.Commands.{tn, alone, offline, plain, serve, connect, whole_rule};
+ghost use Rattle.tn_words.specs.Commands.{with_default, flag_rule};
 ghost use Rattle.tn_words.specs.Commands.{host_rule, line_rule, maybe_port_rule, number_rule, place_rule};
 ghost use Rattle.tn_words.specs.Commands.{port_rule, text_rule, wait_rule};
 ghost use Rattle.clap.specs.Words.{app_of, new_app, rule_of, shape_of, with_rule};
@@ -283,7 +284,8 @@ fn serve_command<'a>(alloc: Global) -> Result<Command<'a>, AllocError>
 
 fn with_server_options<'a>(alloc: Global, command: Command<'a>) -> Result<Command<'a>, AllocError>
     requires { (out-Command command).has_globals ≡ false }
-    ensures app { IfOk result (λ new. app_of new ≡ with_rule (with_rule (with_rule (with_rule (with_rule (with_rule
+    ensures app { IfOk result (λ new. app_of new
+        ≡ with_rule (with_rule (with_rule (with_rule (with_rule (with_rule
         (with_rule (app_of command.entry) host_rule) port_rule)
         (with_default (whole_rule (codes "limit") 1 64) (codes "8")))
         (with_default (whole_rule (codes "per-host") 1 64) (codes "64")))
@@ -321,7 +323,8 @@ fn with_server_options<'a>(alloc: Global, command: Command<'a>) -> Result<Comman
 
 fn with_session_options<'a>(alloc: Global, command: Command<'a>) -> Result<Command<'a>, AllocError>
     requires { (out-Command command).has_globals ≡ false }
-    ensures app { IfOk result (λ new. app_of new ≡ with_rule (with_rule (with_rule (with_rule (with_rule (with_rule
+    ensures app { IfOk result (λ new. app_of new
+        ≡ with_rule (with_rule (with_rule (with_rule (with_rule (with_rule
         (app_of command.entry) (with_default (whole_rule (codes "ticks") 0 1000) (codes "0"))) line_rule)
         (with_default (whole_rule (codes "idle") 0 86400) (codes "0")))
         (with_default (whole_rule (codes "longest") 0 86400) (codes "0"))) (flag_rule (codes "local")))
@@ -363,7 +366,8 @@ fn with_session_options<'a>(alloc: Global, command: Command<'a>) -> Result<Comma
 
 fn with_gateway_options<'a>(alloc: Global, command: Command<'a>) -> Result<Command<'a>, AllocError>
     requires { (out-Command command).has_globals ≡ false }
-    ensures app { IfOk result (λ new. app_of new ≡ with_rule (with_rule (with_rule (with_rule (app_of command.entry)
+    ensures app { IfOk result (λ new. app_of new
+        ≡ with_rule (with_rule (with_rule (with_rule (app_of command.entry)
         (text_rule (codes "to"))) (flag_rule (codes "crlf"))) (flag_rule (codes "cr"))) (text_rule (codes "line-cut"))) }
     ensures local { IfOk result (λ new. (out-Command new).has_globals ≡ false) }
 {

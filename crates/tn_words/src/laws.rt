@@ -54,8 +54,8 @@ pub fn hosts_and_ports()
 {}
 
 /// Without options the sizes are open, the escape key is `^]`, no trace is written, the end of the keys is
-/// told at once, and the connection is one of Telnet. How a line ends is not chosen without `--plain`, with which
-/// there is no trace and no escape key.
+/// told at once, and the connection is one of Telnet. How a line ends is not chosen without `--plain`, with
+/// which there is no trace and no escape key.
 pub fn options()
     ensures none { (asked : Connecting)
         → AskFor (codes "tn" ∷ codes "connect" ∷ codes "::1" ∷ []) (Connect asked)

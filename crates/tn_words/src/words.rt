@@ -1,12 +1,17 @@
 //! The words of the command line.
 
-ghost use Rattle.std.specs.Prelude.{◌≡◌, ◌≤◌, ℕ, List, ⊤, true, false, None, Option, Some, IfOk, IfErr, IfSome, codes, map, option_map, string_bytes, unwrap_or};
+ghost use Rattle.std.specs.Prelude.{◌≡◌, ◌≤◌, ℕ, List, ⊤, true, false, None, Option, Some, IfOk, IfErr};
+ghost use Rattle.std.specs.Prelude.{IfSome, codes, map, option_map, string_bytes, unwrap_or};
 ghost use Rattle.clap.specs.Words.{Text, kind_of, rows_of, first_of, found_of, subcommand_rows_of};
-ghost use Rattle.tn_words.specs.Words.{AskFor, AsksConnect, AsksCount, AsksIn, AsksNothing, AsksPlace, AsksPort, AsksServe};
-ghost use Rattle.tn_words.specs.Words.{HasEscape, HasNumber, HasPlace, HasText, IsPath, Lacks, MayHaveAddress, MayHaveNumber};
-ghost use Rattle.tn_words.specs.Words.{MayHavePath, MissesNumber, Refuses, TellsKind, chosen_count, chosen_cut};
+ghost use Rattle.tn_words.specs.Words.{AskFor, AsksConnect, AsksCount, AsksIn, AsksNothing, AsksPlace};
+ghost use Rattle.tn_words.specs.Words.{AsksPort, AsksServe};
+ghost use Rattle.tn_words.specs.Words.{HasEscape, HasNumber, HasPlace, HasText, IsPath, Lacks};
+ghost use Rattle.tn_words.specs.Words.{MayHaveAddress, MayHaveNumber};
+ghost use Rattle.tn_words.specs.Words.{MayHavePath, MissesNumber, Refuses, TellsKind, chosen_count};
+ghost use Rattle.tn_words.specs.Words.{chosen_cut};
 ghost use Rattle.tn_words.specs.Words.{chosen_line_end, detail_of, ends_cut_in, has_telnet_option};
-ghost use Rattle.tn_words.specs.Words.{is_flagged, is_given, line_end_in, one_port, service_line_end, service_line_end_in};
+ghost use Rattle.tn_words.specs.Words.{is_flagged, is_given, line_end_in, one_port, service_line_end};
+ghost use Rattle.tn_words.specs.Words.{service_line_end_in};
 
 use crate::commands::{
     AT, CONNECT, COUNT, CR, CRLF, DECODE, ESCAPE, FOREVER, HEIGHT, HOST, IDLE, LF, LIMIT, LINE,
@@ -327,7 +332,8 @@ fn serving_at(
     requires line_end { service_line_end_in (rows_of (found_of words.now)) ≡ Some line_end }
     requires ends_cut { ends_cut_in (rows_of (found_of words.now)) ≡ Some ends_cut }
     requires count { AsksCount (rows_of (found_of words.now)) count }
-    requires until { MayHavePath (rows_of (found_of words.now)) (codes "until") (option_map string_bytes until) }
+    requires until { MayHavePath (rows_of (found_of words.now)) (codes "until")
+        (option_map string_bytes until) }
     ensures asked { IfSome result (AsksServe (rows_of (found_of words.now))) }
     ensures none { result ≡ None → (asked : Serving) → ¬ AsksServe (rows_of (found_of words.now)) asked }
 {
@@ -484,7 +490,8 @@ fn escape_text<'a>(words: &ArgMatches<'a>) -> &'a str
     }
 }
 
-// What ends a line that is sent without Telnet, where that is asked for; `None` where the flags make no sense.
+// What ends a line that is sent without Telnet, where that is asked for; `None` where the flags make no
+// sense.
 fn line_end_in(words: &ArgMatches<'_>) -> Option<Option<LineEnd>>
     ensures { result ≡ line_end_in (rows_of (found_of words.now)) }
 {

@@ -26,7 +26,9 @@ agree_at_rest w s none nothing =
     let a = server_terms.agreement in
     let b = client_terms.agreement in
     let l : LeadTo a b (engines w [] []) =
-    subst (λ (there : List Item). LeadTo a b (engines w there [])) silent (subst (λ (back : List Item). LeadTo a b (engines w x.0 back)) quiet (moves-LeadTo a b opening_pair (engines w x.0 y.0) (s.words none.0 none.1) (opening_leads b))) in
+    subst (λ (there : List Item). LeadTo a b (engines w there [])) silent
+    (subst (λ (back : List Item). LeadTo a b (engines w x.0 back)) quiet
+    (moves-LeadTo a b opening_pair (engines w x.0 y.0) (s.words none.0 none.1) (opening_leads b))) in
     let on : (side : Side) (code : ℕ) (option : Known) → known_option code ≡ Some option → AgreeOn w side code =
     λ side code option is. LeadTo-agree a b (engines w [] []) side code option is l refl refl in
     record {

@@ -32,66 +32,108 @@ use Rattle.tn_world.proofs.Cut.{said_behind, start}
 use Rattle.tn_world.proofs.Soundness.{Lead, made, asked_sound, told_sound, sound_as, sound_reaches, sound_returns, propose_goes_on, breaks_sound, again_sound}
 
 -- a call of the client that is accepted
-pub tells_sound : (old : World) (end : client.End) (e : client_calls.Event) (later : List ℕ) → client_courses.IsCall e → client_fault old.client e ≡ None → client.Advances old.client e end → client.ReadsNothing old.client end → client.Sends old.client e old.to_server later → HasPast old → HasPast (record old { client = end; to_server = later })
+pub tells_sound : (old : World) (end : client.End) (e : client_calls.Event) (later : List ℕ) → client_courses.IsCall e → client_fault old.client e ≡ None
+    → client.Advances old.client e end → client.ReadsNothing old.client end → client.Sends old.client e old.to_server later → HasPast old
+    → HasPast (record old { client = end; to_server = later })
 tells_sound old end e later call accepted goes keeps sends s =
     told_sound old (record old { client = end; to_server = later }) e call goes keeps sends (propose_goes_on old.client e accepted) s
 
-pub key_sound : (old : World) (end : client.End) (key : ℕ) (later seen keys : List ℕ) → client_fault old.client (client_calls.typed key) ≡ None → client.Advances old.client (client_calls.typed key) end → client.ReadsNothing old.client end → client.Sends old.client (client_calls.typed key) old.to_server later → HasPast old → HasPast (record old { client = end; to_server = later; echoed = seen; typed = keys })
+pub key_sound : (old : World) (end : client.End) (key : ℕ) (later seen keys : List ℕ) → client_fault old.client (client_calls.typed key) ≡ None
+    → client.Advances old.client (client_calls.typed key) end → client.ReadsNothing old.client end
+    → client.Sends old.client (client_calls.typed key) old.to_server later → HasPast old
+    → HasPast (record old { client = end; to_server = later; echoed = seen; typed = keys })
 key_sound old end key later seen keys accepted goes keeps sends s =
     sound_as (record old { client = end; to_server = later }) (record old { client = end; to_server = later; echoed = seen; typed = keys }) refl refl refl refl
     (tells_sound old end (client_calls.typed key) later tt accepted goes keeps sends s)
 
-pub send_sound : (old : World) (end : client.End) (command : UserCommand) (later keys : List ℕ) → client_fault old.client (client_calls.sent command) ≡ None → client.Advances old.client (client_calls.sent command) end → client.ReadsNothing old.client end → client.Sends old.client (client_calls.sent command) old.to_server later → HasPast old → HasPast (record old { client = end; to_server = later; typed = keys })
+pub send_sound : (old : World) (end : client.End) (command : UserCommand) (later keys : List ℕ) → client_fault old.client (client_calls.sent command) ≡ None
+    → client.Advances old.client (client_calls.sent command) end → client.ReadsNothing old.client end
+    → client.Sends old.client (client_calls.sent command) old.to_server later → HasPast old
+    → HasPast (record old { client = end; to_server = later; typed = keys })
 send_sound old end command later keys accepted goes keeps sends s =
     sound_as (record old { client = end; to_server = later }) (record old { client = end; to_server = later; typed = keys }) refl refl refl refl
     (tells_sound old end (client_calls.sent command) later tt accepted goes keeps sends s)
 
 -- a call of the server that is accepted
-pub asks_sound : (old : World) (end : server.End) (e : server_calls.Event) (later : List ℕ) → server_courses.IsCall e → server.Advances old.server e old.to_client later end → server.ReadsNothing old.server end → HasPast old → HasPast (record old { server = end; to_client = later })
+pub asks_sound : (old : World) (end : server.End) (e : server_calls.Event) (later : List ℕ) → server_courses.IsCall e
+    → server.Advances old.server e old.to_client later end → server.ReadsNothing old.server end → HasPast old
+    → HasPast (record old { server = end; to_client = later })
 asks_sound old end e later call goes keeps s = asked_sound old (record old { server = end; to_client = later }) e call goes keeps s
 
-pub takes_sound : (old : World) (end : server.End) (later : List ℕ) (entries : List Entry) → server.Advances old.server server_calls.took old.to_client later end → server.ReadsNothing old.server end → HasPast old → HasPast (record old { server = end; to_client = later; taken = entries })
+pub takes_sound : (old : World) (end : server.End) (later : List ℕ) (entries : List Entry)
+    → server.Advances old.server server_calls.took old.to_client later end → server.ReadsNothing old.server end → HasPast old
+    → HasPast (record old { server = end; to_client = later; taken = entries })
 takes_sound old end later entries goes keeps s =
     sound_as (record old { server = end; to_client = later }) (record old { server = end; to_client = later; taken = entries }) refl refl refl refl
     (asks_sound old end server_calls.took later tt goes keeps s)
 
 -- deliveries
-pub reaches_sound : (old : World) (end : server.End) (n : ℕ) (piece left later : List ℕ) → server.call_fault old.server ≡ None → piece ≡ take n old.to_server → left ≡ drop n old.to_server → server.Feeds old.server piece old.to_client later end → HasPast old → HasPast (record old { server = end; to_server = left; to_client = later })
+pub reaches_sound : (old : World) (end : server.End) (n : ℕ) (piece left later : List ℕ) → server.call_fault old.server ≡ None → piece ≡ take n old.to_server
+    → left ≡ drop n old.to_server → server.Feeds old.server piece old.to_client later end → HasPast old
+    → HasPast (record old { server = end; to_server = left; to_client = later })
 reaches_sound old end n piece left later accepted is rest feeds s =
     sound_reaches old (record old { server = end; to_server = left; to_client = later }) n
-    (record { accepted = accepted; feeds = subst (λ x. server.Feeds old.server x old.to_client later end) is feeds; rest = ap (λ x. record old { server = end; to_server = x; to_client = later }) rest }) s
+    (record {
+      accepted = accepted;
+      feeds = subst (λ x. server.Feeds old.server x old.to_client later end) is feeds;
+      rest = ap (λ x. record old { server = end; to_server = x; to_client = later }) rest;
+    }) s
 
-pub returns_sound : (old : World) (end : client.End) (n : ℕ) (piece left later seen : List ℕ) → client.call_fault old.client ≡ None → piece ≡ take n old.to_client → left ≡ drop n old.to_client → client.Feeds old.client piece old.to_server later old.shown seen end → HasPast old → HasPast (record old { client = end; to_client = left; to_server = later; shown = seen })
+pub returns_sound : (old : World) (end : client.End) (n : ℕ) (piece left later seen : List ℕ) → client.call_fault old.client ≡ None
+    → piece ≡ take n old.to_client → left ≡ drop n old.to_client → client.Feeds old.client piece old.to_server later old.shown seen end → HasPast old
+    → HasPast (record old { client = end; to_client = left; to_server = later; shown = seen })
 returns_sound old end n piece left later seen accepted is rest feeds s =
     sound_returns old (record old { client = end; to_client = left; to_server = later; shown = seen }) n
-    (record { accepted = accepted; feeds = subst (λ x. client.Feeds old.client x old.to_server later old.shown seen end) is feeds; rest = ap (λ x. record old { client = end; to_client = x; to_server = later; shown = seen }) rest }) s
+    (record {
+      accepted = accepted;
+      feeds = subst (λ x. client.Feeds old.client x old.to_server later old.shown seen end) is feeds;
+      rest = ap (λ x. record old { client = end; to_client = x; to_server = later; shown = seen }) rest;
+    }) s
 
-pub breaks_or_again : (old : World) (end : client.End) (piece left later seen : List ℕ) (fault : ClientFault) → client.IsFault (client.call_fault old.client) fault → (fault ≡ client_faults.Memory → client.StopsWithin old.client piece old.to_server later old.shown seen) → (fault ≡ client_faults.Failed → end ≡ old.client) → (fault ≡ client_faults.Failed → later ≡ old.to_server) → end.failed ≡ true → HasPast old → HasPast (record old { client = end; to_client = left; to_server = later; shown = seen })
+pub breaks_or_again : (old : World) (end : client.End) (piece left later seen : List ℕ) (fault : ClientFault)
+    → client.IsFault (client.call_fault old.client) fault → (fault ≡ client_faults.Memory
+    → client.StopsWithin old.client piece old.to_server later old.shown seen) → (fault ≡ client_faults.Failed → end ≡ old.client)
+    → (fault ≡ client_faults.Failed → later ≡ old.to_server) → end.failed ≡ true → HasPast old
+    → HasPast (record old { client = end; to_client = left; to_server = later; shown = seen })
 breaks_or_again old end piece left later seen fault cause breaks stays none failed s = by_test old.client.failed refl cause
   where
-    by_test : (b : Bool) → old.client.failed ≡ b → client.IsFault (if b then Some client_faults.Failed else None) fault → HasPast (record old { client = end; to_client = left; to_server = later; shown = seen })
-    by_test true is f = sound_as (record old { to_client = left }) (record old { client = end; to_client = left; to_server = later; shown = seen }) refl (stays f) (none f) refl (again_sound old left is s)
+    by_test : (b : Bool) → old.client.failed ≡ b → client.IsFault (if b then Some client_faults.Failed else None) fault
+        → HasPast (record old { client = end; to_client = left; to_server = later; shown = seen })
+    by_test true is f = sound_as (record old { to_client = left }) (record old { client = end; to_client = left; to_server = later; shown = seen }) refl
+        (stays f) (none f) refl (again_sound old left is s)
     by_test false is f = breaks_sound old end piece left later seen is (breaks f) failed s
 
 -- a call of the client that is refused
-pub key_refused : (old : World) (end : client.End) (key : ℕ) (later seen keys : List ℕ) (fault : ClientFault) → old.client_stopped ≡ false → client.IsFault (client.call_fault old.client) fault → (fault ≡ client_faults.Memory → (h : client_calls.History) → client.LeadsTo h old.client → client.SaysOrShows h (client_calls.typed key)) → end ≡ old.client → later ≡ old.to_server → seen ≡ old.echoed → keys ≡ old.typed → (w : World) → old ≡ w → ClientRefusesEvent w (Key key) fault × (record old { client = end; to_server = later; echoed = seen; typed = keys } ≡ w)
+pub key_refused : (old : World) (end : client.End) (key : ℕ) (later seen keys : List ℕ) (fault : ClientFault) → old.client_stopped ≡ false
+    → client.IsFault (client.call_fault old.client) fault → (fault ≡ client_faults.Memory → (h : client_calls.History) → client.LeadsTo h old.client
+    → client.SaysOrShows h (client_calls.typed key)) → end ≡ old.client → later ≡ old.to_server → seen ≡ old.echoed → keys ≡ old.typed → (w : World) → old ≡ w
+    → ClientRefusesEvent w (Key key) fault × (record old { client = end; to_server = later; echoed = seen; typed = keys } ≡ w)
 key_refused old end key later seen keys fault goes cause grows a b c d w is =
     subst (λ w. ClientRefusesEvent w (Key key) fault × (record old { client = end; to_server = later; echoed = seen; typed = keys } ≡ w)) is
     ((goes, record { cause = cause; grows = grows }), rw (a, b, c, d) refl)
 
-pub resize_refused : (old : World) (end : client.End) (width height : ℕ) (later : List ℕ) (fault : ClientFault) → old.client_stopped ≡ false → client.IsFault (client.call_fault old.client) fault → (fault ≡ client_faults.Memory → (h : client_calls.History) → client.LeadsTo h old.client → client_says.replies h (client_calls.resized width height) ≢ []) → end ≡ old.client → later ≡ old.to_server → (w : World) → old ≡ w → ClientRefusesEvent w (Resize width height) fault × (record old { client = end; to_server = later } ≡ w)
+pub resize_refused : (old : World) (end : client.End) (width height : ℕ) (later : List ℕ) (fault : ClientFault) → old.client_stopped ≡ false
+    → client.IsFault (client.call_fault old.client) fault → (fault ≡ client_faults.Memory → (h : client_calls.History) → client.LeadsTo h old.client
+    → client_says.replies h (client_calls.resized width height) ≢ []) → end ≡ old.client → later ≡ old.to_server → (w : World) → old ≡ w
+    → ClientRefusesEvent w (Resize width height) fault × (record old { client = end; to_server = later } ≡ w)
 resize_refused old end width height later fault goes cause grows a b w is =
     subst (λ w. ClientRefusesEvent w (Resize width height) fault × (record old { client = end; to_server = later } ≡ w)) is
     ((goes, record { cause = cause; grows = λ m h s. inl (grows m h s) }), rw (a, b) refl)
 
 -- a call that may be refused, and then changes nothing
-pub asks_or_not : {A E : Type 0} (old : World) (end : server.End) (e : server_calls.Event) (later : List ℕ) (r : Result A E) → server_courses.IsCall e → OnOk r (server.Advances old.server e old.to_client later end) → OnOk r (server.ReadsNothing old.server end) → OnErr r (end ≡ old.server) → OnErr r (later ≡ old.to_client) → HasPast old → HasPast (record old { server = end; to_client = later })
+pub asks_or_not : {A E : Type 0} (old : World) (end : server.End) (e : server_calls.Event) (later : List ℕ) (r : Result A E) → server_courses.IsCall e
+    → OnOk r (server.Advances old.server e old.to_client later end) → OnOk r (server.ReadsNothing old.server end) → OnErr r (end ≡ old.server)
+    → OnErr r (later ≡ old.to_client) → HasPast old → HasPast (record old { server = end; to_client = later })
 asks_or_not old end e later (Ok x) call goes keeps same none s = asks_sound old end e later call goes keeps s
 asks_or_not old end e later (Err x) call goes keeps same none s = sound_as old (record old { server = end; to_client = later }) same refl refl none s
 
-pub tells_or_not : {A E : Type 0} (old : World) (end : client.End) (e : client_calls.Event) (later : List ℕ) (r : Result A E) → client_courses.IsCall e → OnOk r (client_fault old.client e ≡ None) → OnOk r (client.Advances old.client e end) → OnOk r (client.ReadsNothing old.client end) → OnOk r (client.Sends old.client e old.to_server later) → OnErr r (end ≡ old.client) → OnErr r (later ≡ old.to_server) → HasPast old → HasPast (record old { client = end; to_server = later })
+pub tells_or_not : {A E : Type 0} (old : World) (end : client.End) (e : client_calls.Event) (later : List ℕ) (r : Result A E) → client_courses.IsCall e
+    → OnOk r (client_fault old.client e ≡ None) → OnOk r (client.Advances old.client e end) → OnOk r (client.ReadsNothing old.client end)
+    → OnOk r (client.Sends old.client e old.to_server later) → OnErr r (end ≡ old.client) → OnErr r (later ≡ old.to_server) → HasPast old
+    → HasPast (record old { client = end; to_server = later })
 tells_or_not old end e later (Ok x) call accepted goes keeps sends same none s = tells_sound old end e later call accepted goes keeps sends s
-tells_or_not old end e later (Err x) call accepted goes keeps sends same none s = sound_as old (record old { client = end; to_server = later }) refl same none refl s
+tells_or_not old end e later (Err x) call accepted goes keeps sends same none s =
+    sound_as old (record old { client = end; to_server = later }) refl same none refl s
 
 -- the opening words are in flight to a client that has begun
 opened_words : (here there : Options) → here ≡ opening_options → there ≡ new_options client_terms.agreement → Lead here there [] (words_in opening)
@@ -101,11 +143,21 @@ opened_words here there a b =
     (same-Moves opening_pair))
 
 -- just opened: both ends are where they start
-pub open_sound : (canon : Canon) (width height : ℕ) (w : World) → server.LeadsTo (server_calls.begun canon) w.server → LeadsTo [] [] w.server.decoder → client.LeadsTo (client_calls.begun width height canon.limit) w.client → LeadsTo [] [] w.client.decoder → w.to_server ≡ [] → w.to_client ≡ spells opening → w.server.terminal.closed ≡ false → HasPast w
+pub open_sound : (canon : Canon) (width height : ℕ) (w : World) → server.LeadsTo (server_calls.begun canon) w.server → LeadsTo [] [] w.server.decoder
+    → client.LeadsTo (client_calls.begun width height canon.limit) w.client → LeadsTo [] [] w.client.decoder → w.to_server ≡ [] → w.to_client ≡ spells opening
+    → w.server.terminal.closed ≡ false → HasPast w
 open_sound canon width height w stands reads begins began nothing said opens =
     made w (server_calls.begun canon) stands
     (λ r. (server_courses.started canon, record { history = server_calls.begun canon; reads_as = refl; leads = stands; reads = reads }))
-    (λ r. (client_courses.started width height canon.limit, record { history = client_calls.begun width height canon.limit; reads_as = refl; leads = begins; reads = began }))
+    (λ r. (
+      client_courses.started width height canon.limit,
+      record {
+        history = client_calls.begun width height canon.limit;
+        reads_as = refl;
+        leads = begins;
+        reads = began;
+      },
+    ))
     (λ r. begins.limit ∙ sym stands.limit)
     (λ r. opens)
     (λ r. ([], subst (λ x. InFlight w.server.decoder x []) (sym nothing) (start w.server.decoder reads)))
@@ -114,7 +166,22 @@ open_sound canon width height w stands reads begins began nothing said opens =
     (λ a b. All-nil WishesNothing)
 
 -- and so it was opened
-pub opened_world : (canon : Canon) (width height : ℕ) (end : server.End) (other : client.End) (there here typed shown echoed : List ℕ) (taken : List Entry) → server.LeadsTo (server_calls.begun canon) end → LeadsTo [] [] end.decoder → end.failed ≡ false → end.terminal.closed ≡ false → client.LeadsTo (client_calls.begun width height canon.limit) other → LeadsTo [] [] other.decoder → other.failed ≡ false → there ≡ [] → here ≡ spells opening → typed ≡ [] → taken ≡ [] → shown ≡ [] → echoed ≡ [] → IsOpened canon width height (record { server = end; client = other; server_stopped = false; client_stopped = false; to_server = there; to_client = here; typed = typed; taken = taken; shown = shown; echoed = echoed })
+pub opened_world : (canon : Canon) (width height : ℕ) (end : server.End) (other : client.End) (there here typed shown echoed : List ℕ) (taken : List Entry)
+    → server.LeadsTo (server_calls.begun canon) end → LeadsTo [] [] end.decoder → end.failed ≡ false → end.terminal.closed ≡ false
+    → client.LeadsTo (client_calls.begun width height canon.limit) other → LeadsTo [] [] other.decoder → other.failed ≡ false → there ≡ []
+    → here ≡ spells opening → typed ≡ [] → taken ≡ [] → shown ≡ [] → echoed ≡ []
+    → IsOpened canon width height (record {
+      server = end;
+      client = other;
+      server_stopped = false;
+      client_stopped = false;
+      to_server = there;
+      to_client = here;
+      typed = typed;
+      taken = taken;
+      shown = shown;
+      echoed = echoed;
+    })
 opened_world canon width height end other there here typed shown echoed taken stands reads runs opens begins began goes a b c d e f =
     record {
       server = record { history = server_calls.begun canon; reads_as = refl; leads = stands; reads = reads };

@@ -1,5 +1,6 @@
 -- What a client end does with keys and with what comes is what the relation says of a client, said of its history.
-use Rattle.std.proofs.Common.{◌≡◌, ◌⊎◌, inl, inr, ◌<◌, ℕ, zero, suc, ◌-◌, ◌==◌, nat_lt, nat_le, Bool, true, false, not, ◌&&◌, ◌||◌, Option, Some, None, List, [], ◌∷◌, ◌++◌, length, refl, sym, ap, ◌∙◌, if◌then◌else◌, subst, arith, append-nil, append_assoc}
+use Rattle.std.proofs.Common.{◌≡◌, ◌⊎◌, inl, inr, ◌<◌, ℕ, zero, suc, ◌-◌, ◌==◌, nat_lt, nat_le, Bool, true, false, not, ◌&&◌, ◌||◌, Option, Some, None, List}
+use Rattle.std.proofs.Common.{[], ◌∷◌, ◌++◌, length, refl, sym, ap, ◌∙◌, if◌then◌else◌, subst, arith, append-nil, append_assoc}
 use Rattle.std.specs.Prelude.{All, bit_or}
 use Rattle.std.proofs.lemmas.Bool.{eqb-true}
 use Rattle.std.proofs.lemmas.List.{append_cancel_left}
@@ -32,9 +33,11 @@ use Rattle.tn_nvt.specs.declared.items.Item.{Item}
 use Rattle.tn_nvt.specs.declared.items.Item.TheVariants.{Byte, Newline, Cmd, Neg, Sub}
 use Rattle.tn_client.specs.Events.{typed, got, resized, sent, History, next, gets}
 use Rattle.tn_client.specs.Terms as terms
-use Rattle.tn_client.specs.Terms.{linemode, tells_size, payload_at, options, options_after, changes, mode_by, mode_at, forward_by, forward_at, chars_by, chars, size}
+use Rattle.tn_client.specs.Terms.{linemode, tells_size, payload_at, options, options_after, changes, mode_by, mode_at, forward_by, forward_at, chars_by, chars}
+use Rattle.tn_client.specs.Terms.{size}
 use Rattle.tn_client.specs.Lines.{role_of_typed, role_at, line_limit, is_forward, count_under, line, settings_by}
-use Rattle.tn_client.specs.Replies.{byte_items, command_of, command_items, raw_key_items, edited_key_items, sent_ahead_items, key_items, size_items, new_size_items, payload_answers, answer_items, end_of_edit_items, is_same_size, command_sent, replies, items_said}
+use Rattle.tn_client.specs.Replies.{byte_items, command_of, command_items, raw_key_items, edited_key_items, sent_ahead_items, key_items, size_items}
+use Rattle.tn_client.specs.Replies.{new_size_items, payload_answers, answer_items, end_of_edit_items, is_same_size, command_sent, replies, items_said}
 use Rattle.tn_option.specs.Options.{Options, options_after_word, reply_to, state_of, is_yes, agrees_to}
 use Rattle.tn_option.specs.declared.q_method.Side.TheVariants.{Us}
 use Rattle.tn_wire.specs.Words.{differ, word_items, payload_items, mode_items}
@@ -48,13 +51,18 @@ use Rattle.tn_client.proofs.lemmas.Stopping.{front_said}
 use Rattle.tn_nvt.specs.Feeding as nvt
 use Rattle.tn_client.proofs.lemmas.Lines.{end_at, line_after_key, line_beside_key, line-came, trapped-next, plain-next, trapped-came, plain-came}
 use Rattle.tn_world.specs.relation.Machine as machine
-use Rattle.tn_world.specs.relation.Machine.{Mode, Message, linemode_asked, chatter, Client, Part, Sent, byte, newline, mode_ack, other, bytes, ordinary_key, erase_key, kill_key, edit_key, remote_item, count_next, client_after_key, is_same, client_with_mode, client_after_mode, passed_over, where_on, client_turned_on, client_after_message, IsAskable}
+use Rattle.tn_world.specs.relation.Machine.{Mode, Message, linemode_asked, chatter, Client, Part, Sent, byte, newline, mode_ack, other, bytes, ordinary_key}
+use Rattle.tn_world.specs.relation.Machine.{erase_key, kill_key, edit_key, remote_item, count_next, client_after_key, is_same, client_with_mode}
+use Rattle.tn_world.specs.relation.Machine.{client_after_mode, passed_over, where_on, client_turned_on, client_after_message, IsAskable}
 use Rattle.tn_world.specs.relation.Calm.{bits, IsCalmToServer, IsCalmToClient, server_item, heard_payload, heard_word, client_message}
 use Rattle.tn_world.specs.relation.Ends.{client_messages, SaysItems, ClientKeys, client_after_messages, ClientSays}
 use Rattle.tn_world.specs.relation.Pictures.{client_core, client_picture, IsOffOrOn, ClientStays}
 use Rattle.tn_world.proofs.Changing.{remote_of}
 use Rattle.tn_world.proofs.Engines.{client_turned, consent, client_consents, client_agrees, word_keeps_state}
-use Rattle.tn_world.proofs.ClientWrites.{writes-none, writes-one, writes-append, writes-bytes, writes-hushed, writes-other, writes-if, word-keeps, size-writes, word-answered, word-mode, word-forward, IsChatter, chatter-mode, chatter-forward, chatter-chars, chatter-heard, chatter-answered, chatter-if, forward_of, forward-answered, Forwards, Asks, Tells, calm-kinds, table-at, table-mode, table-forward, table-chars, table-answered, said-mode, said-forward}
+use Rattle.tn_world.proofs.ClientWrites.{writes-none, writes-one, writes-append, writes-bytes, writes-hushed, writes-other, writes-if, word-keeps, size-writes}
+use Rattle.tn_world.proofs.ClientWrites.{word-answered, word-mode, word-forward, IsChatter, chatter-mode, chatter-forward, chatter-chars, chatter-heard}
+use Rattle.tn_world.proofs.ClientWrites.{chatter-answered, chatter-if, forward_of, forward-answered, Forwards, Asks, Tells, calm-kinds, table-at, table-mode}
+use Rattle.tn_world.proofs.ClientWrites.{table-forward, table-chars, table-answered, said-mode, said-forward}
 
 -- MASKS
 small : (mask : ℕ) → mode_of mask < 4
@@ -124,13 +132,76 @@ core_of h =
 
 pub core_at : (h : History) (end : End) → LeadsTo h end → end.failed ≡ false → client_core end ≡ core_of h
 core_at h end s runs =
-    ap (λ (o : Options). record { linemode = linemode o; mask = bits end.mode; held = end.line.held; ahead = end.line.ahead; forward = is_forward end.forward; trapped = end.trapped; plain = end.plain; failed = end.failed }) s.options
-    ∙ ap (λ (n : ℕ). record { linemode = linemode (options h); mask = bits n; held = end.line.held; ahead = end.line.ahead; forward = is_forward end.forward; trapped = end.trapped; plain = end.plain; failed = end.failed }) s.mode
-    ∙ ap (λ (l : HalfLine). record { linemode = linemode (options h); mask = bits (terms.mode h); held = l.held; ahead = l.ahead; forward = is_forward end.forward; trapped = end.trapped; plain = end.plain; failed = end.failed }) (line_is h end s)
-    ∙ ap (λ (f : Option Mask). record { linemode = linemode (options h); mask = bits (terms.mode h); held = (line h).held; ahead = (line h).ahead; forward = is_forward f; trapped = end.trapped; plain = end.plain; failed = end.failed }) s.forward
-    ∙ ap (λ (n : ℕ). record { linemode = linemode (options h); mask = bits (terms.mode h); held = (line h).held; ahead = (line h).ahead; forward = is_forward (terms.forward h); trapped = n; plain = end.plain; failed = end.failed }) s.trapped
-    ∙ ap (λ (n : ℕ). record { linemode = linemode (options h); mask = bits (terms.mode h); held = (line h).held; ahead = (line h).ahead; forward = is_forward (terms.forward h); trapped = count_under true h; plain = n; failed = end.failed }) s.plain
-    ∙ ap (λ (b : Bool). record { linemode = linemode (options h); mask = bits (terms.mode h); held = (line h).held; ahead = (line h).ahead; forward = is_forward (terms.forward h); trapped = count_under true h; plain = count_under false h; failed = b }) runs
+    ap (λ (o : Options). record {
+      linemode = linemode o;
+      mask = bits end.mode;
+      held = end.line.held;
+      ahead = end.line.ahead;
+      forward = is_forward end.forward;
+      trapped = end.trapped;
+      plain = end.plain;
+      failed = end.failed;
+    }) s.options
+    ∙ ap (λ (n : ℕ). record {
+      linemode = linemode (options h);
+      mask = bits n;
+      held = end.line.held;
+      ahead = end.line.ahead;
+      forward = is_forward end.forward;
+      trapped = end.trapped;
+      plain = end.plain;
+      failed = end.failed;
+    }) s.mode
+    ∙ ap (λ (l : HalfLine). record {
+      linemode = linemode (options h);
+      mask = bits (terms.mode h);
+      held = l.held;
+      ahead = l.ahead;
+      forward = is_forward end.forward;
+      trapped = end.trapped;
+      plain = end.plain;
+      failed = end.failed;
+    }) (line_is h end s)
+    ∙ ap (λ (f : Option Mask). record {
+      linemode = linemode (options h);
+      mask = bits (terms.mode h);
+      held = (line h).held;
+      ahead = (line h).ahead;
+      forward = is_forward f;
+      trapped = end.trapped;
+      plain = end.plain;
+      failed = end.failed;
+    }) s.forward
+    ∙ ap (λ (n : ℕ). record {
+      linemode = linemode (options h);
+      mask = bits (terms.mode h);
+      held = (line h).held;
+      ahead = (line h).ahead;
+      forward = is_forward (terms.forward h);
+      trapped = n;
+      plain = end.plain;
+      failed = end.failed;
+    }) s.trapped
+    ∙ ap (λ (n : ℕ). record {
+      linemode = linemode (options h);
+      mask = bits (terms.mode h);
+      held = (line h).held;
+      ahead = (line h).ahead;
+      forward = is_forward (terms.forward h);
+      trapped = count_under true h;
+      plain = n;
+      failed = end.failed;
+    }) s.plain
+    ∙ ap (λ (b : Bool). record {
+      linemode = linemode (options h);
+      mask = bits (terms.mode h);
+      held = (line h).held;
+      ahead = (line h).ahead;
+      forward = is_forward (terms.forward h);
+      trapped = count_under true h;
+      plain = count_under false h;
+      failed = b;
+    }) runs
 
 -- LINEMODE does not end; the special characters and the limit are as they were
 pub record IsKept (canon : Canon) (h : History) : Type 0 where
@@ -139,16 +210,25 @@ pub record IsKept (canon : Canon) (h : History) : Type 0 where
   pub limit : line_limit h ≡ canon.limit
 
 pub kept_at : (canon : Canon) (h : History) (end : End) → LeadsTo h end → ClientStays canon end → IsKept canon h
-kept_at canon h end s k = record { on = subst (λ (o : Options). IsOffOrOn (state_of o Us 34)) s.options k.linemode; characters = sym s.table ∙ k.chars; limit = sym s.limit ∙ k.limit }
+kept_at canon h end s k = record {
+  on = subst (λ (o : Options). IsOffOrOn (state_of o Us 34)) s.options k.linemode;
+  characters = sym s.table ∙ k.chars;
+  limit = sym s.limit ∙ k.limit;
+}
 
 pub stays_at : (canon : Canon) (h : History) (end : End) → LeadsTo h end → IsKept canon h → ClientStays canon end
-stays_at canon h end s k = record { linemode = subst (λ (o : Options). IsOffOrOn (state_of o Us 34)) (sym s.options) k.on; chars = s.table ∙ k.characters; limit = s.limit ∙ k.limit }
+stays_at canon h end s k = record {
+  linemode = subst (λ (o : Options). IsOffOrOn (state_of o Us 34)) (sym s.options) k.on;
+  chars = s.table ∙ k.characters;
+  limit = s.limit ∙ k.limit;
+}
 
 -- A KEY WITH EDIT
 abbrev line_of_part : ℕ → Part → HalfLine
 line_of_part limit part = record { held = part.held; ahead = part.ahead; limit = limit }
 
-kept-line : (h : History) (b : ℕ) (full forwards : Bool) → line_sent (not full && forwards) (if full then line h else record (line h) { held = (line h).held ++ b ∷ [] }) ≡ line_of_part (line_limit h) (ordinary_key full forwards (core_of h) b)
+kept-line : (h : History) (b : ℕ) (full forwards : Bool) → line_sent (not full && forwards)
+    (if full then line h else record (line h) { held = (line h).held ++ b ∷ [] }) ≡ line_of_part (line_limit h) (ordinary_key full forwards (core_of h) b)
 kept-line h b true forwards = refl
 kept-line h b false true = refl
 kept-line h b false false = refl
@@ -161,7 +241,8 @@ none_ahead : (n : ℕ) → nat_lt 0 n ≡ false → n ≡ 0
 none_ahead n e = grind arith
 
 erased-line : (h : History) (some further : Bool) → nat_lt 0 (length (line h).held) ≡ some → nat_lt 0 (line h).ahead ≡ further
-    → (if some then record (line h) { held = front (line h).held } else record { held = []; ahead = (line h).ahead - 1; limit = line_limit h }) ≡ line_of_part (line_limit h) (erase_key some further (core_of h))
+    → (if some then record (line h) { held = front (line h).held } else record { held = []; ahead = (line h).ahead - 1; limit = line_limit h })
+    ≡ line_of_part (line_limit h) (erase_key some further (core_of h))
 erased-line h true further e f = refl
 erased-line h false true e f = ap (λ (xs : List ℕ). record { held = xs; ahead = (line h).ahead - 1; limit = line_limit h }) (sym (nothing_held (line h).held e))
 erased-line h false false e f =
@@ -186,7 +267,9 @@ edited-line h role.Erase = erased-line h (has_held (line h)) (has_ahead (line h)
 edited-line h role.Kill = killed-line (line_limit h) (has_ahead (line h))
 edited-line h role.Ignored = refl
 
-kept-writes : (canon : Canon) (h : History) (b : ℕ) (full forwards : Bool) → SaysItems canon (ordinary_key full forwards (core_of h) b).items (sent_ahead_items (not full && forwards) (if full then line h else record (line h) { held = (line h).held ++ b ∷ [] }))
+kept-writes : (canon : Canon) (h : History) (b : ℕ) (full forwards : Bool)
+    → SaysItems canon (ordinary_key full forwards (core_of h) b).items
+    (sent_ahead_items (not full && forwards) (if full then line h else record (line h) { held = (line h).held ++ b ∷ [] }))
 kept-writes canon h b true forwards = writes-none canon
 kept-writes canon h b false true = writes-bytes canon ((line h).held ++ b ∷ [])
 kept-writes canon h b false false = writes-none canon
@@ -196,7 +279,8 @@ signal-writes canon Int = writes-one canon (Cmd command.Ip) (machine.command com
 signal-writes canon Quit = writes-one canon (Cmd command.Abort) (machine.command command.Abort) tt tt refl
 signal-writes canon Tstp = writes-one canon (Cmd command.Susp) (machine.command command.Susp) tt tt refl
 
-erased-writes : (canon : Canon) (c : Client) (some further : Bool) → SaysItems canon (erase_key some further c).items (if not some && further then command_items (command_of role.Erase) else [])
+erased-writes : (canon : Canon) (c : Client) (some further : Bool)
+    → SaysItems canon (erase_key some further c).items (if not some && further then command_items (command_of role.Erase) else [])
 erased-writes canon c true further = writes-none canon
 erased-writes canon c false true = writes-one canon (Cmd command.Ec) (machine.command command.Ec) tt tt refl
 erased-writes canon c false false = writes-none canon
@@ -206,8 +290,10 @@ killed-writes canon true = writes-one canon (Cmd command.El) (machine.command co
 killed-writes canon false = writes-none canon
 
 -- what is held, and one more item
-closing-writes : (canon : Canon) (held : List ℕ) (says : machine.Item) (item : Item) → Fits item → IsCalmToServer canon.settings item → server_item item ≡ says → SaysItems canon (bytes held ++ says ∷ []) (byte_items held ++ item ∷ [])
-closing-writes canon held says item fit calm is = writes-append canon (bytes held) (says ∷ []) (byte_items held) (item ∷ []) (writes-bytes canon held) (writes-one canon item says fit calm is)
+closing-writes : (canon : Canon) (held : List ℕ) (says : machine.Item) (item : Item) → Fits item → IsCalmToServer canon.settings item → server_item item ≡ says
+    → SaysItems canon (bytes held ++ says ∷ []) (byte_items held ++ item ∷ [])
+closing-writes canon held says item fit calm is = writes-append canon (bytes held) (says ∷ []) (byte_items held) (item ∷ []) (writes-bytes canon held)
+    (writes-one canon item says fit calm is)
 
 -- and what it sends: of the keys that are not ordinary, none sends more than its line
 abbrev sends : History → Role → List Item
@@ -229,7 +315,10 @@ edited-writes canon limit h role.Erase is = alone-writes canon _ _ (erased-write
 edited-writes canon limit h role.Kill is = alone-writes canon _ _ (killed-writes canon (has_ahead (line h)))
 edited-writes canon limit h role.Ignored is = writes-none canon
 
-raw-tests : (b key : ℕ) (sig : Option Sig) (t u v w x y : Bool) → raw_key_items (if t then role.Nl else (if u then role.Eol b else (if y then role.Eol2 b else (if v then role.Eof else (if w then role.Erase else (if x then role.Kill else role_by_signal false sig b)))))) key ≡ Byte key ∷ []
+raw-tests : (b key : ℕ) (sig : Option Sig) (t u v w x y : Bool) →
+    raw_key_items (if t then role.Nl else (if u then role.Eol b else
+    (if y then role.Eol2 b else (if v then role.Eof else (if w then role.Erase else (if x then role.Kill else role_by_signal false sig b)))))) key ≡ Byte key
+    ∷ []
 raw-tests b key sig true u v w x y = refl
 raw-tests b key sig false true v w x y = refl
 raw-tests b key sig false false v w x true = refl
@@ -238,9 +327,11 @@ raw-tests b key sig false false false true x false = refl
 raw-tests b key sig false false false false true false = refl
 raw-tests b key sig false false false false false false = refl
 
-raw-mapped : (c : Characters) (key : ℕ) (mapped : Option ℕ) → raw_key_items (role_or_ignored (record { flags = record standard_flags { isig = false }; chars = c }) mapped) key ≡ Byte key ∷ []
+raw-mapped : (c : Characters) (key : ℕ) (mapped : Option ℕ) → raw_key_items
+    (role_or_ignored (record { flags = record standard_flags { isig = false }; chars = c }) mapped) key ≡ Byte key ∷ []
 raw-mapped c key None = refl
-raw-mapped c key (Some b) = raw-tests b key (signal_of c b) (b == 10) (is_set_to c.eol b) (is_set_to c.eof b) (is_set_to c.erase b) (is_set_to c.kill b) (is_set_to c.eol2 b)
+raw-mapped c key (Some b) = raw-tests b key (signal_of c b) (b == 10) (is_set_to c.eol b) (is_set_to c.eof b) (is_set_to c.erase b) (is_set_to c.kill b)
+    (is_set_to c.eol2 b)
 
 raw-key : (mask : ℕ) (c : Characters) (key : ℕ) → traps mask ≡ false → raw_key_items (role_of_typed mask c key) key ≡ Byte key ∷ []
 raw-key mask c key e =
@@ -256,10 +347,14 @@ pub record Keyed (canon : Canon) (h : History) (key : ℕ) (edit : Bool) : Type 
 abbrev keyed : History → HalfLine → ℕ → ℕ → Client
 keyed h l t p = record (core_of h) { held = l.held; ahead = l.ahead; trapped = t; plain = p }
 
-core_typed : (h : History) (key : ℕ) (edit : Bool) → edits (terms.mode h) ≡ edit → core_of (next h (typed key)) ≡ keyed h (line (next h (typed key))) (count_typed edit true (end_at h) (count_under true h) key) (count_typed edit false (end_at h) (count_under false h) key)
+core_typed : (h : History) (key : ℕ) (edit : Bool) → edits (terms.mode h) ≡ edit
+    → core_of (next h (typed key)) ≡ keyed h (line (next h (typed key))) (count_typed edit true (end_at h) (count_under true h) key)
+    (count_typed edit false (end_at h) (count_under false h) key)
 core_typed h key edit e =
-    ap (λ (n : ℕ). keyed h (line (next h (typed key))) n (count_under false (next h (typed key)))) (trapped-next h key ∙ ap (λ (b : Bool). count_typed b true (end_at h) (count_under true h) key) e)
-    ∙ ap (λ (n : ℕ). keyed h (line (next h (typed key))) (count_typed edit true (end_at h) (count_under true h) key) n) (plain-next h key ∙ ap (λ (b : Bool). count_typed b false (end_at h) (count_under false h) key) e)
+    ap (λ (n : ℕ). keyed h (line (next h (typed key))) n (count_under false (next h (typed key))))
+    (trapped-next h key ∙ ap (λ (b : Bool). count_typed b true (end_at h) (count_under true h) key) e)
+    ∙ ap (λ (n : ℕ). keyed h (line (next h (typed key))) (count_typed edit true (end_at h) (count_under true h) key) n)
+    (plain-next h key ∙ ap (λ (b : Bool). count_typed b false (end_at h) (count_under false h) key) e)
 
 -- the plain count after one role is that of the machine
 counted : (limit n : ℕ) (r : Role) → count_after limit n (roles_from r) ≡ count_next limit n r
@@ -273,13 +368,15 @@ counted limit n (role.Signal sig) = refl
 counted limit n role.Erase = refl
 counted limit n role.Kill = refl
 
-count_there : (canon : Canon) (h : History) (isig : Bool) (n key : ℕ) → IsKept canon h → count_typed false isig (end_at h) n key ≡ count_next canon.limit n (role_of_key (settings_by isig canon.settings.chars) key)
+count_there : (canon : Canon) (h : History) (isig : Bool) (n key : ℕ) → IsKept canon h
+    → count_typed false isig (end_at h) n key ≡ count_next canon.limit n (role_of_key (settings_by isig canon.settings.chars) key)
 count_there canon h isig n key k =
     ap (λ (m : ℕ). count_after m n (roles_from (role_of_key (settings_by isig (chars h)) key))) k.limit
     ∙ ap (λ (c : Characters). count_after canon.limit n (roles_from (role_of_key (settings_by isig c) key))) k.characters
     ∙ counted canon.limit n (role_of_key (settings_by isig canon.settings.chars) key)
 
-pub key-step : (canon : Canon) (h : History) (key : ℕ) (edit : Bool) → edits (terms.mode h) ≡ edit → IsKept canon h → IsAskable canon.settings (bits (terms.mode h)) → Keyed canon h key edit
+pub key-step : (canon : Canon) (h : History) (key : ℕ) (edit : Bool) → edits (terms.mode h) ≡ edit → IsKept canon h
+    → IsAskable canon.settings (bits (terms.mode h)) → Keyed canon h key edit
 key-step canon h key true e k askable =
     let c = core_of h in
     let limit = canon.limit in
@@ -293,7 +390,8 @@ key-step canon h key true e k askable =
           ∙ ap (λ (r : Role). let part = edit_key limit c r in record c { held = part.held; ahead = part.ahead }) same;
       writes =
           subst (λ (b : Bool). SaysItems canon (edit_key limit c told).items (key_items b (terms.forward h) (role_at h key) (line h) key)) (sym e)
-          (subst (λ (r : Role). SaysItems canon (edit_key limit c r).items (sends h (role_at h key))) same (edited-writes canon limit h (role_at h key) (sym k.limit)));
+          (subst (λ (r : Role). SaysItems canon (edit_key limit c r).items (sends h (role_at h key))) same
+          (edited-writes canon limit h (role_at h key) (sym k.limit)));
     }
 key-step canon h key false e k askable =
     let c = core_of h in
@@ -305,18 +403,23 @@ key-step canon h key false e k askable =
           core_typed h key false e
           ∙ ap (λ (l : HalfLine). keyed h l trapped plain) (line_beside_key h key e)
           ∙ ap (λ (n : ℕ). keyed h (line h) n plain) (count_there canon h true (count_under true h) key k)
-          ∙ ap (λ (n : ℕ). keyed h (line h) (count_next canon.limit (count_under true h) (role_of_key (settings_by true canon.settings.chars) key)) n) (count_there canon h false (count_under false h) key k);
+          ∙ ap (λ (n : ℕ). keyed h (line h) (count_next canon.limit (count_under true h) (role_of_key (settings_by true canon.settings.chars) key)) n)
+          (count_there canon h false (count_under false h) key k);
       writes =
           subst (λ (b : Bool). SaysItems canon (client_after_key canon false c key).items (key_items b (terms.forward h) (role_at h key) (line h) key)) (sym e)
           (subst (λ (xs : List Item). SaysItems canon (client_after_key canon false c key).items xs) (sym (raw-key (terms.mode h) (chars h) key off))
-          (subst (λ (b : Bool). SaysItems canon (remote_item b (role_of_mapped (settings_by (traps (terms.mode h)) canon.settings.chars) key) key ∷ []) (Byte key ∷ [])) (sym off) (writes-one canon (Byte key) (byte key) tt tt refl)));
+          (subst (λ (b : Bool). SaysItems canon (remote_item b (role_of_mapped (settings_by (traps (terms.mode h)) canon.settings.chars) key) key ∷ [])
+          (Byte key ∷ [])) (sym off) (writes-one canon (Byte key) (byte key) tt tt refl)));
     }
 
 -- Whatever came before, a key does what the relation says of it.
-pub keys_done : (canon : Canon) (h : History) (old new : End) (key : ℕ) (before after : List ℕ) → LeadsTo h old → ClientStays canon old → IsAskable canon.settings (bits old.mode) → old.failed ≡ false → Advances old (typed key) new → ReadsNothing old new → (g : Sends old (typed key) before after) → ClientKeys canon (client_picture old) key g.said (client_picture new)
+pub keys_done : (canon : Canon) (h : History) (old new : End) (key : ℕ) (before after : List ℕ) → LeadsTo h old → ClientStays canon old
+    → IsAskable canon.settings (bits old.mode) → old.failed ≡ false → Advances old (typed key) new → ReadsNothing old new
+    → (g : Sends old (typed key) before after) → ClientKeys canon (client_picture old) key g.said (client_picture new)
 keys_done canon h old new key before after s stays askable runs goes keeps g =
     let here = core_at h old s runs in
-    let k = key-step canon h key (edits (terms.mode h)) refl (kept_at canon h old s stays) (subst (λ (n : ℕ). IsAskable canon.settings (bits n)) s.mode askable) in
+    let k = key-step canon h key (edits (terms.mode h)) refl (kept_at canon h old s stays) (subst (λ (n : ℕ). IsAskable canon.settings (bits n)) s.mode askable)
+    in
     let done = client_after_key canon (edits (terms.mode h)) (core_of h) key in
     let same : client_after_key canon (bits old.mode).edit (client_core old) key ≡ done =
     ap (λ (c : Client). client_after_key canon c.mask.edit c key) here in
@@ -329,7 +432,8 @@ keys_done canon h old new key before after s stays askable runs goes keeps g =
     }
 
 -- LINEMODE, the characters and the mask stay as they are
-pub keys_stay : (canon : Canon) (h : History) (old new : End) (key : ℕ) → LeadsTo h old → ClientStays canon old → Advances old (typed key) new → ClientStays canon new
+pub keys_stay : (canon : Canon) (h : History) (old new : End) (key : ℕ) → LeadsTo h old → ClientStays canon old → Advances old (typed key) new
+    → ClientStays canon new
 keys_stay canon h old new key s stays goes =
     let k = kept_at canon h old s stays in
     stays_at canon (next h (typed key)) new (goes.leads h s) (record { on = k.on; characters = k.characters; limit = k.limit })
@@ -357,16 +461,44 @@ moded h on n f before after =
 abbrev by_mask : History → Bool → ℕ → Option Mask → Client
 by_mask h on n f = moded h on n f (edits (terms.mode h)) (edits n)
 
-core_came : (h : History) (item : Item) → core_of (next h (got item)) ≡ by_mask h (linemode (options_after (options h) item)) (mode_at (options h) (terms.mode h) item) (forward_at (options h) (terms.forward h) item)
+core_came : (h : History) (item : Item) → core_of (next h (got item))
+    ≡ by_mask h (linemode (options_after (options h) item)) (mode_at (options h) (terms.mode h) item) (forward_at (options h) (terms.forward h) item)
 core_came h item =
     let after = next h (got item) in
     let on = linemode (options after) in
     let t = count_under true after in
     let p = count_under false after in
     let l = line_left (edits (terms.mode h)) (edits (terms.mode after)) (count_told (terms.mode after) (count_under true h) (count_under false h)) (line h) in
-    ap (λ (x : HalfLine). record { linemode = on; mask = bits (terms.mode after); held = x.held; ahead = x.ahead; forward = is_forward (terms.forward after); trapped = t; plain = p; failed = false }) (line-came h item)
-    ∙ ap (λ (n : ℕ). record { linemode = on; mask = bits (terms.mode after); held = l.held; ahead = l.ahead; forward = is_forward (terms.forward after); trapped = n; plain = p; failed = false }) (trapped-came h item)
-    ∙ ap (λ (n : ℕ). record { linemode = on; mask = bits (terms.mode after); held = l.held; ahead = l.ahead; forward = is_forward (terms.forward after); trapped = count_left (edits (terms.mode h)) (edits (terms.mode after)) (line h) (count_under true h); plain = n; failed = false }) (plain-came h item)
+    ap (λ (x : HalfLine). record {
+      linemode = on;
+      mask = bits (terms.mode after);
+      held = x.held;
+      ahead = x.ahead;
+      forward = is_forward (terms.forward after);
+      trapped = t;
+      plain = p;
+      failed = false;
+    }) (line-came h item)
+    ∙ ap (λ (n : ℕ). record {
+      linemode = on;
+      mask = bits (terms.mode after);
+      held = l.held;
+      ahead = l.ahead;
+      forward = is_forward (terms.forward after);
+      trapped = n;
+      plain = p;
+      failed = false;
+    }) (trapped-came h item)
+    ∙ ap (λ (n : ℕ). record {
+      linemode = on;
+      mask = bits (terms.mode after);
+      held = l.held;
+      ahead = l.ahead;
+      forward = is_forward (terms.forward after);
+      trapped = count_left (edits (terms.mode h)) (edits (terms.mode after)) (line h) (count_under true h);
+      plain = n;
+      failed = false;
+    }) (plain-came h item)
 
 -- what the relation's client does with a message
 pub record CameAs (canon : Canon) (h : History) (item : Item) (sent : Sent) : Type 0 where
@@ -377,20 +509,25 @@ abbrev Came : Canon → History → Item → Message → Type 0
 Came canon h item m = CameAs canon h item (client_after_message canon (core_of h) m)
 
 -- a mask that stays
-moded-same : (h : History) (on : Bool) (n : ℕ) (f : Option Mask) (b : Bool) → moded h on n f b b ≡ record (core_of h) { linemode = on; mask = bits n; forward = is_forward f }
+moded-same : (h : History) (on : Bool) (n : ℕ) (f : Option Mask) (b : Bool)
+    → moded h on n f b b ≡ record (core_of h) { linemode = on; mask = bits n; forward = is_forward f }
 moded-same h on n f true = refl
 moded-same h on n f false = refl
 
 core-same : (h : History) (m : ℕ) (f : Option Mask) → m ≡ terms.mode h → by_mask h (linemode (options h)) m f ≡ record (core_of h) { forward = is_forward f }
 core-same h m f e = ap (λ (n : ℕ). by_mask h (linemode (options h)) n f) e ∙ moded-same h (linemode (options h)) (terms.mode h) f (edits (terms.mode h))
 
-writes-same : (canon : Canon) (says : List machine.Item) (h : History) (m : ℕ) (out : List Item) → m ≡ (terms.mode h) → SaysItems canon says out → SaysItems canon says (end_of_edit_items (edits (terms.mode h)) (edits m) (line h).held ++ out)
+writes-same : (canon : Canon) (says : List machine.Item) (h : History) (m : ℕ) (out : List Item) → m ≡ (terms.mode h) → SaysItems canon says out
+    → SaysItems canon says (end_of_edit_items (edits (terms.mode h)) (edits m) (line h).held ++ out)
 writes-same canon says h m out e w =
     subst (λ (n : ℕ). SaysItems canon says (end_of_edit_items (edits (terms.mode h)) (edits n) (line h).held ++ out)) (sym e)
     (subst (λ (xs : List Item). SaysItems canon says (xs ++ out)) (sym (ending-same (edits (terms.mode h)) (line h).held)) w)
 
 -- what changes nothing, and is answered by nothing that counts
-chatter-came : (canon : Canon) (h : History) (item : Item) (m : Message) → client_after_message canon (core_of h) m ≡ passed_over (core_of h) → linemode (options_after (options h) item) ≡ linemode (options h) → mode_at (options h) (terms.mode h) item ≡ (terms.mode h) → forward_at (options h) (terms.forward h) item ≡ terms.forward h → SaysItems canon [] (answer_items (options h) (terms.mode h) (chars h) (size h) item) → Came canon h item m
+chatter-came : (canon : Canon) (h : History) (item : Item) (m : Message) → client_after_message canon (core_of h) m ≡ passed_over (core_of h)
+    → linemode (options_after (options h) item) ≡ linemode (options h) → mode_at (options h) (terms.mode h) item ≡ (terms.mode h)
+    → forward_at (options h) (terms.forward h) item ≡ terms.forward h → SaysItems canon [] (answer_items (options h) (terms.mode h) (chars h) (size h) item)
+    → Came canon h item m
 chatter-came canon h item m passes same e f w =
     let out = answer_items (options h) (terms.mode h) (chars h) (size h) item in
     let n = mode_at (options h) (terms.mode h) item in
@@ -412,27 +549,33 @@ turned_linemode o a n = ap is_yes (client_turned o a n)
 sizes-write : (canon : Canon) (was on : Bool) (z : ℕ × ℕ) → SaysItems canon [] (new_size_items was on z)
 sizes-write canon was on z = writes-if canon (on && not was) (size_items z) (size-writes canon z)
 
-consent-writes : (canon : Canon) (b : Bool) → canon.settings.chars ≡ standard_characters → SaysItems canon (if b then [] else machine.linemode_on ∷ []) (word_items (consent b))
+consent-writes : (canon : Canon) (b : Bool) → canon.settings.chars ≡ standard_characters
+    → SaysItems canon (if b then [] else machine.linemode_on ∷ []) (word_items (consent b))
 consent-writes canon true is = writes-none canon
 consent-writes canon false is = writes-one canon (Neg Will 34) machine.linemode_on tt (inr (refl, refl, is)) refl
 
-turning-writes : (canon : Canon) (h : History) (b : Bool) → linemode (options h) ≡ b → IsKept canon h → canon.settings.chars ≡ standard_characters → SaysItems canon (if b then [] else machine.linemode_on ∷ []) (word_items (reply_to (options h) DoIt 34))
+turning-writes : (canon : Canon) (h : History) (b : Bool) → linemode (options h) ≡ b → IsKept canon h → canon.settings.chars ≡ standard_characters
+    → SaysItems canon (if b then [] else machine.linemode_on ∷ []) (word_items (reply_to (options h) DoIt 34))
 turning-writes canon h b was k is =
-    subst (λ (w : Option (Verb × ℕ)). SaysItems canon (if b then [] else machine.linemode_on ∷ []) (word_items w)) (sym (client_consents (options h) (client_agrees h) k.on ∙ ap consent was)) (consent-writes canon b is)
+    subst (λ (w : Option (Verb × ℕ)). SaysItems canon (if b then [] else machine.linemode_on ∷ []) (word_items w))
+    (sym (client_consents (options h) (client_agrees h) k.on ∙ ap consent was)) (consent-writes canon b is)
 
-turned-came : (canon : Canon) (h : History) (b : Bool) → linemode (options h) ≡ b → IsKept canon h → canon.settings.chars ≡ standard_characters → Came canon h (Neg DoIt 34) linemode_asked
+turned-came : (canon : Canon) (h : History) (b : Bool) → linemode (options h) ≡ b → IsKept canon h → canon.settings.chars ≡ standard_characters
+    → Came canon h (Neg DoIt 34) linemode_asked
 turned-came canon h true was k is =
     let o = options h in
     let same : linemode (options_after_word o DoIt 34) ≡ linemode o = turned_linemode o (client_agrees h) k.on ∙ sym was in
     chatter-came canon h (Neg DoIt 34) linemode_asked (ap (λ (b : Bool). client_turned_on b (core_of h)) was) same
     (ap (λ (b : Bool). if differ (linemode o) b then 0 else terms.mode h) same ∙ ap (λ (b : Bool). if b then 0 else terms.mode h) (differ_self (linemode o)))
-    (ap (λ (b : Bool). if differ (linemode o) b then None else terms.forward h) same ∙ ap (λ (b : Bool). if b then None else terms.forward h) (differ_self (linemode o)))
+    (ap (λ (b : Bool). if differ (linemode o) b then None else terms.forward h) same
+    ∙ ap (λ (b : Bool). if b then None else terms.forward h) (differ_self (linemode o)))
     (writes-append canon [] [] (word_items (reply_to o DoIt 34)) (new_size_items (tells_size o) (tells_size (options_after_word o DoIt 34)) (size h))
     (turning-writes canon h true was k is) (sizes-write canon (tells_size o) (tells_size (options_after_word o DoIt 34)) (size h)))
 turned-came canon h false was k is =
     let o = options h in
     let on : linemode (options_after_word o DoIt 34) ≡ true = turned_linemode o (client_agrees h) k.on in
-    let changed : differ (linemode o) (linemode (options_after_word o DoIt 34)) ≡ true = ap (λ (b : Bool). differ b (linemode (options_after_word o DoIt 34))) was ∙ on in
+    let changed : differ (linemode o) (linemode (options_after_word o DoIt 34)) ≡ true =
+    ap (λ (b : Bool). differ b (linemode (options_after_word o DoIt 34))) was ∙ on in
     let mask : mode_at o (terms.mode h) (Neg DoIt 34) ≡ 0 = ap (λ (b : Bool). if b then 0 else terms.mode h) changed in
     let forward : forward_at o (terms.forward h) (Neg DoIt 34) ≡ None = ap (λ (b : Bool). if b then None else terms.forward h) changed in
     let raw : edits (terms.mode h) ≡ false = ap edits (mode-off h was) in
@@ -446,8 +589,10 @@ turned-came canon h false was k is =
           ∙ ap (λ (x : Option Mask). by_mask h true 0 x) forward
           ∙ ap (λ (b : Bool). moded h true 0 None b false) raw;
       writes =
-          subst (λ (b : Bool). SaysItems canon (machine.linemode_on ∷ []) (end_of_edit_items b (edits (mode_at o (terms.mode h) (Neg DoIt 34))) (line h).held ++ out)) (sym raw)
-          (writes-append canon (machine.linemode_on ∷ []) [] (word_items (reply_to o DoIt 34)) (new_size_items (tells_size o) (tells_size (options_after_word o DoIt 34)) (size h))
+          subst (λ (b : Bool). SaysItems canon (machine.linemode_on ∷ [])
+          (end_of_edit_items b (edits (mode_at o (terms.mode h) (Neg DoIt 34))) (line h).held ++ out)) (sym raw)
+          (writes-append canon (machine.linemode_on ∷ []) [] (word_items (reply_to o DoIt 34))
+          (new_size_items (tells_size o) (tells_size (options_after_word o DoIt 34)) (size h))
           (turning-writes canon h false was k is) (sizes-write canon (tells_size o) (tells_size (options_after_word o DoIt 34)) (size h)));
     })
 
@@ -460,12 +605,14 @@ ack-writes canon n fits =
 -- a mode that differs, by EDIT before and after
 record Taken (canon : Canon) (h : History) (n : ℕ) (before after : Bool) : Type 0 where
   pub core : moded h (linemode (options h)) n (terms.forward h) before after ≡ (client_with_mode canon (core_of h) (bits n) before after).client
-  pub writes : SaysItems canon (client_with_mode canon (core_of h) (bits n) before after).items (end_of_edit_items before after (line h).held ++ payload_items (payload.Mode (bit_or n 4)))
+  pub writes : SaysItems canon (client_with_mode canon (core_of h) (bits n) before after).items
+      (end_of_edit_items before after (line h).held ++ payload_items (payload.Mode (bit_or n 4)))
 
 mode-taken : (canon : Canon) (h : History) (n : ℕ) (before after : Bool) → n < 4 → Taken canon h n before after
 mode-taken canon h n true false fits = record {
   core = refl;
-  writes = writes-append canon (bytes (line h).held) (mode_ack (bits n) ∷ []) (byte_items (line h).held) (payload_items (payload.Mode (bit_or n 4))) (writes-bytes canon (line h).held) (ack-writes canon n fits);
+  writes = writes-append canon (bytes (line h).held) (mode_ack (bits n) ∷ []) (byte_items (line h).held) (payload_items (payload.Mode (bit_or n 4)))
+      (writes-bytes canon (line h).held) (ack-writes canon n fits);
 }
 mode-taken canon h n false true fits = record { core = refl; writes = ack-writes canon n fits }
 mode-taken canon h n true true fits = record { core = refl; writes = ack-writes canon n fits }
@@ -474,7 +621,8 @@ mode-taken canon h n false false fits = record { core = refl; writes = ack-write
 -- a mode, by whether it is the one in force
 record Moded (canon : Canon) (h : History) (n : ℕ) (same : Bool) : Type 0 where
   pub core : by_mask h (linemode (options h)) n (terms.forward h) ≡ (client_after_mode canon (core_of h) (bits n) same).client
-  pub writes : SaysItems canon (client_after_mode canon (core_of h) (bits n) same).items (end_of_edit_items (edits (terms.mode h)) (edits n) (line h).held ++ mode_items (if same then None else Some (bit_or n 4)))
+  pub writes : SaysItems canon (client_after_mode canon (core_of h) (bits n) same).items
+      (end_of_edit_items (edits (terms.mode h)) (edits n) (line h).held ++ mode_items (if same then None else Some (bit_or n 4)))
 
 mode-came : (canon : Canon) (h : History) (n : ℕ) (same : Bool) → n < 4 → (n == (terms.mode h)) ≡ same → Moded canon h n same
 mode-came canon h n true fits e =
@@ -490,16 +638,19 @@ answer-asked m mask e = ap (λ (b : Bool). if b || mode_of mask == m then None e
 after-asked : (m mask : ℕ) → is_acknowledged mask ≡ false → client_mask_after m mask ≡ mode_of mask
 after-asked m mask e = ap (λ (b : Bool). if b then m else mode_of mask) e
 
-asked-at : (h : History) (option : ℕ) (params : List ℕ) (mask : ℕ) → payload_of option params ≡ Some (payload.Mode mask) → linemode (options h) ≡ true → payload_at (options h) (Sub option params) ≡ Some (payload.Mode mask)
+asked-at : (h : History) (option : ℕ) (params : List ℕ) (mask : ℕ) → payload_of option params ≡ Some (payload.Mode mask) → linemode (options h) ≡ true
+    → payload_at (options h) (Sub option params) ≡ Some (payload.Mode mask)
 asked-at h option params mask is on =
     said-mode (options h) option params mask is ∙ ap (λ (b : Bool). if b then Some (payload.Mode mask) else None) on
 
-asked-mode : (h : History) (option : ℕ) (params : List ℕ) (mask : ℕ) → payload_of option params ≡ Some (payload.Mode mask) → is_acknowledged mask ≡ false → linemode (options h) ≡ true → mode_at (options h) (terms.mode h) (Sub option params) ≡ mode_of mask
+asked-mode : (h : History) (option : ℕ) (params : List ℕ) (mask : ℕ) → payload_of option params ≡ Some (payload.Mode mask) → is_acknowledged mask ≡ false
+    → linemode (options h) ≡ true → mode_at (options h) (terms.mode h) (Sub option params) ≡ mode_of mask
 asked-mode h option params mask is plain on =
     ap (λ (q : Option Payload). mode_by (terms.mode h) q) (asked-at h option params mask is on) ∙ after-asked (terms.mode h) mask plain
 
 -- a mode that is asked for while LINEMODE is on
-asked-came : (canon : Canon) (h : History) (option : ℕ) (params : List ℕ) (mask : ℕ) → linemode (options h) ≡ true → payload_of option params ≡ Some (payload.Mode mask) → is_acknowledged mask ≡ false → Came canon h (Sub option params) (machine.mode (bits mask))
+asked-came : (canon : Canon) (h : History) (option : ℕ) (params : List ℕ) (mask : ℕ) → linemode (options h) ≡ true
+    → payload_of option params ≡ Some (payload.Mode mask) → is_acknowledged mask ≡ false → Came canon h (Sub option params) (machine.mode (bits mask))
 asked-came canon h option params mask on is plain =
     let item = Sub option params in
     let n = mode_of mask in
@@ -509,7 +660,8 @@ asked-came canon h option params mask on is plain =
     let q = asked-at h option params mask is on in
     let k = asked-mode h option params mask is plain on in
     let m = mode-came canon h n same (small mask) e in
-    let told : mode_answer (terms.mode h) mask ≡ (if same then None else Some (bit_or n 4)) = answer-asked (terms.mode h) mask plain ∙ ap (λ (b : Bool). if b then None else Some (bit_or n 4)) e in
+    let told : mode_answer (terms.mode h) mask ≡ (if same then None else Some (bit_or n 4)) =
+    answer-asked (terms.mode h) mask plain ∙ ap (λ (b : Bool). if b then None else Some (bit_or n 4)) e in
     subst (λ (x : Mode). Came canon h item (machine.mode x)) (bits-mode mask)
     (subst (λ (x : Sent). CameAs canon h item x) (sym (ap (λ (b : Bool). where_on b c (client_after_mode canon c (bits n) same)) on))
     (record {
@@ -519,23 +671,30 @@ asked-came canon h option params mask on is plain =
           ∙ ap (λ (x : Option Mask). by_mask h (linemode (options h)) n x) (ap (λ (x : Option Payload). forward_by (terms.forward h) x) q)
           ∙ m.core;
       writes =
-          subst (λ (x : ℕ). SaysItems canon (client_after_mode canon c (bits n) same).items (end_of_edit_items (edits (terms.mode h)) (edits x) (line h).held ++ payload_answers (terms.mode h) (chars h) (payload_at (options h) item))) (sym k)
-          (subst (λ (x : Option Payload). SaysItems canon (client_after_mode canon c (bits n) same).items (end_of_edit_items (edits (terms.mode h)) (edits n) (line h).held ++ payload_answers (terms.mode h) (chars h) x)) (sym q)
-          (subst (λ (x : Option ℕ). SaysItems canon (client_after_mode canon c (bits n) same).items (end_of_edit_items (edits (terms.mode h)) (edits n) (line h).held ++ mode_items x)) (sym told) m.writes));
+          subst (λ (x : ℕ). SaysItems canon (client_after_mode canon c (bits n) same).items
+          (end_of_edit_items (edits (terms.mode h)) (edits x) (line h).held ++ payload_answers (terms.mode h) (chars h) (payload_at (options h) item)))
+          (sym k)
+          (subst (λ (x : Option Payload). SaysItems canon (client_after_mode canon c (bits n) same).items
+          (end_of_edit_items (edits (terms.mode h)) (edits n) (line h).held ++ payload_answers (terms.mode h) (chars h) x)) (sym q)
+          (subst (λ (x : Option ℕ). SaysItems canon (client_after_mode canon c (bits n) same).items
+          (end_of_edit_items (edits (terms.mode h)) (edits n) (line h).held ++ mode_items x)) (sym told) m.writes));
     }))
 
 -- where LINEMODE is off, no mode counts
-unasked-at : (h : History) (option : ℕ) (params : List ℕ) (mask : ℕ) → payload_of option params ≡ Some (payload.Mode mask) → linemode (options h) ≡ false → payload_at (options h) (Sub option params) ≡ None
+unasked-at : (h : History) (option : ℕ) (params : List ℕ) (mask : ℕ) → payload_of option params ≡ Some (payload.Mode mask) → linemode (options h) ≡ false
+    → payload_at (options h) (Sub option params) ≡ None
 unasked-at h option params mask is off =
     said-mode (options h) option params mask is ∙ ap (λ (b : Bool). if b then Some (payload.Mode mask) else None) off
 
 chattered-at : (h : History) (option : ℕ) (params : List ℕ) → IsChatter (payload_of option params) → IsChatter (payload_at (options h) (Sub option params))
 chattered-at h option params i = chatter-if (((option == 34) && linemode (options h)) && nat_le (length params) 512) (payload_of option params) i
 
-nothing-came : (canon : Canon) (h : History) (option : ℕ) (params : List ℕ) (m : Message) → IsChatter (payload_at (options h) (Sub option params)) → client_after_message canon (core_of h) m ≡ passed_over (core_of h) → Came canon h (Sub option params) m
+nothing-came : (canon : Canon) (h : History) (option : ℕ) (params : List ℕ) (m : Message) → IsChatter (payload_at (options h) (Sub option params))
+    → client_after_message canon (core_of h) m ≡ passed_over (core_of h) → Came canon h (Sub option params) m
 nothing-came canon h option params m i passes =
     chatter-came canon h (Sub option params) m passes refl (chatter-mode (terms.mode h) (payload_at (options h) (Sub option params)) i)
-    (chatter-forward (terms.forward h) (payload_at (options h) (Sub option params)) i) (chatter-answered canon (terms.mode h) (chars h) (payload_at (options h) (Sub option params)) i)
+    (chatter-forward (terms.forward h) (payload_at (options h) (Sub option params)) i)
+    (chatter-answered canon (terms.mode h) (chars h) (payload_at (options h) (Sub option params)) i)
 
 -- a forward mask, by whether LINEMODE is on
 forward-heard : (f : Option Mask) → heard_payload (Some (forward_of f)) ≡ machine.forward_at (is_forward f)
@@ -554,63 +713,81 @@ forward-chars : (c : Characters) (f : Option Mask) → chars_by c (Some (forward
 forward-chars c (Some mask) = refl
 forward-chars c None = refl
 
-forward-came : (canon : Canon) (h : History) (option : ℕ) (params : List ℕ) (on : Bool) → linemode (options h) ≡ on → (f : Option Mask) → payload_of option params ≡ Some (forward_of f) → Came canon h (Sub option params) (machine.forward_at (is_forward f))
+forward-came : (canon : Canon) (h : History) (option : ℕ) (params : List ℕ) (on : Bool) → linemode (options h) ≡ on → (f : Option Mask)
+    → payload_of option params ≡ Some (forward_of f) → Came canon h (Sub option params) (machine.forward_at (is_forward f))
 forward-came canon h option params true e f is =
     let item = Sub option params in
     let c = core_of h in
-    let at : payload_at (options h) item ≡ Some (forward_of f) = said-forward (options h) option params f is ∙ ap (λ (b : Bool). if b then Some (forward_of f) else None) e in
-    let same : mode_at (options h) (terms.mode h) item ≡ terms.mode h = ap (λ (q : Option Payload). mode_by (terms.mode h) q) at ∙ forward-mode (terms.mode h) f in
-    subst (λ (x : Sent). CameAs canon h item x) (sym (ap (λ (b : Bool). where_on b c (record { client = record c { forward = is_forward f }; items = other ∷ [] })) e))
+    let at : payload_at (options h) item ≡ Some (forward_of f) =
+    said-forward (options h) option params f is ∙ ap (λ (b : Bool). if b then Some (forward_of f) else None) e in
+    let same : mode_at (options h) (terms.mode h) item ≡ terms.mode h =
+    ap (λ (q : Option Payload). mode_by (terms.mode h) q) at ∙ forward-mode (terms.mode h) f in
+    subst (λ (x : Sent). CameAs canon h item x) (sym (ap (λ (b : Bool).
+    where_on b c (record { client = record c { forward = is_forward f }; items = other ∷ [] })) e))
     (record {
       core =
           core_came h item
-          ∙ ap (λ (x : Option Mask). by_mask h (linemode (options h)) (mode_at (options h) (terms.mode h) item) x) (ap (λ (q : Option Payload). forward_by (terms.forward h) q) at ∙ forward-taken (terms.forward h) f)
+          ∙ ap (λ (x : Option Mask). by_mask h (linemode (options h)) (mode_at (options h) (terms.mode h) item) x)
+          (ap (λ (q : Option Payload). forward_by (terms.forward h) q) at ∙ forward-taken (terms.forward h) f)
           ∙ core-same h (mode_at (options h) (terms.mode h) item) f same;
       writes =
           writes-same canon (other ∷ []) h (mode_at (options h) (terms.mode h) item) (answer_items (options h) (terms.mode h) (chars h) (size h) item) same
-          (subst (λ (q : Option Payload). SaysItems canon (other ∷ []) (payload_answers (terms.mode h) (chars h) q)) (sym at) (forward-answered canon f (terms.mode h) (chars h)));
+          (subst (λ (q : Option Payload). SaysItems canon (other ∷ []) (payload_answers (terms.mode h) (chars h) q)) (sym at)
+          (forward-answered canon f (terms.mode h) (chars h)));
     })
 forward-came canon h option params false e f is =
     let c = core_of h in
     nothing-came canon h option params (machine.forward_at (is_forward f))
-    (subst (λ (q : Option Payload). IsChatter q) (sym (said-forward (options h) option params f is ∙ ap (λ (b : Bool). if b then Some (forward_of f) else None) e)) tt)
+    (subst (λ (q : Option Payload). IsChatter q) (sym (said-forward (options h) option params f is
+    ∙ ap (λ (b : Bool). if b then Some (forward_of f) else None) e)) tt)
     (ap (λ (b : Bool). where_on b c (record { client = record c { forward = is_forward f }; items = other ∷ [] })) e)
 
-mode-asked : (canon : Canon) (h : History) (option : ℕ) (params : List ℕ) (on : Bool) → linemode (options h) ≡ on → (a : Asks canon.settings (payload_of option params)) → Came canon h (Sub option params) (machine.mode (bits a.mask))
+mode-asked : (canon : Canon) (h : History) (option : ℕ) (params : List ℕ) (on : Bool) → linemode (options h) ≡ on
+    → (a : Asks canon.settings (payload_of option params)) → Came canon h (Sub option params) (machine.mode (bits a.mask))
 mode-asked canon h option params true e a = asked-came canon h option params a.mask e a.is a.plain
 mode-asked canon h option params false e a =
     let c = core_of h in
-    nothing-came canon h option params (machine.mode (bits a.mask)) (subst (λ (q : Option Payload). IsChatter q) (sym (unasked-at h option params a.mask a.is e)) tt)
+    nothing-came canon h option params (machine.mode (bits a.mask))
+    (subst (λ (q : Option Payload). IsChatter q) (sym (unasked-at h option params a.mask a.is e)) tt)
     (ap (λ (b : Bool). where_on b c (client_after_mode canon c (bits a.mask) (is_same c.mask (bits a.mask)))) e)
 
 -- the table
-table-came : (canon : Canon) (h : History) (option : ℕ) (params : List ℕ) → IsKept canon h → Tells canon.settings (payload_of option params) → Came canon h (Sub option params) chatter
+table-came : (canon : Canon) (h : History) (option : ℕ) (params : List ℕ) → IsKept canon h → Tells canon.settings (payload_of option params)
+    → Came canon h (Sub option params) chatter
 table-came canon h option params stays t =
     let b = ((option == 34) && linemode (options h)) && nat_le (length params) 512 in
     let at = table-at (options h) option params t.is in
     chatter-came canon h (Sub option params) chatter refl refl
     (ap (λ (q : Option Payload). mode_by (terms.mode h) q) at ∙ table-mode (terms.mode h) b)
     (ap (λ (q : Option Payload). forward_by (terms.forward h) q) at ∙ table-forward (terms.forward h) b)
-    (subst (λ (q : Option Payload). SaysItems canon [] (payload_answers (terms.mode h) (chars h) q)) (sym at) (table-answered canon (terms.mode h) (chars h) b (stays.characters ∙ t.standard)))
+    (subst (λ (q : Option Payload). SaysItems canon [] (payload_answers (terms.mode h) (chars h) q)) (sym at)
+    (table-answered canon (terms.mode h) (chars h) b (stays.characters ∙ t.standard)))
 
-heard-as : (canon : Canon) (h : History) (option : ℕ) (params : List ℕ) (m : Message) → heard_payload (payload_of option params) ≡ m → Came canon h (Sub option params) m → Came canon h (Sub option params) (client_message (Sub option params))
+heard-as : (canon : Canon) (h : History) (option : ℕ) (params : List ℕ) (m : Message) → heard_payload (payload_of option params) ≡ m
+    → Came canon h (Sub option params) m → Came canon h (Sub option params) (client_message (Sub option params))
 heard-as canon h option params m is c = subst (λ (x : Message). Came canon h (Sub option params) x) (sym is) c
 
-sub-came : (canon : Canon) (h : History) (option : ℕ) (params : List ℕ) → IsKept canon h → IsChatter (payload_of option params) ⊎ (Forwards (payload_of option params) ⊎ (Asks canon.settings (payload_of option params) ⊎ Tells canon.settings (payload_of option params))) → Came canon h (Sub option params) (client_message (Sub option params))
+sub-came : (canon : Canon) (h : History) (option : ℕ) (params : List ℕ) → IsKept canon h → IsChatter (payload_of option params)
+    ⊎ (Forwards (payload_of option params) ⊎ (Asks canon.settings (payload_of option params) ⊎ Tells canon.settings (payload_of option params)))
+    → Came canon h (Sub option params) (client_message (Sub option params))
 sub-came canon h option params stays (inl i) =
-    heard-as canon h option params chatter (chatter-heard (payload_of option params) i) (nothing-came canon h option params chatter (chattered-at h option params i) refl)
+    heard-as canon h option params chatter (chatter-heard (payload_of option params) i)
+    (nothing-came canon h option params chatter (chattered-at h option params i) refl)
 sub-came canon h option params stays (inr (inl f)) =
-    heard-as canon h option params (machine.forward_at (is_forward f.mask)) (ap heard_payload f.is ∙ forward-heard f.mask) (forward-came canon h option params (linemode (options h)) refl f.mask f.is)
+    heard-as canon h option params (machine.forward_at (is_forward f.mask)) (ap heard_payload f.is ∙ forward-heard f.mask)
+    (forward-came canon h option params (linemode (options h)) refl f.mask f.is)
 sub-came canon h option params stays (inr (inr (inl a))) =
     heard-as canon h option params (machine.mode (bits a.mask)) (ap heard_payload a.is) (mode-asked canon h option params (linemode (options h)) refl a)
 sub-came canon h option params stays (inr (inr (inr t))) =
     heard-as canon h option params chatter (ap heard_payload t.is) (table-came canon h option params stays t)
 
 -- an option word
-word-came : (canon : Canon) (h : History) (verb : Verb) (option : ℕ) → IsKept canon h → IsCalmToClient canon.settings (Neg verb option) → Came canon h (Neg verb option) (client_message (Neg verb option))
+word-came : (canon : Canon) (h : History) (verb : Verb) (option : ℕ) → IsKept canon h → IsCalmToClient canon.settings (Neg verb option)
+    → Came canon h (Neg verb option) (client_message (Neg verb option))
 word-came canon h verb option stays (inl e) =
     subst (λ (m : Message). Came canon h (Neg verb option) m) (sym (ap heard_word e))
-    (chatter-came canon h (Neg verb option) chatter refl (word-keeps (options h) verb option e) (word-mode (options h) (terms.mode h) verb option e) (word-forward (options h) (terms.forward h) verb option e) (word-answered canon (options h) (terms.mode h) (chars h) (size h) verb option e))
+    (chatter-came canon h (Neg verb option) chatter refl (word-keeps (options h) verb option e) (word-mode (options h) (terms.mode h) verb option e)
+    (word-forward (options h) (terms.forward h) verb option e) (word-answered canon (options h) (terms.mode h) (chars h) (size h) verb option e))
 word-came canon h verb option stays (inr t) =
     subst (λ (v : Verb). Came canon h (Neg v option) (client_message (Neg v option))) (sym t.0)
     (subst (λ (n : ℕ). Came canon h (Neg DoIt n) (client_message (Neg DoIt n))) (sym t.1)
@@ -634,17 +811,21 @@ dropped-chars : (c : Characters) (f : Option Mask) (b : Bool) → chars_by c (if
 dropped-chars c f true = forward-chars c f
 dropped-chars c f false = refl
 
-sub-chars : (canon : Canon) (h : History) (option : ℕ) (params : List ℕ) → IsKept canon h → IsChatter (payload_of option params) ⊎ (Forwards (payload_of option params) ⊎ (Asks canon.settings (payload_of option params) ⊎ Tells canon.settings (payload_of option params))) → chars_by (chars h) (payload_at (options h) (Sub option params)) ≡ (chars h)
+sub-chars : (canon : Canon) (h : History) (option : ℕ) (params : List ℕ) → IsKept canon h → IsChatter (payload_of option params)
+    ⊎ (Forwards (payload_of option params) ⊎ (Asks canon.settings (payload_of option params) ⊎ Tells canon.settings (payload_of option params)))
+    → chars_by (chars h) (payload_at (options h) (Sub option params)) ≡ (chars h)
 sub-chars canon h option params k (inl i) = chatter-chars (chars h) (payload_at (options h) (Sub option params)) (chattered-at h option params i)
 sub-chars canon h option params k (inr (inl f)) =
-    ap (λ (q : Option Payload). chars_by (chars h) q) (said-forward (options h) option params f.mask f.is) ∙ dropped-chars (chars h) f.mask (linemode (options h))
+    ap (λ (q : Option Payload). chars_by (chars h) q) (said-forward (options h) option params f.mask f.is)
+    ∙ dropped-chars (chars h) f.mask (linemode (options h))
 sub-chars canon h option params k (inr (inr (inl a))) =
     ap (λ (q : Option Payload). chars_by (chars h) q) (said-mode (options h) option params a.mask a.is) ∙ mode-chars (chars h) a.mask (linemode (options h))
 sub-chars canon h option params k (inr (inr (inr t))) =
     ap (λ (q : Option Payload). chars_by (chars h) q) (table-at (options h) option params t.is)
     ∙ table-chars (chars h) (((option == 34) && linemode (options h)) && nat_le (length params) 512) (k.characters ∙ t.standard)
 
-word-stays : (s : Settings) (o : Options) (verb : Verb) (option : ℕ) → agrees_to o Us 34 ≡ true → IsOffOrOn (state_of o Us 34) → IsCalmToClient s (Neg verb option) → IsOffOrOn (state_of (options_after_word o verb option) Us 34)
+word-stays : (s : Settings) (o : Options) (verb : Verb) (option : ℕ) → agrees_to o Us 34 ≡ true → IsOffOrOn (state_of o Us 34)
+    → IsCalmToClient s (Neg verb option) → IsOffOrOn (state_of (options_after_word o verb option) Us 34)
 word-stays s o verb option a n (inl e) = subst IsOffOrOn (sym (word_keeps_state o Us verb option e)) n
 word-stays s o verb option a n (inr t) =
     subst (λ (v : Verb). IsOffOrOn (state_of (options_after_word o v option) Us 34)) (sym t.0)
@@ -655,9 +836,17 @@ pub item-stays : (canon : Canon) (h : History) (item : Item) → IsKept canon h 
 item-stays canon h (Byte b) stays calm = record { on = stays.on; characters = stays.characters; limit = stays.limit }
 item-stays canon h Newline stays calm = record { on = stays.on; characters = stays.characters; limit = stays.limit }
 item-stays canon h (Cmd command) stays calm = record { on = stays.on; characters = stays.characters; limit = stays.limit }
-item-stays canon h (Neg verb option) stays calm = record { on = word-stays canon.settings (options h) verb option (client_agrees h) stays.on calm; characters = stays.characters; limit = stays.limit }
+item-stays canon h (Neg verb option) stays calm = record {
+  on = word-stays canon.settings (options h) verb option (client_agrees h) stays.on calm;
+  characters = stays.characters;
+  limit = stays.limit;
+}
 item-stays canon h (Sub option params) stays calm =
-    record { on = stays.on; characters = sub-chars canon h option params stays (calm-kinds canon.settings (payload_of option params) calm) ∙ stays.characters; limit = stays.limit }
+    record {
+      on = stays.on;
+      characters = sub-chars canon h option params stays (calm-kinds canon.settings (payload_of option params) calm) ∙ stays.characters;
+      limit = stays.limit;
+    }
 
 -- ITEMS
 record CameAll (canon : Canon) (h : History) (items : List Item) : Type 0 where
@@ -687,7 +876,10 @@ items-came canon h (item ∷ items) k calm =
 
 -- A PIECE
 -- Whatever came before, calm items do what the relation says of them, however they were cut.
-pub feeds_done : (canon : Canon) (h : History) (old new : End) (piece before after server_item now : List ℕ) → LeadsTo h old → ClientStays canon old → old.failed ≡ false → (f : Feeds old piece before after server_item now new) → All (IsCalmToClient canon.settings) f.items → (client_core new ≡ (client_after_messages canon (client_core old) (client_messages f.items)).client) × SaysItems canon (client_after_messages canon (client_core old) (client_messages f.items)).items f.said
+pub feeds_done : (canon : Canon) (h : History) (old new : End) (piece before after server_item now : List ℕ) → LeadsTo h old → ClientStays canon old
+    → old.failed ≡ false → (f : Feeds old piece before after server_item now new) → All (IsCalmToClient canon.settings) f.items
+    → (client_core new ≡ (client_after_messages canon (client_core old) (client_messages f.items)).client)
+    × SaysItems canon (client_after_messages canon (client_core old) (client_messages f.items)).items f.said
 feeds_done canon h old new piece before after server_item now s stays runs f calm =
     let all = items-came canon h f.items (kept_at canon h old s stays) calm in
     let here = core_at h old s runs in
@@ -700,7 +892,8 @@ feeds_done canon h old new piece before after server_item now s stays runs f cal
     )
 
 -- and leave LINEMODE and the characters as they are
-pub feeds_stay : (canon : Canon) (h : History) (old new : End) (piece before after server_item now : List ℕ) → LeadsTo h old → ClientStays canon old → (f : Feeds old piece before after server_item now new) → All (IsCalmToClient canon.settings) f.items → ClientStays canon new
+pub feeds_stay : (canon : Canon) (h : History) (old new : End) (piece before after server_item now : List ℕ) → LeadsTo h old → ClientStays canon old
+    → (f : Feeds old piece before after server_item now new) → All (IsCalmToClient canon.settings) f.items → ClientStays canon new
 feeds_stay canon h old new piece before after server_item now s stays f calm =
     stays_at canon (gets h f.items) new (f.leads h s) (items-came canon h f.items (kept_at canon h old s stays) calm).kept
 
@@ -713,7 +906,9 @@ pub record SaysFront (canon : Canon) (c : Client) (items said : List Item) : Typ
   pub writes : SaysItems canon (client_after_messages canon c (client_messages items)).items all
 
 -- Of calm items a prefix of what they say was said.
-pub stops_done : (canon : Canon) (h : History) (old : End) (piece before after seen now bytes : List ℕ) (had : List Item) → LeadsTo h old → nvt.LeadsTo bytes had old.decoder → ClientStays canon old → old.failed ≡ false → (x : StopsWithin old piece before after seen now) → All (IsCalmToClient canon.settings) (x.done ++ x.left) → SaysFront canon (client_core old) (x.done ++ x.left) (x.said ++ x.part)
+pub stops_done : (canon : Canon) (h : History) (old : End) (piece before after seen now bytes : List ℕ) (had : List Item) → LeadsTo h old
+    → nvt.LeadsTo bytes had old.decoder → ClientStays canon old → old.failed ≡ false → (x : StopsWithin old piece before after seen now)
+    → All (IsCalmToClient canon.settings) (x.done ++ x.left) → SaysFront canon (client_core old) (x.done ++ x.left) (x.said ++ x.part)
 stops_done canon h old piece before after seen now bytes had s read stays runs x calm =
     let items = x.done ++ x.left in
     let all = items-came canon h items (kept_at canon h old s stays) calm in
@@ -727,29 +922,36 @@ stops_done canon h old piece before after seen now bytes had s read stays runs x
       all = all.said;
       rest = u.0;
       whole = append_cancel_left (items_said h) all.said ((x.said ++ x.part) ++ u.0) (sym all.sends ∙ here);
-      writes = subst (λ (c : Client). SaysItems canon (client_after_messages canon c (client_messages items)).items all.said) (sym (core_at h old s runs)) all.writes;
+      writes = subst (λ (c : Client). SaysItems canon (client_after_messages canon c (client_messages items)).items all.said)
+          (sym (core_at h old s runs)) all.writes;
     }
 
 -- A NEW SIZE of the window says nothing of lines
 pub resized-writes : (canon : Canon) (h : History) (width height : ℕ) → SaysItems canon [] (replies h (resized width height))
-resized-writes canon h width height = writes-if canon (tells_size (options h) && not (is_same_size (size h) (width, height))) (size_items (width, height)) (size-writes canon (width, height))
+resized-writes canon h width height = writes-if canon (tells_size (options h) && not (is_same_size (size h) (width, height))) (size_items (width, height))
+    (size-writes canon (width, height))
 
-pub resized_done : (canon : Canon) (h : History) (old new : End) (width height : ℕ) (before after : List ℕ) → LeadsTo h old → old.failed ≡ false → Advances old (resized width height) new → ReadsNothing old new → (g : Sends old (resized width height) before after) → ClientSays canon (client_picture old) g.said (client_picture new)
+pub resized_done : (canon : Canon) (h : History) (old new : End) (width height : ℕ) (before after : List ℕ) → LeadsTo h old → old.failed ≡ false
+    → Advances old (resized width height) new → ReadsNothing old new → (g : Sends old (resized width height) before after)
+    → ClientSays canon (client_picture old) g.said (client_picture new)
 resized_done canon h old new width height before after s runs goes keeps g = record {
   same =
       ap (λ d. record { decoder = d; core = client_core new }) keeps.decoder
-      ∙ ap (λ (c : Client). record { decoder = old.decoder; core = c }) (core_at (next h (resized width height)) new (goes.leads h s) (keeps.failed ∙ runs) ∙ sym (core_at h old s runs));
+      ∙ ap (λ (c : Client). record { decoder = old.decoder; core = c })
+      (core_at (next h (resized width height)) new (goes.leads h s) (keeps.failed ∙ runs) ∙ sym (core_at h old s runs));
   writes =
       subst (λ (xs : List Item). SaysItems canon [] xs) (g.replies h s) (resized-writes canon h width height);
 }
 
-pub resized_stays : (canon : Canon) (h : History) (old new : End) (width height : ℕ) → LeadsTo h old → ClientStays canon old → Advances old (resized width height) new → ClientStays canon new
+pub resized_stays : (canon : Canon) (h : History) (old new : End) (width height : ℕ) → LeadsTo h old → ClientStays canon old
+    → Advances old (resized width height) new → ClientStays canon new
 resized_stays canon h old new width height s stays goes =
     let k = kept_at canon h old s stays in
     stays_at canon (next h (resized width height)) new (goes.leads h s) (record { on = k.on; characters = k.characters; limit = k.limit })
 
 -- A COMMAND of the user leaves the client as it is
-command-writes : (canon : Canon) (c : Command) (says : machine.Item) → ((v : machine.Server) → machine.read canon v (machine.command c) ≡ machine.read canon v says) → SaysItems canon (says ∷ []) (Cmd c ∷ [])
+command-writes : (canon : Canon) (c : Command) (says : machine.Item)
+    → ((v : machine.Server) → machine.read canon v (machine.command c) ≡ machine.read canon v says) → SaysItems canon (says ∷ []) (Cmd c ∷ [])
 command-writes canon c says is = record {
   fit = All-cons Fits (Cmd c) [] tt (All-nil Fits);
   calm = All-cons (IsCalmToServer canon.settings) (Cmd c) [] tt (All-nil (IsCalmToServer canon.settings));
@@ -769,15 +971,19 @@ ayt-writes canon = writes-hushed canon (Cmd command.Ayt ∷ []) (command-writes 
 pub nop-writes : (canon : Canon) → SaysItems canon [] (Cmd command.Nop ∷ [])
 nop-writes canon = writes-hushed canon (Cmd command.Nop ∷ []) (command-writes canon command.Nop other (λ v. refl))
 
-pub sent_says : (canon : Canon) (h : History) (old : End) (user : UserCommand) (says : List machine.Item) (before after : List ℕ) → LeadsTo h old → (g : Sends old (sent user) before after) → SaysItems canon says (Cmd (command_sent user) ∷ []) → SaysItems canon says g.said
+pub sent_says : (canon : Canon) (h : History) (old : End) (user : UserCommand) (says : List machine.Item) (before after : List ℕ) → LeadsTo h old
+    → (g : Sends old (sent user) before after) → SaysItems canon says (Cmd (command_sent user) ∷ []) → SaysItems canon says g.said
 sent_says canon h old user says before after s g writes = subst (λ (xs : List Item). SaysItems canon says xs) (g.replies h s) writes
 
-pub sent_same : (h : History) (old new : End) (user : UserCommand) → LeadsTo h old → old.failed ≡ false → Advances old (sent user) new → ReadsNothing old new → client_picture new ≡ client_picture old
+pub sent_same : (h : History) (old new : End) (user : UserCommand) → LeadsTo h old → old.failed ≡ false → Advances old (sent user) new → ReadsNothing old new
+    → client_picture new ≡ client_picture old
 sent_same h old new user s runs goes keeps =
     ap (λ d. record { decoder = d; core = client_core new }) keeps.decoder
-    ∙ ap (λ (c : Client). record { decoder = old.decoder; core = c }) (core_at (next h (sent user)) new (goes.leads h s) (keeps.failed ∙ runs) ∙ sym (core_at h old s runs))
+    ∙ ap (λ (c : Client). record { decoder = old.decoder; core = c })
+    (core_at (next h (sent user)) new (goes.leads h s) (keeps.failed ∙ runs) ∙ sym (core_at h old s runs))
 
-pub sent_stays : (canon : Canon) (h : History) (old new : End) (user : UserCommand) → LeadsTo h old → ClientStays canon old → Advances old (sent user) new → ClientStays canon new
+pub sent_stays : (canon : Canon) (h : History) (old new : End) (user : UserCommand) → LeadsTo h old → ClientStays canon old → Advances old (sent user) new
+    → ClientStays canon new
 sent_stays canon h old new user s stays goes =
     let k = kept_at canon h old s stays in
     stays_at canon (next h (sent user)) new (goes.leads h s) (record { on = k.on; characters = k.characters; limit = k.limit })

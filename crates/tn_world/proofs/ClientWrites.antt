@@ -1,5 +1,6 @@
 -- What a client end writes, and what that says to a server.
-use Rattle.std.proofs.Common.{◌≡◌, ◌≢◌, ◌⊎◌, inl, inr, ℕ, ◌==◌, Bool, true, false, not, ◌&&◌, Option, Some, None, List, [], ◌∷◌, ◌++◌, map, length, nat_le, ◌≤◌, refl, sym, ap, ◌∙◌, if◌then◌else◌, subst, arith, append-nil}
+use Rattle.std.proofs.Common.{◌≡◌, ◌≢◌, ◌⊎◌, inl, inr, ℕ, ◌==◌, Bool, true, false, not, ◌&&◌, Option, Some, None, List, [], ◌∷◌, ◌++◌, map, length, nat_le, ◌≤◌}
+use Rattle.std.proofs.Common.{refl, sym, ap, ◌∙◌, if◌then◌else◌, subst, arith, append-nil}
 use Rattle.std.specs.Prelude.{All}
 use Rattle.std.proofs.lemmas.Bool.Decides.{nat_tests}
 use Rattle.std.proofs.lemmas.List.{map-append}
@@ -39,7 +40,8 @@ use Rattle.tn_world.proofs.ServerSteps.{Speaks, reply_speaks}
 pub writes-none : (canon : Canon) → SaysItems canon [] []
 writes-none canon = record { fit = All-nil Fits; calm = All-nil (IsCalmToServer canon.settings); says_so = λ v. refl }
 
-pub writes-one : (canon : Canon) (item : Item) (says : machine.Item) → Fits item → IsCalmToServer canon.settings item → server_item item ≡ says → SaysItems canon (says ∷ []) (item ∷ [])
+pub writes-one : (canon : Canon) (item : Item) (says : machine.Item) → Fits item → IsCalmToServer canon.settings item → server_item item ≡ says
+    → SaysItems canon (says ∷ []) (item ∷ [])
 writes-one canon item says f calm e = record {
   fit = All-cons Fits item [] f (All-nil Fits);
   calm = All-cons (IsCalmToServer canon.settings) item [] calm (All-nil (IsCalmToServer canon.settings));
@@ -60,7 +62,8 @@ writes-append canon a b x y h k = record {
 
 pub writes-bytes : (canon : Canon) (bs : List ℕ) → SaysItems canon (bytes bs) (byte_items bs)
 writes-bytes canon [] = writes-none canon
-writes-bytes canon (b ∷ bs) = writes-append canon (byte b ∷ []) (bytes bs) (Byte b ∷ []) (byte_items bs) (writes-one canon (Byte b) (byte b) tt tt refl) (writes-bytes canon bs)
+writes-bytes canon (b ∷ bs) = writes-append canon (byte b ∷ []) (bytes bs) (Byte b ∷ []) (byte_items bs) (writes-one canon (Byte b) (byte b) tt tt refl)
+    (writes-bytes canon bs)
 
 -- what says nothing of lines leaves a server as it is
 read-other : (s : Canon) (v : Server) → read s v other ≡ v
@@ -68,7 +71,8 @@ read-other s v = by_test v.failed refl
   where
     by_test : (b : Bool) → v.failed ≡ b → (if b then v else read_item s v other) ≡ v
     by_test true e = refl
-    by_test false e = ap (λ (w : List Entry). record v { waiting = w; failed = false }) (append-nil v.waiting) ∙ ap (λ (f : Bool). record v { failed = f }) (sym e)
+    by_test false e = ap (λ (w : List Entry). record v { waiting = w; failed = false }) (append-nil v.waiting)
+        ∙ ap (λ (f : Bool). record v { failed = f }) (sym e)
 
 pub writes-hushed : (canon : Canon) (out : List Item) → SaysItems canon (other ∷ []) out → SaysItems canon [] out
 writes-hushed canon out h = record { fit = h.fit; calm = h.calm; says_so = λ v. h.says_so v ∙ read-other canon v }
@@ -92,14 +96,16 @@ word-keeps o verb code e = ap is_yes (LeavesOthers-moved o (side_of verb) code (
 -- and is answered on its own option
 word-writes : (canon : Canon) (code : ℕ) (w : Option (Verb × ℕ)) → (code == 34) ≡ false → Speaks code w → SaysItems canon [] (word_items w)
 word-writes canon code None e on = writes-none canon
-word-writes canon code (Some w) e on = writes-hushed canon (word_items (Some w)) (writes-one canon (Neg w.0 w.1) other tt (inl (ap (λ (n : ℕ). n == 34) on ∙ e)) (ap seen_word (ap (λ (n : ℕ). n == 34) on ∙ e)))
+word-writes canon code (Some w) e on = writes-hushed canon (word_items (Some w))
+    (writes-one canon (Neg w.0 w.1) other tt (inl (ap (λ (n : ℕ). n == 34) on ∙ e)) (ap seen_word (ap (λ (n : ℕ). n == 34) on ∙ e)))
 
 pub size-writes : (canon : Canon) (z : ℕ × ℕ) → SaysItems canon [] (size_items z)
 size-writes canon (width, height) =
     writes-hushed canon (size_items (width, height)) (writes-one canon (Sub 31 (parameters_of (payload.Naws width height))) other (omega arith) tt refl)
 
 -- what answers such a word says nothing of lines
-pub word-answered : (canon : Canon) (o : Options) (m : ℕ) (c : Characters) (z : ℕ × ℕ) (verb : Verb) (code : ℕ) → (code == 34) ≡ false → SaysItems canon [] (answer_items o m c z (Neg verb code))
+pub word-answered : (canon : Canon) (o : Options) (m : ℕ) (c : Characters) (z : ℕ × ℕ) (verb : Verb) (code : ℕ) → (code == 34) ≡ false
+    → SaysItems canon [] (answer_items o m c z (Neg verb code))
 word-answered canon o m c z verb code e =
     writes-append canon [] [] (word_items (reply_to o verb code)) (new_size_items (tells_size o) (tells_size (options_after_word o verb code)) z)
     (word-writes canon code (reply_to o verb code) e (reply_speaks o verb code))
@@ -127,7 +133,8 @@ IsChatter (Some payload.ForwardNo) = Unit {0}
 IsChatter (Some (payload.Slc triples)) = ⊥
 
 -- what holds where there is none, and of each that changes nothing, holds of all of them
-by_chatter : (P : Option Payload → Type 0) (p : Option Payload) → IsChatter p → P None → ((width height : ℕ) → P (Some (payload.Naws width height))) → P (Some payload.ForwardYes) → P (Some payload.ForwardNo) → P p
+by_chatter : (P : Option Payload → Type 0) (p : Option Payload) → IsChatter p → P None → ((width height : ℕ) → P (Some (payload.Naws width height)))
+    → P (Some payload.ForwardYes) → P (Some payload.ForwardNo) → P p
 by_chatter P None i lacking sized wills wonts = lacking
 by_chatter P (Some (payload.Naws width height)) i lacking sized wills wonts = sized width height
 by_chatter P (Some (payload.Mode mask)) i lacking sized wills wonts = absurd i
@@ -154,7 +161,8 @@ abbrev pub forward_of : Option Mask → Payload
 forward_of (Some mask) = payload.ForwardOn mask
 forward_of None = payload.ForwardOff
 
-answered-other : (s : Settings) (f : Option Mask) → (m : ℕ) (c : Characters) → All Fits (payload_answers m c (Some (forward_of f))) × All (IsCalmToServer s) (payload_answers m c (Some (forward_of f))) × (map server_item (payload_answers m c (Some (forward_of f))) ≡ other ∷ [])
+answered-other : (s : Settings) (f : Option Mask) → (m : ℕ) (c : Characters) → All Fits (payload_answers m c (Some (forward_of f)))
+    × All (IsCalmToServer s) (payload_answers m c (Some (forward_of f))) × (map server_item (payload_answers m c (Some (forward_of f))) ≡ other ∷ [])
 answered-other s (Some mask) m c = (All-cons Fits _ [] (omega arith) (All-nil Fits), All-cons (IsCalmToServer s) _ [] tt (All-nil (IsCalmToServer s)), refl)
 answered-other s None m c = (All-cons Fits _ [] (omega arith) (All-nil Fits), All-cons (IsCalmToServer s) _ [] tt (All-nil (IsCalmToServer s)), refl)
 
@@ -164,7 +172,8 @@ forward-answered canon f m c =
     record { fit = a.0; calm = a.1; says_so = λ v. ap (λ (xs : List machine.Item). read_all canon v xs) a.2 }
 
 pub chatter-answered : (canon : Canon) (m : ℕ) (c : Characters) (p : Option Payload) → IsChatter p → SaysItems canon [] (payload_answers m c p)
-chatter-answered canon m c p i = by_chatter (λ p. SaysItems canon [] (payload_answers m c p)) p i (writes-none canon) (λ _ _. writes-none canon) (writes-none canon) (writes-none canon)
+chatter-answered canon m c p i = by_chatter (λ p. SaysItems canon [] (payload_answers m c p)) p i (writes-none canon) (λ _ _. writes-none canon)
+    (writes-none canon) (writes-none canon)
 
 pub chatter-if : (b : Bool) (p : Option Payload) → IsChatter p → IsChatter (if b then p else None)
 chatter-if true p i = i
@@ -199,7 +208,8 @@ calm-kinds s (Some (payload.Slc triples)) a = inr (inr (inr (record { is = ap (�
 abbrev pub table_if : Bool → Option Payload
 table_if b = if b then Some (payload.Slc (announcement standard_characters)) else None
 
-pub table-at : (o : Options) (option : ℕ) (params : List ℕ) → payload_of option params ≡ Some (payload.Slc (announcement standard_characters)) → payload_at o (Sub option params) ≡ table_if (((option == 34) && linemode o) && nat_le (length params) 512)
+pub table-at : (o : Options) (option : ℕ) (params : List ℕ) → payload_of option params ≡ Some (payload.Slc (announcement standard_characters))
+    → payload_at o (Sub option params) ≡ table_if (((option == 34) && linemode o) && nat_le (length params) 512)
 table-at o option params e = ap (λ (p : Option Payload). if ((option == 34) && linemode o) && nat_le (length params) 512 then p else None) e
 
 pub table-mode : (m : ℕ) (b : Bool) → mode_by m (table_if b) ≡ m
@@ -235,7 +245,8 @@ if_short true p = refl
 if_short false p = refl
 
 -- where LINEMODE is on, a mode that is said is one that counts; where it is off, it counts for nothing
-pub said-mode : (o : Options) (option : ℕ) (params : List ℕ) (mask : ℕ) → payload_of option params ≡ Some (payload.Mode mask) → payload_at o (Sub option params) ≡ (if linemode o then Some (payload.Mode mask) else None)
+pub said-mode : (o : Options) (option : ℕ) (params : List ℕ) (mask : ℕ) → payload_of option params ≡ Some (payload.Mode mask)
+    → payload_at o (Sub option params) ≡ (if linemode o then Some (payload.Mode mask) else None)
 said-mode o option params mask e =
     let told : (option ≡ 34) × (params ≡ 1 ∷ mask ∷ []) = says option params (payload.Mode mask) e in
     ap (λ (n : ℕ). payload_at o (Sub n params)) told.0 ∙ ap (λ (xs : List ℕ). payload_at o (Sub 34 xs)) told.1 ∙ if_short (linemode o) (payload.Mode mask)
@@ -244,7 +255,8 @@ said-mode o option params mask e =
 short_params : (n : ℕ) → n ≤ 512 → nat_le n 512 ≡ true
 short_params n h = grind (arith, nat_tests)
 
-said-on : (o : Options) (option : ℕ) (params : List ℕ) (mask : Mask) → payload_of option params ≡ Some (payload.ForwardOn mask) → payload_at o (Sub option params) ≡ (if linemode o then Some (payload.ForwardOn mask) else None)
+said-on : (o : Options) (option : ℕ) (params : List ℕ) (mask : Mask) → payload_of option params ≡ Some (payload.ForwardOn mask)
+    → payload_at o (Sub option params) ≡ (if linemode o then Some (payload.ForwardOn mask) else None)
 said-on o option params mask e =
     let told = says option params (payload.ForwardOn mask) e in
     let octets = told.1.0 in
@@ -254,12 +266,14 @@ said-on o option params mask e =
     ∙ ap (λ (n : ℕ). if ((n == 34) && linemode o) && true then Some (payload.ForwardOn mask) else None) told.0
     ∙ if_short (linemode o) (payload.ForwardOn mask)
 
-said-off : (o : Options) (option : ℕ) (params : List ℕ) → payload_of option params ≡ Some payload.ForwardOff → payload_at o (Sub option params) ≡ (if linemode o then Some payload.ForwardOff else None)
+said-off : (o : Options) (option : ℕ) (params : List ℕ) → payload_of option params ≡ Some payload.ForwardOff
+    → payload_at o (Sub option params) ≡ (if linemode o then Some payload.ForwardOff else None)
 said-off o option params e =
     let told = says option params payload.ForwardOff e in
     ap (λ (n : ℕ). payload_at o (Sub n params)) told.0 ∙ ap (λ (xs : List ℕ). payload_at o (Sub 34 xs)) told.1 ∙ if_short (linemode o) payload.ForwardOff
 
-pub said-forward : (o : Options) (option : ℕ) (params : List ℕ) (f : Option Mask) → payload_of option params ≡ Some (forward_of f) → payload_at o (Sub option params) ≡ (if linemode o then Some (forward_of f) else None)
+pub said-forward : (o : Options) (option : ℕ) (params : List ℕ) (f : Option Mask) → payload_of option params ≡ Some (forward_of f)
+    → payload_at o (Sub option params) ≡ (if linemode o then Some (forward_of f) else None)
 said-forward o option params (Some mask) e = said-on o option params mask e
 said-forward o option params None e = said-off o option params e
 

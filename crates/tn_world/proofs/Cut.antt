@@ -14,7 +14,8 @@ pub start : (d : DecoderState) → LeadsTo [] [] d → InFlight d [] []
 start d h = record { stream = []; had = []; has_read = h; reads = reads_none }
 
 -- what was said flies behind
-pub behind : (d : DecoderState) (flight : List ℕ) (items said : List Item) → All Fits said → InFlight d flight items → InFlight d (flight ++ spells said) (items ++ said)
+pub behind : (d : DecoderState) (flight : List ℕ) (items said : List Item) → All Fits said → InFlight d flight items
+    → InFlight d (flight ++ spells said) (items ++ said)
 behind d flight items said fit f = record {
   stream = f.stream;
   had = f.had;
@@ -26,7 +27,8 @@ behind d flight items said fit f = record {
 }
 
 -- the same, seen from what was appended
-pub said_behind : (d : DecoderState) (flight later : List ℕ) (items said : List Item) → later ≡ flight ++ spells said → All Fits said → InFlight d flight items → InFlight d later (items ++ said)
+pub said_behind : (d : DecoderState) (flight later : List ℕ) (items said : List Item) → later ≡ flight ++ spells said → All Fits said → InFlight d flight items
+    → InFlight d later (items ++ said)
 said_behind d flight later items said is fit f =
     subst (λ x. InFlight d x (items ++ said)) (sym is) (behind d flight items said fit f)
 
@@ -36,7 +38,8 @@ pub record Delivered (new : DecoderState) (got items : List Item) (later : List 
   pub all : items ≡ got ++ left
   pub flight : InFlight new later left
 
-pub cut_at : (old new : DecoderState) (n : ℕ) (flight : List ℕ) (items got : List Item) → InFlight old flight items → Advances old (take n flight) got new → Delivered new got items (drop n flight)
+pub cut_at : (old new : DecoderState) (n : ℕ) (flight : List ℕ) (items got : List Item) → InFlight old flight items → Advances old (take n flight) got new
+    → Delivered new got items (drop n flight)
 cut_at old new n flight items got f adds =
     let whole = subst (λ x. Reading (f.stream ++ x) (f.had ++ items) []) (sym (take-append-drop n flight)) f.reads in
     let d = delivers old new f.stream (take n flight) (drop n flight) f.had got items f.has_read adds whole in
@@ -49,4 +52,5 @@ cut_at old new n flight items got f adds =
 -- no bytes are no items
 pub no_items : (d : DecoderState) (items : List Item) → InFlight d [] items → items ≡ []
 no_items d items h =
-    append_cancel_left h.had items [] ((one_reading (h.stream ++ []) [] h.has_read.rest (h.had ++ items) h.had h.reads (subst (λ x. Reading x h.had h.has_read.rest) (sym (append-nil h.stream)) h.has_read.reading)).0 ∙ sym (append-nil h.had))
+    append_cancel_left h.had items [] ((one_reading (h.stream ++ []) [] h.has_read.rest (h.had ++ items) h.had h.reads
+    (subst (λ x. Reading x h.had h.has_read.rest) (sym (append-nil h.stream)) h.has_read.reading)).0 ∙ sym (append-nil h.had))

@@ -40,7 +40,8 @@ unfolding options_after_word state_of agrees_to
 server_turned o a n = server_cell o.them.linemode.agreed o.them.linemode.state a n
 
 -- and is asked for at most
-server_answer : (P : Item → Type 0) (a : Bool) (q : QState) → a ≡ true → NeverEnds q → P (Neg DoIt 34) → All P (word_items (word_of_answer Them 34 (cell a HeardOn q).1))
+server_answer : (P : Item → Type 0) (a : Bool) (q : QState) → a ≡ true → NeverEnds q → P (Neg DoIt 34)
+    → All P (word_items (word_of_answer Them 34 (cell a HeardOn q).1))
 unfolding cell
 server_answer P true No e n p = All-cons P (Neg DoIt 34) [] p (All-nil P)
 server_answer P true Yes e n p = All-nil P
@@ -50,7 +51,8 @@ server_answer P true WantNoOpposite e n p = absurd n
 server_answer P true WantYesOpposite e n p = absurd n
 server_answer P false q e n p = absurd (cc)
 
-pub server_asks : (P : Item → Type 0) (o : Options) → agrees_to o Them 34 ≡ true → NeverEnds (state_of o Them 34) → P (Neg DoIt 34) → All P (word_items (reply_to o Will 34))
+pub server_asks : (P : Item → Type 0) (o : Options) → agrees_to o Them 34 ≡ true → NeverEnds (state_of o Them 34) → P (Neg DoIt 34)
+    → All P (word_items (reply_to o Will 34))
 unfolding reply_to state_of agrees_to
 server_asks P o a n p = server_answer P o.them.linemode.agreed o.them.linemode.state a n p
 
@@ -74,7 +76,8 @@ word_agrees o side verb option = AgreesAsBefore-moved o (side_of verb) option (c
 other_code : (option : ℕ) → (option == 34) ≡ false → 34 ≢ option
 other_code option e = λ same. let f : (34 == 34) ≡ false = subst (λ (n : ℕ). (n == 34) ≡ false) (sym same) e in cc
 
-pub word_keeps_state : (o : Options) (side : Side) (verb : Verb) (option : ℕ) → (option == 34) ≡ false → state_of (options_after_word o verb option) side 34 ≡ state_of o side 34
+pub word_keeps_state : (o : Options) (side : Side) (verb : Verb) (option : ℕ) → (option == 34) ≡ false
+    → state_of (options_after_word o verb option) side 34 ≡ state_of o side 34
 unfolding options_after_word
 word_keeps_state o side verb option e = LeavesOthers-moved o (side_of verb) option (cause_of verb) side 34 (inl (other_code option e))
 
@@ -88,7 +91,8 @@ heard_agrees o (Neg verb option) = word_agrees o Them verb option
 heard_agrees o (Sub option params) = refl
 heard_agrees o item = refl
 
-settled_agrees : (f : Flags) (t : server_terms.Terms) (o : Options) (ed : Option Editing) (set : Bool) → agrees_to (server_terms.terms_by f t o ed set).options Them 34 ≡ agrees_to o Them 34
+settled_agrees : (f : Flags) (t : server_terms.Terms) (o : Options) (ed : Option Editing) (set : Bool)
+    → agrees_to (server_terms.terms_by f t o ed set).options Them 34 ≡ agrees_to o Them 34
 settled_agrees f t o ed set =
     let wish = server_terms.wish_after f t.wish ed in
     echo_agrees (server_terms.asks_echo t.options o (server_terms.mask_told t o wish) set) (server_terms.wants_echo (server_terms.asked_mask_of o wish) f) o
@@ -96,12 +100,14 @@ settled_agrees f t o ed set =
 pub server_agrees : (h : server_calls.History) → agrees_to (server_terms.options h) Them 34 ≡ true
 server_agrees (server_calls.begun canon) = begun_agrees
 server_agrees (server_calls.next h (server_calls.got item)) =
-    settled_agrees (server_terms.flags h) (server_terms.terms h) (server_terms.options_after (server_terms.options h) (server_calls.got item)) (server_terms.wish_at (server_terms.options h) (server_calls.got item)) false
+    settled_agrees (server_terms.flags h) (server_terms.terms h) (server_terms.options_after (server_terms.options h) (server_calls.got item))
+    (server_terms.wish_at (server_terms.options h) (server_calls.got item)) false
     ∙ heard_agrees (server_terms.options h) item ∙ server_agrees h
 server_agrees (server_calls.next h (server_calls.wished editing)) =
     settled_agrees (server_terms.flags h) (server_terms.terms h) (server_terms.options h) (Some editing) false ∙ server_agrees h
 server_agrees (server_calls.next h (server_calls.echo_set on)) =
-    settled_agrees (server_terms.flags (server_calls.next h (server_calls.echo_set on))) (server_terms.terms h) (server_terms.options h) None true ∙ server_agrees h
+    settled_agrees (server_terms.flags (server_calls.next h (server_calls.echo_set on))) (server_terms.terms h) (server_terms.options h) None true
+    ∙ server_agrees h
 server_agrees (server_calls.next h server_calls.took) = server_agrees h
 server_agrees (server_calls.next h (server_calls.wrote bytes)) = server_agrees h
 server_agrees (server_calls.next h (server_calls.pulled n)) = server_agrees h

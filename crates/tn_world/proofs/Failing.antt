@@ -1,5 +1,6 @@
 -- What holds once an end has failed: the entries that were made still begin those that the keys give.
-use Rattle.std.proofs.Common.{◌≡◌, inl, inr, ℕ, Bool, true, false, Option, Some, None, List, [], ◌∷◌, ◌++◌, take, drop, refl, sym, ap, ◌∙◌, if◌then◌else◌, subst, append-nil, append_assoc}
+use Rattle.std.proofs.Common.{◌≡◌, inl, inr, ℕ, Bool, true, false, Option, Some, None, List, [], ◌∷◌, ◌++◌, take, drop, refl, sym, ap, ◌∙◌, if◌then◌else◌}
+use Rattle.std.proofs.Common.{subst, append-nil, append_assoc}
 use Rattle.std.specs.Prelude.{All, option_to_list}
 use Rattle.std.proofs.lemmas.List.{map-append, take-append-drop}
 use Rattle.std.proofs.lemmas.List.Elements.{All-append}
@@ -32,17 +33,20 @@ use Rattle.tn_world.specs.relation.Ends.{server_items, client_messages, client_a
 use Rattle.tn_world.specs.relation.Machine.{Server, read_all}
 use Rattle.tn_world.specs.relation.Pictures.{server_core, server_picture, client_core, ServerStays}
 use Rattle.tn_world.specs.relation.Relation.{IsRelated, IsBehind}
-use Rattle.tn_world.specs.Worlds.{World, UnlessStopped, TypesKey, SendsCommand, key_sent, CallsClient, DeliversToServer, DeliversToClient, CallsServer, Pulls, TakesEntry, RunsEvent, ServerRefusesDelivery, ClientRefusesDelivery}
+use Rattle.tn_world.specs.Worlds.{World, UnlessStopped, TypesKey, SendsCommand, key_sent, CallsClient, DeliversToServer, DeliversToClient, CallsServer, Pulls}
+use Rattle.tn_world.specs.Worlds.{TakesEntry, RunsEvent, ServerRefusesDelivery, ClientRefusesDelivery}
 use Rattle.tn_client.specs.declared.commands.UserCommand.{UserCommand}
 use Rattle.tn_world.specs.declared.events.Event.{Event}
-use Rattle.tn_world.specs.declared.events.Event.TheVariants.{Key, Send, ToServer, ToClient, Write, Pull, Take, Wish, Resize, SetChar, Propose, Echo, Mask, ServerStops, ClientStops}
+use Rattle.tn_world.specs.declared.events.Event.TheVariants.{Key, Send, ToServer, ToClient, Write, Pull, Take, Wish, Resize, SetChar, Propose, Echo, Mask}
+use Rattle.tn_world.specs.declared.events.Event.TheVariants.{ServerStops, ClientStops}
 use Rattle.tn_world.proofs.ClientSteps.{stops_done}
 use Rattle.tn_world.proofs.Cut.{said_behind, cut_at}
 use Rattle.tn_world.proofs.Following.{calls, flight_fits, holds_does, does_keeps}
 use Rattle.tn_world.proofs.Prefixes.{prefix_trans, prefix_after, prefix_same, read-more, agreed, taken-waits}
 use Rattle.tn_world.proofs.Reading.{read_all-append, entries-typed}
 use Rattle.tn_world.proofs.ServerSteps.{KeepsEntries, feeds_core, feeds_stays, stops_waiting, says_core, says_stays, took_core}
-use Rattle.tn_world.proofs.Soundness.{opposite, call_goes_on, halts_sound, breaks_sound, breaks_fit, again_sound, sound_does, Refusal, unchanged, by_server, by_client, refusal_of}
+use Rattle.tn_world.proofs.Soundness.{opposite, call_goes_on, halts_sound, breaks_sound, breaks_fit, again_sound, sound_does, Refusal, unchanged, by_server}
+use Rattle.tn_world.proofs.Soundness.{by_client, refusal_of}
 use Rattle.tn_world.proofs.Tied.{all_parts, all-agree}
 
 -- what was made begins what the keys give
@@ -50,7 +54,8 @@ abbrev pub Begins : Canon → World → Type 0
 Begins s w = IsPrefixOf (entries_made w) (local_entries s w.typed)
 
 -- THE INVARIANT OF A WORLD after a refused delivery
-client_fault_is : (b : Bool) (fault : ClientFault) → client.IsFault (if b then Some client_faults.Failed else None) fault → b ≡ true → fault ≡ client_faults.Failed
+client_fault_is : (b : Bool) (fault : ClientFault) → client.IsFault (if b then Some client_faults.Failed else None) fault → b ≡ true
+    → fault ≡ client_faults.Failed
 client_fault_is true fault f is = f
 client_fault_is false fault f is = absurd (cc)
 
@@ -69,16 +74,19 @@ sound_breaks : (old new : World) (n : ℕ) (fault : ClientFault) → ClientRefus
 sound_breaks old new n fault r s = by_test old.client.failed refl
   where
     by_test : (b : Bool) → old.client.failed ≡ b → HasPast new
-    by_test true is = subst (λ w. HasPast w) (sym (r.again (client_fault_is old.client.failed fault r.is_fault is))) (again_sound old (drop n old.to_client) is s)
+    by_test true is = subst (λ w. HasPast w) (sym (r.again (client_fault_is old.client.failed fault r.is_fault is)))
+        (again_sound old (drop n old.to_client) is s)
     by_test false is =
         subst (λ w. HasPast w) (sym r.rest)
-        (breaks_sound old new.client (take n old.to_client) (drop n old.to_client) new.to_server new.shown is (r.breaks (memory_is old.client.failed fault r.is_fault is)) r.failed s)
+        (breaks_sound old new.client (take n old.to_client) (drop n old.to_client) new.to_server new.shown is
+        (r.breaks (memory_is old.client.failed fault r.is_fault is)) r.failed s)
 
 server_goes_on : (end : server.End) → server.call_fault end ≡ None → end.failed ≡ false
 server_goes_on end e = by_test end.failed refl
   where
     by_test : (b : Bool) → end.failed ≡ b → end.failed ≡ false
-    by_test true is = absurd (let f : (if true then Some server_faults.Failed else None) ≡ None = ap (λ (b : Bool). if b then Some server_faults.Failed else None) (sym is) ∙ e in cc)
+    by_test true is = absurd (let f : (if true then Some server_faults.Failed else None)
+        ≡ None = ap (λ (b : Bool). if b then Some server_faults.Failed else None) (sym is) ∙ e in cc)
     by_test false is = is
 
 -- THE CLIENT SAYS NOTHING MORE
@@ -103,22 +111,26 @@ behind_begins s w h =
     (prefix_after w.taken w.server.terminal.entries (read_all s v items).waiting (read-more s v items)) h.begins
 
 -- an event that has no part in it
-behind_as : (s : Canon) (old new : World) → new.server ≡ old.server → new.to_server ≡ old.to_server → new.typed ≡ old.typed → new.taken ≡ old.taken → HasPast new → IsBehind s old → IsBehind s new
+behind_as : (s : Canon) (old new : World) → new.server ≡ old.server → new.to_server ≡ old.to_server → new.typed ≡ old.typed → new.taken ≡ old.taken
+    → HasPast new → IsBehind s old → IsBehind s new
 behind_as s old new a b c d sound h =
-    let Goes : List Entry → List ℕ → server.End → Type 0 = λ taken typed end. IsPrefixOf (taken ++ (read_all s (server_core end) (server_items h.items)).waiting) (local_entries s typed) in
+    let Goes : List Entry → List ℕ → server.End → Type 0 = λ taken typed end.
+    IsPrefixOf (taken ++ (read_all s (server_core end) (server_items h.items)).waiting) (local_entries s typed) in
     record {
       items = h.items;
       flight =
           subst (λ (x : List ℕ). InFlight new.server.decoder x h.items) (sym b)
           (subst (λ (e : server.End). InFlight e.decoder old.to_server h.items) (sym a) h.flight);
       calm = h.calm;
-      begins = subst (λ x. Goes x new.typed new.server) (sym d) (subst (λ x. Goes old.taken x new.server) (sym c) (subst (λ x. Goes old.taken old.typed x) (sym a) h.begins));
+      begins = subst (λ x. Goes x new.typed new.server) (sym d) (subst (λ x. Goes old.taken x new.server) (sym c)
+          (subst (λ x. Goes old.taken old.typed x) (sym a) h.begins));
       server = subst (λ (e : server.End). ServerStays s e) (sym a) h.server;
       past = sound;
     }
 
 -- reading in two parts
-read_two : (s : Canon) (v : Server) (all xs ys : List Item) → all ≡ xs ++ ys → read_all s v (server_items all) ≡ read_all s (read_all s v (server_items xs)) (server_items ys)
+read_two : (s : Canon) (v : Server) (all xs ys : List Item) → all ≡ xs ++ ys
+    → read_all s v (server_items all) ≡ read_all s (read_all s v (server_items xs)) (server_items ys)
 read_two s v all xs ys is =
     ap (λ x. read_all s v x) (ap server_items is ∙ map-append server_item xs ys)
     ∙ read_all-append s v (server_items xs) (server_items ys)
@@ -138,7 +150,8 @@ behind_reaches s old new n runs sound t h =
       flight = subst (λ (x : List ℕ). InFlight new.server.decoder x d.left) (ap (λ (w : World). w.to_server) (sym t.rest)) d.flight;
       calm = calm.1;
       begins =
-          subst (λ (w : World). IsPrefixOf (w.taken ++ (read_all s (server_core new.server) (server_items d.left)).waiting) (local_entries s w.typed)) (sym t.rest)
+          subst (λ (w : World). IsPrefixOf (w.taken ++ (read_all s (server_core new.server) (server_items d.left)).waiting) (local_entries s w.typed))
+          (sym t.rest)
           (subst (λ (v : Server). IsPrefixOf (old.taken ++ v.waiting) (local_entries s old.typed)) same h.begins);
       server = feeds_stays s h.past.history old.server new.server (take n old.to_server) old.to_client new.to_client h.past.server h.server runs f fit calm.0;
       past = sound;
@@ -155,7 +168,8 @@ behind_asks s old new e plain sound t h =
           (subst (λ d. InFlight d old.to_server h.items) (sym t.keeps.decoder) h.flight);
       calm = h.calm;
       begins =
-          subst (λ (w : World). IsPrefixOf (w.taken ++ (read_all s (server_core new.server) (server_items h.items)).waiting) (local_entries s w.typed)) (sym t.rest)
+          subst (λ (w : World). IsPrefixOf (w.taken ++ (read_all s (server_core new.server) (server_items h.items)).waiting) (local_entries s w.typed))
+          (sym t.rest)
           (subst (λ (v : Server). IsPrefixOf (old.taken ++ (read_all s v (server_items h.items)).waiting) (local_entries s old.typed)) (sym core) h.begins);
       server = says_stays s h.past.history old.server new.server e old.to_client new.to_client (calls e plain) h.past.server h.server t.goes;
       past = sound;
@@ -165,7 +179,8 @@ behind_asks s old new e plain sound t h =
 behind_takes : (s : Canon) (old new : World) → HasPast new → TakesEntry old new → IsBehind s old → IsBehind s new
 behind_takes s old new sound t h =
     let items = server_items h.items in
-    let first = took_core h.past.history old.server new.server old.to_client new.to_client t.entry h.past.server t.goes t.keeps (t.is_first h.past.history h.past.server) in
+    let first = took_core h.past.history old.server new.server old.to_client new.to_client t.entry h.past.server t.goes t.keeps
+    (t.is_first h.past.history h.past.server) in
     let side = taken-waits s (server_picture old.server) (server_picture new.server) old.taken (option_to_list t.entry) items first in
     record {
       items = h.items;
@@ -182,15 +197,18 @@ behind_takes s old new sound t h =
 
 -- A REFUSED DELIVERY
 -- the items of a prefix of a piece are the first of those in flight
-front_at : (old new : DecoderState) (n : ℕ) (flight front back : List ℕ) (items got : List Item) → InFlight old flight items → take n flight ≡ front ++ back → Advances old front got new → (left : List Item) × (items ≡ got ++ left)
+front_at : (old new : DecoderState) (n : ℕ) (flight front back : List ℕ) (items got : List Item) → InFlight old flight items → take n flight ≡ front ++ back
+    → Advances old front got new → (left : List Item) × (items ≡ got ++ left)
 front_at old new n flight front back items got f is adds =
     let whole : flight ≡ front ++ (back ++ drop n flight) =
     sym (take-append-drop n flight) ∙ ap (λ x. x ++ drop n flight) is ∙ append_assoc front back (drop n flight) in
-    let d = delivers old new f.stream front (back ++ drop n flight) f.had got items f.has_read adds (subst (λ x. Reading (f.stream ++ x) (f.had ++ items) []) whole f.reads) in
+    let d = delivers old new f.stream front (back ++ drop n flight) f.had got items f.has_read adds
+    (subst (λ x. Reading (f.stream ++ x) (f.had ++ items) []) whole f.reads) in
     (d.left, d.all)
 
 -- the server fails: those of its items that were done are the first of those in flight
-halted : (s : Canon) (old new : World) (n : ℕ) (fault : ServerFault) → old.server.failed ≡ false → ServerRefusesDelivery old n fault new → IsBehind s old → server.StopsWithin old.server (take n old.to_server) fault old.to_client new.to_client new.server → Begins s new
+halted : (s : Canon) (old new : World) (n : ℕ) (fault : ServerFault) → old.server.failed ≡ false → ServerRefusesDelivery old n fault new → IsBehind s old
+    → server.StopsWithin old.server (take n old.to_server) fault old.to_client new.to_client new.server → Begins s new
 halted s old new n fault runs r h x =
     let v = server_core old.server in
     let f = front_at old.server.decoder x.here n old.to_server x.front x.back h.items (x.done ++ x.left) h.flight x.whole x.reads in
@@ -199,7 +217,8 @@ halted s old new n fault runs r h x =
     let calm = (all_parts (IsCalmToServer s.settings) x.done (x.left ++ f.0) (subst (λ l. All (IsCalmToServer s.settings) l) all h.calm)).0 in
     let here = read_all s v (server_items x.done) in
     let there = read_all s here (server_items (x.left ++ f.0)) in
-    let waits : new.server.terminal.entries ≡ here.waiting = stops_waiting s h.past.history old.server new.server x.done h.past.server h.server runs (x.leads h.past.history h.past.server) fit calm in
+    let waits : new.server.terminal.entries ≡ here.waiting = stops_waiting s h.past.history old.server new.server x.done h.past.server h.server runs
+    (x.leads h.past.history h.past.server) fit calm in
     let begins : IsPrefixOf (old.taken ++ there.waiting) (local_entries s old.typed) =
     subst (λ (u : Server). IsPrefixOf (old.taken ++ u.waiting) (local_entries s old.typed)) (read_two s v h.items x.done (x.left ++ f.0) all) h.begins in
     subst (λ (w : World). IsPrefixOf (w.taken ++ new.server.terminal.entries) (local_entries s w.typed)) (sym r.rest)
@@ -207,7 +226,8 @@ halted s old new n fault runs r h x =
     (prefix_trans (old.taken ++ here.waiting) (old.taken ++ there.waiting) (local_entries s old.typed)
     (prefix_after old.taken here.waiting there.waiting (read-more s here (server_items (x.left ++ f.0)))) begins))
 
-behind_halts : (s : Canon) (old new : World) (n : ℕ) (fault : ServerFault) → old.server.failed ≡ false → ServerRefusesDelivery old n fault new → IsBehind s old → Begins s new
+behind_halts : (s : Canon) (old new : World) (n : ℕ) (fault : ServerFault) → old.server.failed ≡ false → ServerRefusesDelivery old n fault new → IsBehind s old
+    → Begins s new
 behind_halts s old new n fault runs r h = by_fault fault refl
   where
     by_fault : (f : ServerFault) → fault ≡ f → Begins s new
@@ -218,7 +238,8 @@ behind_halts s old new n fault runs r h = by_fault fault refl
     by_fault server_faults.NotOn is = absurd (subst IsOfPiece is r.is_fault)
 
 -- the client fails: what it said begins what the items of the piece make it say, and reading more only adds entries
-pub behind_breaks : (s : Canon) (old new : World) (n : ℕ) (fault : ClientFault) → NoneFailed old → ClientRefusesDelivery old n fault new → IsRelated s old → IsBehind s new
+pub behind_breaks : (s : Canon) (old new : World) (n : ℕ) (fault : ClientFault) → NoneFailed old → ClientRefusesDelivery old n fault new → IsRelated s old
+    → IsBehind s new
 behind_breaks s old new n fault none r h =
     let x = r.breaks (memory_is old.client.failed fault r.is_fault none.1) in
     let c = h.past.client_course none.1 in
@@ -229,7 +250,8 @@ behind_breaks s old new n fault none r h =
     let said = x.said ++ x.part in
     let f = front_at old.client.decoder x.here n old.to_client x.front x.back h.tied.messages got h.tied.back x.whole x.reads in
     let calm = (all_parts (IsCalmToClient s.settings) got f.0 (subst (λ l. All (IsCalmToClient s.settings) l) f.1 h.tied.calm_back)).0 in
-    let w = stops_done s at.history old.client (take n old.to_client) old.to_server new.to_server old.shown new.shown bytes had at.leads at.reads h.client none.1 x calm in
+    let w = stops_done s at.history old.client (take n old.to_client) old.to_server new.to_server old.shown new.shown bytes had at.leads at.reads h.client
+    none.1 x calm in
     let fit = breaks_fit at.history old.client (take n old.to_client) old.to_server new.to_server old.shown new.shown bytes had at.leads at.reads x in
     let hushed = (all_parts (IsCalmToServer s.settings) said w.rest (subst (λ l. All (IsCalmToServer s.settings) l) w.whole w.writes.calm)).0 in
     let v = read_all s (server_core old.server) (server_items h.tied.items) in
@@ -243,7 +265,8 @@ behind_breaks s old new n fault none r h =
     (all-agree s old.typed old.taken v (client_core old.client) got h.tied.agrees calm) in
     let end : new.server ≡ old.server = ap (λ (u : World). u.server) r.rest in
     let begins : IsPrefixOf (old.taken ++ (read_all s (server_core old.server) (server_items (h.tied.items ++ said))).waiting) (local_entries s old.typed) =
-    subst (λ (u : Server). IsPrefixOf (old.taken ++ u.waiting) (local_entries s old.typed)) (sym (read_two s (server_core old.server) (h.tied.items ++ said) h.tied.items said refl))
+    subst (λ (u : Server). IsPrefixOf (old.taken ++ u.waiting) (local_entries s old.typed))
+    (sym (read_two s (server_core old.server) (h.tied.items ++ said) h.tied.items said refl))
     (prefix_trans (old.taken ++ here.waiting) (old.taken ++ there.waiting) (local_entries s old.typed)
     (prefix_after old.taken here.waiting there.waiting (read-more s here (server_items w.rest)))
     (prefix_same (old.taken ++ there.waiting) (local_entries s old.typed) made)) in
@@ -254,42 +277,55 @@ behind_breaks s old new n fault none r h =
           (said_behind old.server.decoder old.to_server new.to_server h.tied.items said x.appended fit h.tied.flight);
       calm = All-append (IsCalmToServer s.settings) h.tied.items said h.tied.calm hushed;
       begins =
-          subst (λ (u : World). IsPrefixOf (u.taken ++ (read_all s (server_core u.server) (server_items (h.tied.items ++ said))).waiting) (local_entries s u.typed)) (sym r.rest) begins;
+          subst (λ (u : World). IsPrefixOf (u.taken ++ (read_all s (server_core u.server) (server_items (h.tied.items ++ said))).waiting)
+          (local_entries s u.typed)) (sym r.rest) begins;
       server = subst (λ (e : server.End). ServerStays s e) (sym end) h.server;
       past = sound_breaks old new n fault r h.past;
     }
 
 -- EACH EVENT, once the client has failed
-behind_unless : (s : Canon) (stopped : Bool) (old new : World) (happens : Type 0) → HasPast new → (happens → IsBehind s new) → UnlessStopped stopped old new happens → IsBehind s old → IsBehind s new
+behind_unless : (s : Canon) (stopped : Bool) (old new : World) (happens : Type 0) → HasPast new → (happens → IsBehind s new)
+    → UnlessStopped stopped old new happens → IsBehind s old → IsBehind s new
 behind_unless s true old new happens sound done is h = subst (λ w. IsBehind s w) (sym is) h
 behind_unless s false old new happens sound done is h = done is
 
 gone_silent : (s : Canon) (old new : World) → old.client.failed ≡ true → old.client.failed ≡ false → IsBehind s new
 gone_silent s old new failed runs = opposite old.client.failed (IsBehind s new) failed runs
 
-behind_does : (s : Canon) (old new : World) (e : Event) → old.server.failed ≡ false → old.client.failed ≡ true → HasPast new → IsQuietEvent old e → RunsEvent old e new → IsBehind s old → IsBehind s new
+behind_does : (s : Canon) (old new : World) (e : Event) → old.server.failed ≡ false → old.client.failed ≡ true → HasPast new → IsQuietEvent old e
+    → RunsEvent old e new → IsBehind s old → IsBehind s new
 behind_does s old new (Key key) runs failed sound quiet d h =
     behind_unless s old.client_stopped old new (TypesKey old key new) sound (λ t. gone_silent s old new failed (call_goes_on old.client t.accepted)) d h
 behind_does s old new (Send command) runs failed sound quiet d h =
     behind_unless s old.client_stopped old new (SendsCommand old command new) sound (λ t. gone_silent s old new failed (call_goes_on old.client t.accepted)) d h
-behind_does s old new (ToServer n) runs failed sound quiet d h = behind_unless s old.server_stopped old new (DeliversToServer old n new) sound (λ t. behind_reaches s old new n runs sound t h) d h
+behind_does s old new (ToServer n) runs failed sound quiet d h =
+    behind_unless s old.server_stopped old new (DeliversToServer old n new) sound (λ t. behind_reaches s old new n runs sound t h) d h
 behind_does s old new (ToClient n) runs failed sound quiet d h =
     behind_unless s old.client_stopped old new (DeliversToClient old n new) sound (λ t. gone_silent s old new failed (call_goes_on old.client t.accepted)) d h
-behind_does s old new (Write bytes) runs failed sound quiet d h = behind_unless s old.server_stopped old new (CallsServer old (server_calls.wrote bytes) new) sound (λ t. behind_asks s old new (server_calls.wrote bytes) tt sound t h) d h
+behind_does s old new (Write bytes) runs failed sound quiet d h =
+    behind_unless s old.server_stopped old new (CallsServer old (server_calls.wrote bytes) new) sound
+    (λ t. behind_asks s old new (server_calls.wrote bytes) tt sound t h) d h
 behind_does s old new (Pull n) runs failed sound quiet d h =
     behind_unless s old.server_stopped old new (Pulls old n new) sound (λ p. behind_asks s old new (server_calls.pulled p.count) tt sound p.asks h) d h
 behind_does s old new Take runs failed sound quiet d h = behind_takes s old new sound d h
-behind_does s old new (Wish editing) runs failed sound quiet d h = behind_unless s old.server_stopped old new (CallsServer old (server_calls.wished editing) new) sound (λ t. behind_asks s old new (server_calls.wished editing) tt sound t h) d h
+behind_does s old new (Wish editing) runs failed sound quiet d h =
+    behind_unless s old.server_stopped old new (CallsServer old (server_calls.wished editing) new) sound
+    (λ t. behind_asks s old new (server_calls.wished editing) tt sound t h) d h
 behind_does s old new (Resize width height) runs failed sound quiet d h =
-    behind_unless s old.client_stopped old new (CallsClient old (client_calls.resized width height) new) sound (λ t. gone_silent s old new failed (call_goes_on old.client t.accepted)) d h
+    behind_unless s old.client_stopped old new (CallsClient old (client_calls.resized width height) new) sound
+    (λ t. gone_silent s old new failed (call_goes_on old.client t.accepted)) d h
 behind_does s old new (SetChar func value) runs failed sound quiet d h = absurd quiet
 behind_does s old new (Propose func value) runs failed sound quiet d h = absurd quiet
-behind_does s old new (Echo on) runs failed sound quiet d h = behind_unless s old.server_stopped old new (CallsServer old (server_calls.echo_set on) new) sound (λ t. behind_asks s old new (server_calls.echo_set on) tt sound t h) d h
-behind_does s old new (Mask mask) runs failed sound quiet d h = behind_unless s old.server_stopped old new (CallsServer old (server_calls.mask_set mask) new) sound (λ t. behind_asks s old new (server_calls.mask_set mask) tt sound t h) d h
+behind_does s old new (Echo on) runs failed sound quiet d h = behind_unless s old.server_stopped old new (CallsServer old (server_calls.echo_set on) new) sound
+    (λ t. behind_asks s old new (server_calls.echo_set on) tt sound t h) d h
+behind_does s old new (Mask mask) runs failed sound quiet d h = behind_unless s old.server_stopped old new
+    (CallsServer old (server_calls.mask_set mask) new) sound (λ t. behind_asks s old new (server_calls.mask_set mask) tt sound t h) d h
 behind_does s old new ServerStops runs failed sound quiet d h =
-    behind_as s old new (ap (λ (w : World). w.server) d) (ap (λ (w : World). w.to_server) d) (ap (λ (w : World). w.typed) d) (ap (λ (w : World). w.taken) d) sound h
+    behind_as s old new (ap (λ (w : World). w.server) d) (ap (λ (w : World). w.to_server) d) (ap (λ (w : World). w.typed) d)
+    (ap (λ (w : World). w.taken) d) sound h
 behind_does s old new ClientStops runs failed sound quiet d h =
-    behind_as s old new (ap (λ (w : World). w.server) d) (ap (λ (w : World). w.to_server) d) (ap (λ (w : World). w.typed) d) (ap (λ (w : World). w.taken) d) sound h
+    behind_as s old new (ap (λ (w : World). w.server) d) (ap (λ (w : World). w.to_server) d) (ap (λ (w : World). w.typed) d)
+    (ap (λ (w : World). w.taken) d) sound h
 
 -- EACH EVENT, once the server has failed: no entry is made any more
 begins_as : (s : Canon) (old new : World) → entries_made new ≡ entries_made old → new.typed ≡ old.typed → Begins s old → Begins s new
@@ -297,7 +333,8 @@ begins_as s old new a b p =
     subst (λ (es : List Entry). IsPrefixOf es (local_entries s new.typed)) (sym a)
     (subst (λ (keys : List ℕ). IsPrefixOf (entries_made old) (local_entries s keys)) (sym b) p)
 
-begins_unless : (s : Canon) (stopped : Bool) (old new : World) (happens : Type 0) → (happens → Begins s new) → UnlessStopped stopped old new happens → Begins s old → Begins s new
+begins_unless : (s : Canon) (stopped : Bool) (old new : World) (happens : Type 0) → (happens → Begins s new) → UnlessStopped stopped old new happens
+    → Begins s old → Begins s new
 begins_unless s true old new happens done is p = subst (λ w. Begins s w) (sym is) p
 begins_unless s false old new happens done is p = done is
 
@@ -327,29 +364,41 @@ begins_asks s old new e plain sound t p =
 
 begins_takes : (s : Canon) (old new : World) → HasPast old → TakesEntry old new → Begins s old → Begins s new
 begins_takes s old new sound t p =
-    let first = took_core sound.history old.server new.server old.to_client new.to_client t.entry sound.server t.goes t.keeps (t.is_first sound.history sound.server) in
+    let first = took_core sound.history old.server new.server old.to_client new.to_client t.entry sound.server t.goes t.keeps
+    (t.is_first sound.history sound.server) in
     begins_as s old new
     (ap (λ (w : World). w.taken ++ new.server.terminal.entries) t.rest
     ∙ taken-waits s (server_picture old.server) (server_picture new.server) old.taken (option_to_list t.entry) [] first)
     (ap (λ (w : World). w.typed) t.rest) p
 
-begins_does : (s : Canon) (old new : World) (e : Event) → old.server.failed ≡ true → HasPast old → IsQuietEvent old e → RunsEvent old e new → Begins s old → Begins s new
-begins_does s old new (Key key) failed sound quiet d p = begins_unless s old.client_stopped old new (TypesKey old key new) (λ t. begins_types s old new key t p) d p
-begins_does s old new (Send command) failed sound quiet d p = begins_unless s old.client_stopped old new (SendsCommand old command new) (λ t. begins_sends s old new command t p) d p
+begins_does : (s : Canon) (old new : World) (e : Event) → old.server.failed ≡ true → HasPast old → IsQuietEvent old e → RunsEvent old e new → Begins s old
+    → Begins s new
+begins_does s old new (Key key) failed sound quiet d p = begins_unless s old.client_stopped old new (TypesKey old key new)
+    (λ t. begins_types s old new key t p) d p
+begins_does s old new (Send command) failed sound quiet d p = begins_unless s old.client_stopped old new (SendsCommand old command new)
+    (λ t. begins_sends s old new command t p) d p
 begins_does s old new (ToServer n) failed sound quiet d p =
-    begins_unless s old.server_stopped old new (DeliversToServer old n new) (λ t. opposite old.server.failed (Begins s new) failed (server_goes_on old.server t.accepted)) d p
+    begins_unless s old.server_stopped old new (DeliversToServer old n new)
+    (λ t. opposite old.server.failed (Begins s new) failed (server_goes_on old.server t.accepted)) d p
 begins_does s old new (ToClient n) failed sound quiet d p =
-    begins_unless s old.client_stopped old new (DeliversToClient old n new) (λ t. begins_as s old new (ap entries_made t.rest) (ap (λ (w : World). w.typed) t.rest) p) d p
-begins_does s old new (Write bytes) failed sound quiet d p = begins_unless s old.server_stopped old new (CallsServer old (server_calls.wrote bytes) new) (λ t. begins_asks s old new (server_calls.wrote bytes) tt sound t p) d p
-begins_does s old new (Pull n) failed sound quiet d p = begins_unless s old.server_stopped old new (Pulls old n new) (λ q. begins_asks s old new (server_calls.pulled q.count) tt sound q.asks p) d p
+    begins_unless s old.client_stopped old new (DeliversToClient old n new)
+    (λ t. begins_as s old new (ap entries_made t.rest) (ap (λ (w : World). w.typed) t.rest) p) d p
+begins_does s old new (Write bytes) failed sound quiet d p = begins_unless s old.server_stopped old new (CallsServer old (server_calls.wrote bytes) new)
+    (λ t. begins_asks s old new (server_calls.wrote bytes) tt sound t p) d p
+begins_does s old new (Pull n) failed sound quiet d p = begins_unless s old.server_stopped old new (Pulls old n new)
+    (λ q. begins_asks s old new (server_calls.pulled q.count) tt sound q.asks p) d p
 begins_does s old new Take failed sound quiet d p = begins_takes s old new sound d p
-begins_does s old new (Wish editing) failed sound quiet d p = begins_unless s old.server_stopped old new (CallsServer old (server_calls.wished editing) new) (λ t. begins_asks s old new (server_calls.wished editing) tt sound t p) d p
+begins_does s old new (Wish editing) failed sound quiet d p = begins_unless s old.server_stopped old new (CallsServer old (server_calls.wished editing) new)
+    (λ t. begins_asks s old new (server_calls.wished editing) tt sound t p) d p
 begins_does s old new (Resize width height) failed sound quiet d p =
-    begins_unless s old.client_stopped old new (CallsClient old (client_calls.resized width height) new) (λ t. begins_as s old new (ap entries_made t.rest) (ap (λ (w : World). w.typed) t.rest) p) d p
+    begins_unless s old.client_stopped old new (CallsClient old (client_calls.resized width height) new)
+    (λ t. begins_as s old new (ap entries_made t.rest) (ap (λ (w : World). w.typed) t.rest) p) d p
 begins_does s old new (SetChar func value) failed sound quiet d p = absurd quiet
 begins_does s old new (Propose func value) failed sound quiet d p = absurd quiet
-begins_does s old new (Echo on) failed sound quiet d p = begins_unless s old.server_stopped old new (CallsServer old (server_calls.echo_set on) new) (λ t. begins_asks s old new (server_calls.echo_set on) tt sound t p) d p
-begins_does s old new (Mask mask) failed sound quiet d p = begins_unless s old.server_stopped old new (CallsServer old (server_calls.mask_set mask) new) (λ t. begins_asks s old new (server_calls.mask_set mask) tt sound t p) d p
+begins_does s old new (Echo on) failed sound quiet d p = begins_unless s old.server_stopped old new (CallsServer old (server_calls.echo_set on) new)
+    (λ t. begins_asks s old new (server_calls.echo_set on) tt sound t p) d p
+begins_does s old new (Mask mask) failed sound quiet d p = begins_unless s old.server_stopped old new (CallsServer old (server_calls.mask_set mask) new)
+    (λ t. begins_asks s old new (server_calls.mask_set mask) tt sound t p) d p
 begins_does s old new ServerStops failed sound quiet d p = begins_as s old new (ap entries_made d) (ap (λ (w : World). w.typed) d) p
 begins_does s old new ClientStops failed sound quiet d p = begins_as s old new (ap entries_made d) (ap (λ (w : World). w.typed) d) p
 
@@ -377,7 +426,8 @@ stage_does s old new e quiet d (over failed sound p) =
 
 -- the server is refused a delivery
 stage_halts : (s : Canon) (old new : World) (n : ℕ) (fault : ServerFault) → ServerRefusesDelivery old n fault new → Stage s old → Stage s new
-stage_halts s old new n fault r (both none h) = over r.failed (sound_halts old new n fault r h.past) (behind_halts s old new n fault none.0 r (related_behind s old h))
+stage_halts s old new n fault r (both none h) = over r.failed (sound_halts old new n fault r h.past)
+    (behind_halts s old new n fault none.0 r (related_behind s old h))
 stage_halts s old new n fault r (silent runs failed h) = over r.failed (sound_halts old new n fault r h.past) (behind_halts s old new n fault runs r h)
 stage_halts s old new n fault r (over failed sound p) =
     let same = (r.again (r.first failed)).1 in
@@ -385,13 +435,16 @@ stage_halts s old new n fault r (over failed sound p) =
 
 -- and the client
 stage_breaks : (s : Canon) (old new : World) (n : ℕ) (fault : ClientFault) → ClientRefusesDelivery old n fault new → Stage s old → Stage s new
-stage_breaks s old new n fault r (both none h) = silent (ap (λ (w : World). w.server.failed) r.rest ∙ none.0) r.failed (behind_breaks s old new n fault none r h)
+stage_breaks s old new n fault r (both none h) = silent (ap (λ (w : World). w.server.failed) r.rest ∙ none.0) r.failed
+    (behind_breaks s old new n fault none r h)
 stage_breaks s old new n fault r (silent runs failed h) =
     let same = r.again (client_fault_is old.client.failed fault r.is_fault failed) in
     silent (ap (λ (w : World). w.server.failed) r.rest ∙ runs) r.failed
-    (behind_as s old new (ap (λ (w : World). w.server) same) (ap (λ (w : World). w.to_server) same) (ap (λ (w : World). w.typed) same) (ap (λ (w : World). w.taken) same) (sound_breaks old new n fault r h.past) h)
+    (behind_as s old new (ap (λ (w : World). w.server) same) (ap (λ (w : World). w.to_server) same) (ap (λ (w : World). w.typed) same)
+    (ap (λ (w : World). w.taken) same) (sound_breaks old new n fault r h.past) h)
 stage_breaks s old new n fault r (over failed sound p) =
-    over (ap (λ (w : World). w.server.failed) r.rest ∙ failed) (sound_breaks old new n fault r sound) (begins_as s old new (ap entries_made r.rest) (ap (λ (w : World). w.typed) r.rest) p)
+    over (ap (λ (w : World). w.server.failed) r.rest ∙ failed) (sound_breaks old new n fault r sound)
+    (begins_as s old new (ap entries_made r.rest) (ap (λ (w : World). w.typed) r.rest) p)
 
 stage_refused : (s : Canon) (old new : World) (e : Event) → Refusal old e new → Stage s old → Stage s new
 stage_refused s old new e (unchanged is) a = subst (λ w. Stage s w) (sym is) a

@@ -1,5 +1,6 @@
 -- From a settled moment at rest the relation of the ends holds after every quiet list of events at which no end failed.
-use Rattle.std.proofs.Common.{◌≡◌, inl, inr, ℕ, Bool, true, false, Option, Some, None, List, [], ◌∷◌, ◌++◌, take, drop, flat_map, refl, sym, ap, ◌∙◌, subst, append-nil}
+use Rattle.std.proofs.Common.{◌≡◌, inl, inr, ℕ, Bool, true, false, Option, Some, None, List, [], ◌∷◌, ◌++◌, take, drop, flat_map, refl, sym, ap, ◌∙◌, subst}
+use Rattle.std.proofs.Common.{append-nil}
 use Rattle.std.specs.Prelude.{All, option_to_list}
 use Rattle.std.proofs.lemmas.List.Elements.{All-nil, All-cons}
 use Rattle.tn_discipline.specs.Canon.{Canon}
@@ -27,12 +28,15 @@ use Rattle.tn_world.specs.Headline.{RunsQuietly, IsQuietEvent, PassesQuietly, No
 use Rattle.tn_world.specs.relation.Calm.{IsCalmToServer, IsCalmToClient}
 use Rattle.tn_world.specs.relation.Ends as ends
 use Rattle.tn_world.specs.relation.Machine as machine
-use Rattle.tn_world.specs.relation.Ends.{AreReplies, ServerFeeds, ServerSays, TakesFirst, SaysItems, ClientKeys, client_after_messages, ClientFeeds, ClientSays, server_items, client_messages, Happens}
+use Rattle.tn_world.specs.relation.Ends.{AreReplies, ServerFeeds, ServerSays, TakesFirst, SaysItems, ClientKeys, client_after_messages, ClientFeeds, ClientSays}
+use Rattle.tn_world.specs.relation.Ends.{server_items, client_messages, Happens}
 use Rattle.tn_world.specs.Flight.{InFlight}
 use Rattle.tn_world.specs.relation.Pictures.{server_core, server_picture, client_picture, ServerStays, ClientStays}
-use Rattle.tn_world.specs.Worlds.{World, canon_of, UnlessStopped, TypesKey, key_sent, SendsCommand, CallsClient, DeliversToServer, DeliversToClient, CallsServer, Pulls, TakesEntry, RunsEvent, Refuses}
+use Rattle.tn_world.specs.Worlds.{World, canon_of, UnlessStopped, TypesKey, key_sent, SendsCommand, CallsClient, DeliversToServer, DeliversToClient}
+use Rattle.tn_world.specs.Worlds.{CallsServer, Pulls, TakesEntry, RunsEvent, Refuses}
 use Rattle.tn_world.specs.declared.events.Event.{Event}
-use Rattle.tn_world.specs.declared.events.Event.TheVariants.{Key, Send, ToServer, ToClient, Write, Pull, Take, Wish, Resize, SetChar, Propose, Echo, Mask, ServerStops, ClientStops}
+use Rattle.tn_world.specs.declared.events.Event.TheVariants.{Key, Send, ToServer, ToClient, Write, Pull, Take, Wish, Resize, SetChar, Propose, Echo, Mask}
+use Rattle.tn_world.specs.declared.events.Event.TheVariants.{ServerStops, ClientStops}
 use Rattle.tn_world.specs.declared.faults.Cause.{Cause}
 use Rattle.tn_world.proofs.ClientSteps as client_steps
 use Rattle.tn_world.proofs.ServerSteps as server_steps
@@ -72,13 +76,15 @@ flight_fits d flight items f = (all_parts Fits f.had items (reading_fits (f.stre
 holds_types : (s : Canon) (old new : World) (key : ℕ) → NoneFailed old → HasPast new → TypesKey old key new → IsRelated s old → IsRelated s new
 holds_types s old new key none sound t h =
     let c = (h.past.client_course none.1).1 in
-    let k = client_steps.keys_done s c.history old.client new.client key old.to_server new.to_server c.leads h.client h.tied.agrees.askable none.1 t.goes t.keeps t.sends in
+    let k = client_steps.keys_done s c.history old.client new.client key old.to_server new.to_server c.leads h.client h.tied.agrees.askable none.1 t.goes
+    t.keeps t.sends in
     record {
       tied = happens-tied s (picture old) (picture new) (ends.key key) (
         client_picture new.client,
         t.sends.said,
         k,
-        ap picture t.rest ∙ ap (λ x. record (picture old) { typed = old.typed ++ key ∷ []; client = client_picture new.client; to_server = x }) t.sends.appended,
+        ap picture t.rest ∙ ap (λ x. record (picture old) { typed = old.typed ++ key ∷ []; client = client_picture new.client; to_server = x })
+            t.sends.appended,
       ) h.tied;
       server = subst (λ (w : World). ServerStays s w.server) (sym t.rest) h.server;
       client = client_steps.keys_stay s c.history old.client new.client key c.leads h.client t.goes;
@@ -94,7 +100,9 @@ role_kept s w key past k =
     ap (λ (c : Characters). role_of_key (record { flags = now.flags; chars = c }) key) chars
     ∙ ap (λ (f : Flags). role_of_key (record { flags = f; chars = s.settings.chars }) key) k.flags
 
-holds_interrupts : (s : Canon) (old new : World) (sending : UserCommand) (key : ℕ) → NoneFailed old → HasPast new → SendsCommand old sending new → key_sent old sending ≡ Some key → role_of_key (canon_of old).settings key ≡ role.Signal Int → SaysItems s (machine.command command.Ip ∷ []) (Cmd (command_sent sending) ∷ []) → IsRelated s old → IsRelated s new
+holds_interrupts : (s : Canon) (old new : World) (sending : UserCommand) (key : ℕ) → NoneFailed old → HasPast new → SendsCommand old sending new
+    → key_sent old sending ≡ Some key → role_of_key (canon_of old).settings key ≡ role.Signal Int
+    → SaysItems s (machine.command command.Ip ∷ []) (Cmd (command_sent sending) ∷ []) → IsRelated s old → IsRelated s new
 holds_interrupts s old new sending key none sound t is interrupts writes h =
     let c = (h.past.client_course none.1).1 in
     record {
@@ -107,7 +115,11 @@ holds_interrupts s old new sending key none sound t is interrupts writes h =
           writes = client_steps.sent_says s c.history old.client sending (machine.command command.Ip ∷ []) old.to_server new.to_server c.leads t.sends writes;
         },
         ap picture t.rest
-            ∙ ap (λ (k : Option ℕ). record (picture old) { typed = old.typed ++ option_to_list k; client = client_picture new.client; to_server = new.to_server }) is
+            ∙ ap (λ (k : Option ℕ). record (picture old) {
+              typed = old.typed ++ option_to_list k;
+              client = client_picture new.client;
+              to_server = new.to_server;
+            }) is
             ∙ ap (λ x. record (picture old) { typed = old.typed ++ key ∷ []; client = client_picture new.client; to_server = x }) t.sends.appended,
       ) h.tied;
       server = subst (λ (w : World). ServerStays s w.server) (sym t.rest) h.server;
@@ -116,7 +128,8 @@ holds_interrupts s old new sending key none sound t is interrupts writes h =
     }
 
 -- a command that is no input
-holds_asides : (s : Canon) (old new : World) (command : UserCommand) → NoneFailed old → HasPast new → SendsCommand old command new → key_sent old command ≡ None → SaysItems s [] (Cmd (command_sent command) ∷ []) → IsRelated s old → IsRelated s new
+holds_asides : (s : Canon) (old new : World) (command : UserCommand) → NoneFailed old → HasPast new → SendsCommand old command new → key_sent old command ≡ None
+    → SaysItems s [] (Cmd (command_sent command) ∷ []) → IsRelated s old → IsRelated s new
 holds_asides s old new sending none sound t is writes h =
     let c = (h.past.client_course none.1).1 in
     record {
@@ -128,7 +141,11 @@ holds_asides s old new sending none sound t is writes h =
           writes = client_steps.sent_says s c.history old.client sending [] old.to_server new.to_server c.leads t.sends writes;
         },
         ap picture t.rest
-            ∙ ap (λ (k : Option ℕ). record (picture old) { typed = old.typed ++ option_to_list k; client = client_picture new.client; to_server = new.to_server }) is
+            ∙ ap (λ (k : Option ℕ). record (picture old) {
+              typed = old.typed ++ option_to_list k;
+              client = client_picture new.client;
+              to_server = new.to_server;
+            }) is
             ∙ ap (λ x. record (picture old) { typed = x; client = client_picture new.client; to_server = new.to_server }) (append-nil old.typed)
             ∙ ap (λ x. record (picture old) { client = client_picture new.client; to_server = x }) t.sends.appended,
       ) h.tied;
@@ -137,7 +154,8 @@ holds_asides s old new sending none sound t is writes h =
       past = sound;
     }
 
-holds_sends : (s : Canon) (old new : World) (command : UserCommand) → NoneFailed old → HasPast new → IsQuietEvent old (Send command) → SendsCommand old command new → IsRelated s old → IsRelated s new
+holds_sends : (s : Canon) (old new : World) (command : UserCommand) → NoneFailed old → HasPast new → IsQuietEvent old (Send command)
+    → SendsCommand old command new → IsRelated s old → IsRelated s new
 holds_sends s old new user.Brk none sound quiet t h =
     let now = (canon_of old).settings in
     holds_interrupts s old new user.Brk quiet.0 none sound t quiet.1 (interrupts_there now now.chars.intr quiet.0 quiet.1) (client_steps.brk-writes s) h
@@ -148,7 +166,8 @@ holds_sends s old new user.Ayt none sound quiet t h = holds_asides s old new use
 holds_sends s old new user.Nop none sound quiet t h = holds_asides s old new user.Nop none sound t refl (client_steps.nop-writes s) h
 
 -- the window's size
-holds_resizes : (s : Canon) (old new : World) (width height : ℕ) → NoneFailed old → HasPast new → CallsClient old (client_calls.resized width height) new → IsRelated s old → IsRelated s new
+holds_resizes : (s : Canon) (old new : World) (width height : ℕ) → NoneFailed old → HasPast new → CallsClient old (client_calls.resized width height) new
+    → IsRelated s old → IsRelated s new
 holds_resizes s old new width height none sound t h =
     let c = (h.past.client_course none.1).1 in
     record {
@@ -172,8 +191,10 @@ holds_asks s old new e plain sound t h =
         t.goes.said,
         record {
           same = ap (λ d. record { decoder = d; core = server_core new.server }) t.keeps.decoder
-              ∙ ap (λ c. record { decoder = old.server.decoder; core = c }) (server_steps.says_core h.past.history old.server new.server e old.to_client new.to_client plain h.past.server t.goes t.keeps);
-          replies = server_steps.says_replies s h.past.history old.server new.server e old.to_client new.to_client (calls e plain) h.past.server h.server t.goes;
+              ∙ ap (λ c. record { decoder = old.server.decoder; core = c })
+              (server_steps.says_core h.past.history old.server new.server e old.to_client new.to_client plain h.past.server t.goes t.keeps);
+          replies = server_steps.says_replies s h.past.history old.server new.server e old.to_client new.to_client
+              (calls e plain) h.past.server h.server t.goes;
         },
         ap picture t.rest ∙ ap (λ x. record (picture old) { server = server_picture new.server; to_client = x }) t.goes.appended,
       ) h.tied;
@@ -190,9 +211,11 @@ holds_takes s old new sound t h =
         server_picture new.server,
         t.goes.said,
         option_to_list t.entry,
-        server_steps.took_core h.past.history old.server new.server old.to_client new.to_client t.entry h.past.server t.goes t.keeps (t.is_first h.past.history h.past.server),
+        server_steps.took_core h.past.history old.server new.server old.to_client new.to_client t.entry h.past.server t.goes t.keeps
+            (t.is_first h.past.history h.past.server),
         server_steps.says_replies s h.past.history old.server new.server server_calls.took old.to_client new.to_client tt h.past.server h.server t.goes,
-        ap picture t.rest ∙ ap (λ x. record (picture old) { taken = old.taken ++ option_to_list t.entry; server = server_picture new.server; to_client = x }) t.goes.appended,
+        ap picture t.rest ∙ ap (λ x. record (picture old) { taken = old.taken ++ option_to_list t.entry; server = server_picture new.server; to_client = x })
+            t.goes.appended,
       ) h.tied;
       server = server_steps.says_stays s h.past.history old.server new.server server_calls.took old.to_client new.to_client tt h.past.server h.server t.goes;
       client = subst (λ (w : World). ClientStays s w.client) (sym t.rest) h.client;
@@ -204,7 +227,8 @@ holds_reaches : (s : Canon) (old new : World) (n : ℕ) → NoneFailed old → H
 holds_reaches s old new n none sound t h =
     let gains = t.feeds.reads in
     let d = cut_at old.server.decoder new.server.decoder n old.to_server h.tied.items t.feeds.items h.tied.flight gains in
-    let fit = (all_parts Fits t.feeds.items d.left (subst (λ l. All Fits l) d.all (flight_fits old.server.decoder old.to_server h.tied.items h.tied.flight))).0 in
+    let fit = (all_parts Fits t.feeds.items d.left (subst (λ l. All Fits l) d.all (flight_fits old.server.decoder old.to_server h.tied.items h.tied.flight))).0
+    in
     let calm = (all_parts (IsCalmToServer s.settings) t.feeds.items d.left (subst (λ l. All (IsCalmToServer s.settings) l) d.all h.tied.calm)).0 in
     record {
       tied = happens-tied s (picture old) (picture new) (ends.to_server n) (
@@ -213,12 +237,16 @@ holds_reaches s old new n none sound t h =
         record {
           got = t.feeds.items;
           reads = gains;
-          core = server_steps.feeds_core s h.past.history old.server new.server (take n old.to_server) old.to_client new.to_client h.past.server h.server none.0 t.feeds fit calm;
-          replies = server_steps.feeds_replies s h.past.history old.server new.server (take n old.to_server) old.to_client new.to_client h.past.server h.server none.0 t.feeds fit calm;
+          core = server_steps.feeds_core s h.past.history old.server new.server
+              (take n old.to_server) old.to_client new.to_client h.past.server h.server none.0 t.feeds fit calm;
+          replies = server_steps.feeds_replies s h.past.history old.server new.server
+              (take n old.to_server) old.to_client new.to_client h.past.server h.server none.0 t.feeds fit calm;
         },
-        ap picture t.rest ∙ ap (λ x. record (picture old) { server = server_picture new.server; to_server = drop n old.to_server; to_client = x }) t.feeds.appended,
+        ap picture t.rest ∙ ap (λ x. record (picture old) { server = server_picture new.server; to_server = drop n old.to_server; to_client = x })
+            t.feeds.appended,
       ) h.tied;
-      server = server_steps.feeds_stays s h.past.history old.server new.server (take n old.to_server) old.to_client new.to_client h.past.server h.server none.0 t.feeds fit calm;
+      server = server_steps.feeds_stays s h.past.history old.server new.server
+          (take n old.to_server) old.to_client new.to_client h.past.server h.server none.0 t.feeds fit calm;
       client = subst (λ (w : World). ClientStays s w.client) (sym t.rest) h.client;
       past = sound;
     }
@@ -230,28 +258,33 @@ holds_returns s old new n none sound t h =
     let gains = t.feeds.reads in
     let d = cut_at old.client.decoder new.client.decoder n old.to_client h.tied.messages t.feeds.items h.tied.back gains in
     let calm = (all_parts (IsCalmToClient s.settings) t.feeds.items d.left (subst (λ l. All (IsCalmToClient s.settings) l) d.all h.tied.calm_back)).0 in
-    let k = client_steps.feeds_done s c.history old.client new.client (take n old.to_client) old.to_server new.to_server old.shown new.shown c.leads h.client none.1 t.feeds calm in
+    let k = client_steps.feeds_done s c.history old.client new.client
+    (take n old.to_client) old.to_server new.to_server old.shown new.shown c.leads h.client none.1 t.feeds calm in
     record {
       tied = happens-tied s (picture old) (picture new) (ends.to_client n) (
         client_picture new.client,
         t.feeds.said,
         record { got = t.feeds.items; reads = gains; core = k.0; writes = k.1 },
-        ap picture t.rest ∙ ap (λ x. record (picture old) { client = client_picture new.client; to_client = drop n old.to_client; to_server = x }) t.feeds.appended,
+        ap picture t.rest ∙ ap (λ x. record (picture old) { client = client_picture new.client; to_client = drop n old.to_client; to_server = x })
+            t.feeds.appended,
       ) h.tied;
       server = subst (λ (w : World). ServerStays s w.server) (sym t.rest) h.server;
-      client = client_steps.feeds_stay s c.history old.client new.client (take n old.to_client) old.to_server new.to_server old.shown new.shown c.leads h.client t.feeds calm;
+      client = client_steps.feeds_stay s c.history old.client new.client
+          (take n old.to_client) old.to_server new.to_server old.shown new.shown c.leads h.client t.feeds calm;
       past = sound;
     }
 
 holds_as : (s : Canon) (old new : World) → new ≡ old → IsRelated s old → IsRelated s new
 holds_as s old new is h = subst (λ w. IsRelated s w) (sym is) h
 
-unless : (s : Canon) (stopped : Bool) (old new : World) (happens : Type 0) → (happens → IsRelated s old → IsRelated s new) → UnlessStopped stopped old new happens → IsRelated s old → IsRelated s new
+unless : (s : Canon) (stopped : Bool) (old new : World) (happens : Type 0) → (happens → IsRelated s old → IsRelated s new)
+    → UnlessStopped stopped old new happens → IsRelated s old → IsRelated s new
 unless s true old new happens done is h = holds_as s old new is h
 unless s false old new happens done is h = done is h
 
 -- an end that stops changes nothing of it
-holds_stops : (s : Canon) (old new : World) (a b : Bool) → new ≡ record old { server_stopped = a; client_stopped = b } → HasPast new → IsRelated s old → IsRelated s new
+holds_stops : (s : Canon) (old new : World) (a b : Bool) → new ≡ record old { server_stopped = a; client_stopped = b } → HasPast new → IsRelated s old
+    → IsRelated s new
 holds_stops s old new a b is sound h =
     record {
       tied = subst (λ w. IsTied s (picture w)) (sym is) h.tied;
@@ -261,22 +294,30 @@ holds_stops s old new a b is sound h =
     }
 
 -- an event that is done
-pub holds_does : (s : Canon) (old new : World) (e : Event) → NoneFailed old → HasPast new → IsQuietEvent old e → RunsEvent old e new → IsRelated s old → IsRelated s new
+pub holds_does : (s : Canon) (old new : World) (e : Event) → NoneFailed old → HasPast new → IsQuietEvent old e → RunsEvent old e new → IsRelated s old
+    → IsRelated s new
 holds_does s old new (Key key) none sound quiet d h = unless s old.client_stopped old new (TypesKey old key new) (holds_types s old new key none sound) d h
-holds_does s old new (Send command) none sound quiet d h = unless s old.client_stopped old new (SendsCommand old command new) (holds_sends s old new command none sound quiet) d h
-holds_does s old new (ToServer n) none sound quiet d h = unless s old.server_stopped old new (DeliversToServer old n new) (holds_reaches s old new n none sound) d h
-holds_does s old new (ToClient n) none sound quiet d h = unless s old.client_stopped old new (DeliversToClient old n new) (holds_returns s old new n none sound) d h
-holds_does s old new (Write bytes) none sound quiet d h = unless s old.server_stopped old new (CallsServer old (server_calls.wrote bytes) new) (holds_asks s old new (server_calls.wrote bytes) tt sound) d h
+holds_does s old new (Send command) none sound quiet d h = unless s old.client_stopped old new (SendsCommand old command new)
+    (holds_sends s old new command none sound quiet) d h
+holds_does s old new (ToServer n) none sound quiet d h = unless s old.server_stopped old new (DeliversToServer old n new)
+    (holds_reaches s old new n none sound) d h
+holds_does s old new (ToClient n) none sound quiet d h = unless s old.client_stopped old new (DeliversToClient old n new)
+    (holds_returns s old new n none sound) d h
+holds_does s old new (Write bytes) none sound quiet d h = unless s old.server_stopped old new (CallsServer old (server_calls.wrote bytes) new)
+    (holds_asks s old new (server_calls.wrote bytes) tt sound) d h
 holds_does s old new (Pull n) none sound quiet d h =
     unless s old.server_stopped old new (Pulls old n new) (λ p. holds_asks s old new (server_calls.pulled p.count) tt sound p.asks) d h
 holds_does s old new Take none sound quiet d h = holds_takes s old new sound d h
-holds_does s old new (Wish editing) none sound quiet d h = unless s old.server_stopped old new (CallsServer old (server_calls.wished editing) new) (holds_asks s old new (server_calls.wished editing) tt sound) d h
+holds_does s old new (Wish editing) none sound quiet d h = unless s old.server_stopped old new (CallsServer old (server_calls.wished editing) new)
+    (holds_asks s old new (server_calls.wished editing) tt sound) d h
 holds_does s old new (Resize width height) none sound quiet d h =
     unless s old.client_stopped old new (CallsClient old (client_calls.resized width height) new) (holds_resizes s old new width height none sound) d h
 holds_does s old new (SetChar func value) none sound quiet d h = absurd (quiet)
 holds_does s old new (Propose func value) none sound quiet d h = absurd (quiet)
-holds_does s old new (Echo on) none sound quiet d h = unless s old.server_stopped old new (CallsServer old (server_calls.echo_set on) new) (holds_asks s old new (server_calls.echo_set on) tt sound) d h
-holds_does s old new (Mask mask) none sound quiet d h = unless s old.server_stopped old new (CallsServer old (server_calls.mask_set mask) new) (holds_asks s old new (server_calls.mask_set mask) tt sound) d h
+holds_does s old new (Echo on) none sound quiet d h = unless s old.server_stopped old new (CallsServer old (server_calls.echo_set on) new)
+    (holds_asks s old new (server_calls.echo_set on) tt sound) d h
+holds_does s old new (Mask mask) none sound quiet d h = unless s old.server_stopped old new (CallsServer old (server_calls.mask_set mask) new)
+    (holds_asks s old new (server_calls.mask_set mask) tt sound) d h
 holds_does s old new ServerStops none sound quiet d h = holds_stops s old new true old.client_stopped d sound h
 holds_does s old new ClientStops none sound quiet d h = holds_stops s old new old.server_stopped true d sound h
 
@@ -298,19 +339,30 @@ tells_keeps : (old new : World) (e : client_calls.Event) → CallsClient old e n
 tells_keeps old new e t = (ap (λ (w : World). w.server.failed) t.rest, t.keeps.failed)
 
 pub does_keeps : (old new : World) (e : Event) → RunsEvent old e new → FailsNone old new
-does_keeps old new (Key key) d = unless_keeps old.client_stopped old new (TypesKey old key new) (λ t. (ap (λ (w : World). w.server.failed) t.rest, t.keeps.failed)) d
-does_keeps old new (Send command) d = unless_keeps old.client_stopped old new (SendsCommand old command new) (λ t. (ap (λ (w : World). w.server.failed) t.rest, t.keeps.failed)) d
-does_keeps old new (ToServer n) d = unless_keeps old.server_stopped old new (DeliversToServer old n new) (λ t. (t.feeds.failed, ap (λ (w : World). w.client.failed) t.rest)) d
-does_keeps old new (ToClient n) d = unless_keeps old.client_stopped old new (DeliversToClient old n new) (λ t. (ap (λ (w : World). w.server.failed) t.rest, t.feeds.failed)) d
-does_keeps old new (Write bytes) d = unless_keeps old.server_stopped old new (CallsServer old (server_calls.wrote bytes) new) (asks_keeps old new (server_calls.wrote bytes)) d
+does_keeps old new (Key key) d = unless_keeps old.client_stopped old new (TypesKey old key new)
+    (λ t. (ap (λ (w : World). w.server.failed) t.rest, t.keeps.failed)) d
+does_keeps old new (Send command) d = unless_keeps old.client_stopped old new (SendsCommand old command new)
+    (λ t. (ap (λ (w : World). w.server.failed) t.rest, t.keeps.failed)) d
+does_keeps old new (ToServer n) d = unless_keeps old.server_stopped old new (DeliversToServer old n new)
+    (λ t. (t.feeds.failed, ap (λ (w : World). w.client.failed) t.rest)) d
+does_keeps old new (ToClient n) d = unless_keeps old.client_stopped old new (DeliversToClient old n new)
+    (λ t. (ap (λ (w : World). w.server.failed) t.rest, t.feeds.failed)) d
+does_keeps old new (Write bytes) d = unless_keeps old.server_stopped old new (CallsServer old (server_calls.wrote bytes) new)
+    (asks_keeps old new (server_calls.wrote bytes)) d
 does_keeps old new (Pull n) d = unless_keeps old.server_stopped old new (Pulls old n new) (λ p. asks_keeps old new (server_calls.pulled p.count) p.asks) d
 does_keeps old new Take d = (d.keeps.failed, ap (λ (w : World). w.client.failed) d.rest)
-does_keeps old new (Wish editing) d = unless_keeps old.server_stopped old new (CallsServer old (server_calls.wished editing) new) (asks_keeps old new (server_calls.wished editing)) d
-does_keeps old new (Resize width height) d = unless_keeps old.client_stopped old new (CallsClient old (client_calls.resized width height) new) (tells_keeps old new (client_calls.resized width height)) d
-does_keeps old new (SetChar func value) d = unless_keeps old.server_stopped old new (CallsServer old (server_calls.char_set func value) new) (asks_keeps old new (server_calls.char_set func value)) d
-does_keeps old new (Propose func value) d = unless_keeps old.client_stopped old new (CallsClient old (client_calls.proposed func value) new) (tells_keeps old new (client_calls.proposed func value)) d
-does_keeps old new (Echo on) d = unless_keeps old.server_stopped old new (CallsServer old (server_calls.echo_set on) new) (asks_keeps old new (server_calls.echo_set on)) d
-does_keeps old new (Mask mask) d = unless_keeps old.server_stopped old new (CallsServer old (server_calls.mask_set mask) new) (asks_keeps old new (server_calls.mask_set mask)) d
+does_keeps old new (Wish editing) d = unless_keeps old.server_stopped old new (CallsServer old (server_calls.wished editing) new)
+    (asks_keeps old new (server_calls.wished editing)) d
+does_keeps old new (Resize width height) d = unless_keeps old.client_stopped old new (CallsClient old (client_calls.resized width height) new)
+    (tells_keeps old new (client_calls.resized width height)) d
+does_keeps old new (SetChar func value) d = unless_keeps old.server_stopped old new (CallsServer old (server_calls.char_set func value) new)
+    (asks_keeps old new (server_calls.char_set func value)) d
+does_keeps old new (Propose func value) d = unless_keeps old.client_stopped old new (CallsClient old (client_calls.proposed func value) new)
+    (tells_keeps old new (client_calls.proposed func value)) d
+does_keeps old new (Echo on) d = unless_keeps old.server_stopped old new (CallsServer old (server_calls.echo_set on) new)
+    (asks_keeps old new (server_calls.echo_set on)) d
+does_keeps old new (Mask mask) d = unless_keeps old.server_stopped old new (CallsServer old (server_calls.mask_set mask) new)
+    (asks_keeps old new (server_calls.mask_set mask)) d
 does_keeps old new ServerStops d = (ap (λ (w : World). w.server.failed) d, ap (λ (w : World). w.client.failed) d)
 does_keeps old new ClientStops d = (ap (λ (w : World). w.server.failed) d, ap (λ (w : World). w.client.failed) d)
 

@@ -1,5 +1,6 @@
 -- What a server makes of items that wish for no mode, once no word is on its way to its client.
-use Rattle.std.proofs.Common.{◌≡◌, ℕ, nat_le, Bool, true, false, ◌&&◌, ◌||◌, Option, Some, None, is_some, List, [], ◌∷◌, ◌++◌, length, refl, sym, ap, ◌∙◌, subst, if◌then◌else◌, append-nil, append_assoc}
+use Rattle.std.proofs.Common.{◌≡◌, ℕ, nat_le, Bool, true, false, ◌&&◌, ◌||◌, Option, Some, None, is_some, List, [], ◌∷◌, ◌++◌, length, refl, sym, ap, ◌∙◌}
+use Rattle.std.proofs.Common.{subst, if◌then◌else◌, append-nil, append_assoc}
 use Rattle.std.specs.Prelude.{All, option_to_list}
 use Rattle.std.proofs.lemmas.List.Elements.{All-head, All-tail}
 use Rattle.tn_codes.specs.PayloadOf.{payload_of}
@@ -20,7 +21,8 @@ use Rattle.tn_wire.specs.Words.{differ, word_items, mode_items, list_items}
 use Rattle.tn_wire.proofs.lemmas.OptionWords.{words_in-append, words_in-word}
 use Rattle.tn_server.specs.Events.{History, next, got, gets}
 use Rattle.tn_server.specs.Replies.{reply_items, items_by, list_replies, table_items, new_table_items, echo_items, replies, items_said}
-use Rattle.tn_server.specs.Terms.{Terms, terms, options, flags, chars, linemode, options_after, wish_in, wish_at, editing_of, terms_by, payload_at, chars_after, mode_sent, asked_mask_while, asked_mask_of, mask_told, wants_echo, asks_echo, options_with_echo}
+use Rattle.tn_server.specs.Terms.{Terms, terms, options, flags, chars, linemode, options_after, wish_in, wish_at, editing_of, terms_by, payload_at, chars_after}
+use Rattle.tn_server.specs.Terms.{mode_sent, asked_mask_while, asked_mask_of, mask_told, wants_echo, asks_echo, options_with_echo}
 use Rattle.tn_server.specs.declared.wishes.Editing.{Editing}
 use Rattle.tn_server.proofs.lemmas.Terms.{terms_stay, says_nothing, told_again}
 use Rattle.tn_server.proofs.lemmas.Words.{pair, got_words, by_words, asked_in}
@@ -75,7 +77,8 @@ list_if c true p h = list_none c p h
 list_if c false p h = refl
 
 -- AN ITEM that is no word
-module _ (h : History) (item : Item) (no : wish_at (options h) (got item) ≡ None) (same : options_after (options h) (got item) ≡ options h) (mute : reply_items (options h) (got item) ≡ []) where
+module _ (h : History) (item : Item) (no : wish_at (options h) (got item) ≡ None) (same : options_after (options h) (got item) ≡ options h)
+    (mute : reply_items (options h) (got item) ≡ []) where
   item_keeps : options (next h (got item)) ≡ options h
   item_keeps =
       ap (λ (t : Terms). t.options)
@@ -92,13 +95,15 @@ module _ (h : History) (item : Item) (no : wish_at (options h) (got item) ≡ No
   item_wordless : words_in (replies h (got item)) ≡ []
   item_wordless =
       got_words h item
-      ∙ ap (λ (x : List Item). words_in x ++ words_in (items_by (flags h) (chars h) (terms h) (options_after (options h) (got item)) (wish_at (options h) (got item)) false)) mute
+      ∙ ap (λ (x : List Item). words_in x ++ words_in (items_by (flags h) (chars h) (terms h) (options_after (options h) (got item))
+      (wish_at (options h) (got item)) false)) mute
       ∙ ap words_in said_by
 
   item_silent : list_replies (chars h) (payload_at (options h) item) ≡ [] → replies h (got item) ≡ []
   item_silent e =
       ap (λ (x : List Item). x ++ list_replies (chars h) (payload_at (options h) item))
-      (ap (λ (x : List Item). x ++ items_by (flags h) (chars h) (terms h) (options_after (options h) (got item)) (wish_at (options h) (got item)) false) mute ∙ said_by)
+      (ap (λ (x : List Item). x ++ items_by (flags h) (chars h) (terms h) (options_after (options h) (got item)) (wish_at (options h) (got item)) false) mute
+      ∙ said_by)
       ∙ e
 
 -- A WORD: LINEMODE stays, or it changes and ECHO is due
@@ -108,7 +113,9 @@ due_is false false wish = refl
 due_is true false wish = refl
 due_is false true wish = refl
 
-none_due : (was on : Bool) (wish : ℕ) (c : Characters) (wanted : Bool) (o : Options) → differ was on ≡ false → new_table_items was on c ++ (mode_items (mode_sent on (asked_mask_while was wish) wish) ++ echo_items (differ was on || (is_some (mode_sent on (asked_mask_while was wish) wish) || false)) wanted o) ≡ []
+none_due : (was on : Bool) (wish : ℕ) (c : Characters) (wanted : Bool) (o : Options) → differ was on ≡ false
+    → new_table_items was on c ++ (mode_items (mode_sent on (asked_mask_while was wish) wish)
+    ++ echo_items (differ was on || (is_some (mode_sent on (asked_mask_while was wish) wish) || false)) wanted o) ≡ []
 none_due true true wish c wanted o e = rw (told_again true wish) refl
 none_due false false wish c wanted o e = refl
 none_due true false wish c wanted o e = absurd (cc)
@@ -140,11 +147,14 @@ module _ (h : History) (verb : Verb) (code : ℕ) where
       ∙ ap (λ (x : List (Verb × ℕ)). option_to_list (reply_to here verb code) ++ x)
       (by_words (flags h) (chars h) (terms h) later None false ∙ ap (λ (b : Bool). words_in (echo_items b wanted later)) due_here)
 
-  echoed : (b : Bool) (there : Options) (ws vs : List (Verb × ℕ)) → pair (options_with_echo b wanted later) there ws (vs ++ words_in (echo_items b wanted later)) ≡ echo_due b wanted (pair later there ws vs)
-  echoed true there ws vs = ap (λ (x : List (Verb × ℕ)). pair (options_after_wish later Us 1 wanted) there ws (vs ++ x)) (asked_in (answer_to later Us 1 wanted))
+  echoed : (b : Bool) (there : Options) (ws vs : List (Verb × ℕ))
+      → pair (options_with_echo b wanted later) there ws (vs ++ words_in (echo_items b wanted later)) ≡ echo_due b wanted (pair later there ws vs)
+  echoed true there ws vs = ap (λ (x : List (Verb × ℕ)). pair (options_after_wish later Us 1 wanted) there ws (vs ++ x))
+      (asked_in (answer_to later Us 1 wanted))
   echoed false there ws vs = ap (λ (x : List (Verb × ℕ)). pair later there ws x) (append-nil vs)
 
-  word_heard : (there : Options) (ws vs : List (Verb × ℕ)) → pair (options (next h (got (Neg verb code)))) there ws (vs ++ words_in (replies h (got (Neg verb code)))) ≡ heard_by wanted (pair here there ((verb, code) ∷ ws) vs)
+  word_heard : (there : Options) (ws vs : List (Verb × ℕ)) → pair (options (next h (got (Neg verb code)))) there ws
+      (vs ++ words_in (replies h (got (Neg verb code)))) ≡ heard_by wanted (pair here there ((verb, code) ∷ ws) vs)
   word_heard there ws vs =
       let r = option_to_list (reply_to here verb code) in
       ap (λ (o : Options). pair o there ws (vs ++ words_in (replies h (got (Neg verb code))))) word_options
@@ -162,28 +172,37 @@ module _ (h : History) (verb : Verb) (code : ℕ) where
   word_leaves stays = word_options ∙ ap (λ (b : Bool). options_with_echo b wanted later) stays
 
 -- WHILE A SERVER READS what is on its way to it
-other_waits : (h : History) (item : Item) (there : Options) (ws vs : List (Verb × ℕ)) → options (next h (got item)) ≡ options h → words_in (replies h (got item)) ≡ [] → IsWaiting (pair (options h) there ws vs) → IsWaiting (pair (options (next h (got item))) there ws (vs ++ words_in (replies h (got item))))
+other_waits : (h : History) (item : Item) (there : Options) (ws vs : List (Verb × ℕ)) → options (next h (got item)) ≡ options h
+    → words_in (replies h (got item)) ≡ [] → IsWaiting (pair (options h) there ws vs)
+    → IsWaiting (pair (options (next h (got item))) there ws (vs ++ words_in (replies h (got item))))
 other_waits h item there ws vs same none p =
     subst (λ (o : Options). IsWaiting (pair o there ws (vs ++ words_in (replies h (got item))))) (sym same)
     (subst (λ (x : List (Verb × ℕ)). IsWaiting (pair (options h) there ws x)) (sym (ap (λ (x : List (Verb × ℕ)). vs ++ x) none ∙ append-nil vs)) p)
 
-step_waits : (h : History) (item : Item) (items : List Item) (there : Options) (vs : List (Verb × ℕ)) → WishesNothing item → IsWaiting (pair (options h) there (words_in (item ∷ items)) vs) → IsWaiting (pair (options (next h (got item))) there (words_in items) (vs ++ words_in (replies h (got item))))
+step_waits : (h : History) (item : Item) (items : List Item) (there : Options) (vs : List (Verb × ℕ)) → WishesNothing item
+    → IsWaiting (pair (options h) there (words_in (item ∷ items)) vs)
+    → IsWaiting (pair (options (next h (got item))) there (words_in items) (vs ++ words_in (replies h (got item))))
 step_waits h (Neg verb code) items there vs w p =
     subst IsWaiting (sym (word_heard h verb code there (words_in items) vs))
     (waits_on (wanted h verb code) (pair (options h) there ((verb, code) ∷ words_in items) vs) p)
 step_waits h (Sub option params) items there vs w p =
     let no = no_wish_at (options h) (Sub option params) w in
-    other_waits h (Sub option params) there (words_in items) vs (item_keeps h (Sub option params) no refl refl) (item_wordless h (Sub option params) no refl refl) p
-step_waits h (Byte b) items there vs w p = other_waits h (Byte b) there (words_in items) vs (item_keeps h (Byte b) refl refl refl) (item_wordless h (Byte b) refl refl refl) p
-step_waits h Newline items there vs w p = other_waits h Newline there (words_in items) vs (item_keeps h Newline refl refl refl) (item_wordless h Newline refl refl refl) p
-step_waits h (Cmd command) items there vs w p = other_waits h (Cmd command) there (words_in items) vs (item_keeps h (Cmd command) refl refl refl) (item_wordless h (Cmd command) refl refl refl) p
+    other_waits h (Sub option params) there (words_in items) vs (item_keeps h (Sub option params) no refl refl)
+    (item_wordless h (Sub option params) no refl refl) p
+step_waits h (Byte b) items there vs w p = other_waits h (Byte b) there (words_in items) vs (item_keeps h (Byte b) refl refl refl)
+    (item_wordless h (Byte b) refl refl refl) p
+step_waits h Newline items there vs w p = other_waits h Newline there (words_in items) vs (item_keeps h Newline refl refl refl)
+    (item_wordless h Newline refl refl refl) p
+step_waits h (Cmd command) items there vs w p = other_waits h (Cmd command) there (words_in items) vs (item_keeps h (Cmd command) refl refl refl)
+    (item_wordless h (Cmd command) refl refl refl) p
 
 pub record HasRead (h : History) (items : List Item) (there : Options) (vs : List (Verb × ℕ)) : Type 0 where
   pub said : List Item
   pub sends : items_said (gets h items) ≡ items_said h ++ said
   pub waits : IsWaiting (pair (options (gets h items)) there [] (vs ++ words_in said))
 
-pub all_read : (items : List Item) (h : History) (there : Options) (vs : List (Verb × ℕ)) → All WishesNothing items → IsWaiting (pair (options h) there (words_in items) vs) → HasRead h items there vs
+pub all_read : (items : List Item) (h : History) (there : Options) (vs : List (Verb × ℕ)) → All WishesNothing items
+    → IsWaiting (pair (options h) there (words_in items) vs) → HasRead h items there vs
 all_read [] h there vs w p = record {
   said = [];
   sends = sym (append-nil (items_said h));
@@ -191,7 +210,8 @@ all_read [] h there vs w p = record {
 }
 all_read (item ∷ items) h there vs w p =
     let said = replies h (got item) in
-    let rest = all_read items (next h (got item)) there (vs ++ words_in said) (All-tail WishesNothing item items w) (step_waits h item items there vs (All-head WishesNothing item items w) p) in
+    let rest = all_read items (next h (got item)) there (vs ++ words_in said) (All-tail WishesNothing item items w)
+    (step_waits h item items there vs (All-head WishesNothing item items w) p) in
     record {
       said = said ++ rest.said;
       sends = rest.sends ∙ append_assoc (items_said h) said rest.said;
@@ -206,14 +226,17 @@ pub record IsSilent (h : History) (item : Item) (items : List Item) (there : Opt
   pub none : replies h (got item) ≡ []
   pub calm : IsCalm (pair (options (next h (got item))) there (words_in items) vs)
 
-other_silent : (h : History) (item : Item) (items : List Item) (there : Options) (vs : List (Verb × ℕ)) → options (next h (got item)) ≡ options h → replies h (got item) ≡ [] → IsCalm (pair (options h) there (words_in items) vs) → IsSilent h item items there vs
+other_silent : (h : History) (item : Item) (items : List Item) (there : Options) (vs : List (Verb × ℕ)) → options (next h (got item)) ≡ options h
+    → replies h (got item) ≡ [] → IsCalm (pair (options h) there (words_in items) vs) → IsSilent h item items there vs
 other_silent h item items there vs same none p =
     record { none = none; calm = subst (λ (o : Options). IsCalm (pair o there (words_in items) vs)) (sym same) p }
 
-step_silent : (h : History) (item : Item) (items : List Item) (there : Options) (vs : List (Verb × ℕ)) → WishesNothing item → AsksNothing item → IsCalm (pair (options h) there (words_in (item ∷ items)) vs) → IsSilent h item items there vs
+step_silent : (h : History) (item : Item) (items : List Item) (there : Options) (vs : List (Verb × ℕ)) → WishesNothing item → AsksNothing item
+    → IsCalm (pair (options h) there (words_in (item ∷ items)) vs) → IsSilent h item items there vs
 step_silent h (Neg verb code) items there vs w a p =
     let u : IsUnanswered (options h) ((verb, code) ∷ words_in items) = subst (λ (x : EnginePair). IsUnanswered x.here x.to_here) (sym p.1) (calm_answers p.0) in
-    let on : IsCalm (engine_step got_here (pair (options h) there ((verb, code) ∷ words_in items) vs)) = subst (λ (x : EnginePair). IsCalm (engine_step got_here x)) (sym p.1) (calm_on p.0) in
+    let on : IsCalm (engine_step got_here (pair (options h) there ((verb, code) ∷ words_in items) vs)) =
+    subst (λ (x : EnginePair). IsCalm (engine_step got_here x)) (sym p.1) (calm_on p.0) in
     record {
       none = word_silent h verb code u.0 u.1;
       calm =
@@ -225,12 +248,17 @@ step_silent h (Sub option params) items there vs w a p =
     let item = Sub option params in
     let no = no_wish_at (options h) item w in
     other_silent h item items there vs (item_keeps h item no refl refl)
-    (item_silent h item no refl refl (list_if (chars h) (is_yes (state_of (options h) Them option) && nat_le (length params) 512) (payload_of option params) a)) p
-step_silent h (Byte b) items there vs w a p = other_silent h (Byte b) items there vs (item_keeps h (Byte b) refl refl refl) (item_silent h (Byte b) refl refl refl refl) p
-step_silent h Newline items there vs w a p = other_silent h Newline items there vs (item_keeps h Newline refl refl refl) (item_silent h Newline refl refl refl refl) p
-step_silent h (Cmd command) items there vs w a p = other_silent h (Cmd command) items there vs (item_keeps h (Cmd command) refl refl refl) (item_silent h (Cmd command) refl refl refl refl) p
+    (item_silent h item no refl refl (list_if (chars h) (is_yes (state_of (options h) Them option) && nat_le (length params) 512) (payload_of option params) a))
+    p
+step_silent h (Byte b) items there vs w a p = other_silent h (Byte b) items there vs (item_keeps h (Byte b) refl refl refl)
+    (item_silent h (Byte b) refl refl refl refl) p
+step_silent h Newline items there vs w a p = other_silent h Newline items there vs (item_keeps h Newline refl refl refl)
+    (item_silent h Newline refl refl refl refl) p
+step_silent h (Cmd command) items there vs w a p = other_silent h (Cmd command) items there vs (item_keeps h (Cmd command) refl refl refl)
+    (item_silent h (Cmd command) refl refl refl refl) p
 
-pub all_silent : (items : List Item) (h : History) (there : Options) (vs : List (Verb × ℕ)) → All WishesNothing items → All AsksNothing items → IsCalm (pair (options h) there (words_in items) vs) → items_said (gets h items) ≡ items_said h
+pub all_silent : (items : List Item) (h : History) (there : Options) (vs : List (Verb × ℕ)) → All WishesNothing items → All AsksNothing items
+    → IsCalm (pair (options h) there (words_in items) vs) → items_said (gets h items) ≡ items_said h
 all_silent [] h there vs w a p = refl
 all_silent (item ∷ items) h there vs w a p =
     let s = step_silent h item items there vs (All-head WishesNothing item items w) (All-head AsksNothing item items a) p in

@@ -22,12 +22,21 @@ use Rattle.tn_world.proofs.Tied.{rest-agrees}
 use Rattle.tn_world.proofs.Wishes.{IsAllowed, wish_allowed}
 use Rattle.tn_world.specs.relation.Relation.{Agrees, IsRelated, server_at, picture}
 
-local_askable : (s : Settings) (isig allows : Bool) (wish : ℕ) → s.flags.isig ≡ isig → allows_local s.flags ≡ allows → (if allows then Some (if isig then 3 else 1) else None) ≡ Some wish → IsAskable s (bits (mode_of wish))
-local_askable s true true wish a b e = inr (b, subst (λ (n : ℕ). bits (mode_of n) ≡ record { edit = true; trapsig = s.flags.isig }) (some_is 3 wish e) (ap (λ t. record { edit = true; trapsig = t }) (sym a)))
+local_askable : (s : Settings) (isig allows : Bool) (wish : ℕ) → s.flags.isig ≡ isig → allows_local s.flags ≡ allows
+    → (if allows then Some (if isig then 3 else 1) else None) ≡ Some wish → IsAskable s (bits (mode_of wish))
+local_askable s true true wish a b e = inr (
+  b,
+  subst (λ (n : ℕ). bits (mode_of n) ≡ record { edit = true; trapsig = s.flags.isig }) (some_is 3 wish e)
+      (ap (λ t. record { edit = true; trapsig = t }) (sym a)),
+)
   where
     some_is : (m n : ℕ) → Some m ≡ Some n → m ≡ n
     some_is m n e = cc
-local_askable s false true wish a b e = inr (b, subst (λ (n : ℕ). bits (mode_of n) ≡ record { edit = true; trapsig = s.flags.isig }) (some_is 1 wish e) (ap (λ t. record { edit = true; trapsig = t }) (sym a)))
+local_askable s false true wish a b e = inr (
+  b,
+  subst (λ (n : ℕ). bits (mode_of n) ≡ record { edit = true; trapsig = s.flags.isig }) (some_is 1 wish e)
+      (ap (λ t. record { edit = true; trapsig = t }) (sym a)),
+)
   where
     some_is : (m n : ℕ) → Some m ≡ Some n → m ≡ n
     some_is m n e = cc
@@ -51,7 +60,8 @@ mark_askable s w m =
     subst (λ (n : ℕ). IsAskable s.settings (bits n)) mask
     (askable_while s.settings (terms.linemode (terms.options h)) (terms.terms h).wish (subst (λ f. IsAllowed f (terms.terms h).wish) flags (wish_allowed h)))
 
-agreed_linemode : (w : World) → AgreeOnLinemode w.server.terms.options w.client.options → client_terms.linemode w.client.options ≡ terms.linemode w.server.terms.options
+agreed_linemode : (w : World) → AgreeOnLinemode w.server.terms.options w.client.options
+    → client_terms.linemode w.client.options ≡ terms.linemode w.server.terms.options
 agreed_linemode w (inl p) = ap is_yes p.1 ∙ sym (ap is_yes p.0)
 agreed_linemode w (inr p) = ap is_yes p.1 ∙ sym (ap is_yes p.0)
 
@@ -69,10 +79,12 @@ mark_off s w m off =
     let stands = m.past.server in
     let h = m.past.history in
     let mask : terms.asked_mask h ≡ w.client.mode = sym (ap (λ (x : Modes). x.asked) stands.modes) ∙ m.settled.agreed.mask.0 ∙ m.settled.agreed.mask.1 in
-    let there : terms.linemode (terms.options h) ≡ false = ap (λ (t : terms.Terms). terms.linemode t.options) (sym stands.terms) ∙ sym (agreed_linemode w m.settled.agreed.linemode) ∙ off in
+    let there : terms.linemode (terms.options h) ≡ false = ap (λ (t : terms.Terms). terms.linemode t.options) (sym stands.terms)
+    ∙ sym (agreed_linemode w m.settled.agreed.linemode) ∙ off in
     ap edits (sym mask) ∙ ap (λ (l : Bool). edits (asked_mask_while l (terms.terms h).wish)) there
 
-core_is : (l k e f b : Bool) (half : List ℕ) (entries : List Entry) → l ≡ k → e ≡ f → half ≡ [] → entries ≡ [] → b ≡ false → record { linemode = l; edit = e; half = half; waiting = entries; failed = b } ≡ server_at k f [] []
+core_is : (l k e f b : Bool) (half : List ℕ) (entries : List Entry) → l ≡ k → e ≡ f → half ≡ [] → entries ≡ [] → b ≡ false
+    → record { linemode = l; edit = e; half = half; waiting = entries; failed = b } ≡ server_at k f [] []
 core_is l k e f b half entries o p q r t =
     ap (λ x. record { linemode = x; edit = e; half = half; waiting = entries; failed = b }) o
     ∙ ap (λ x. record { linemode = k; edit = x; half = half; waiting = entries; failed = b }) p
@@ -88,7 +100,9 @@ mark_agrees s w m =
     let v = server_at l (edits w.client.mode) [] [] in
     subst (λ x. Agrees s x w.taken (server_core w.server) c) (sym m.typed)
     (subst (λ x. Agrees s [] x (server_core w.server) c) (sym m.taken)
-    (subst (λ x. Agrees s [] [] x c) (sym (core_is (terms.linemode w.server.terms.options) l (edits w.server.modes.current) (edits w.client.mode) w.server.failed w.server.terminal.line.held w.server.terminal.entries (sym (agreed_linemode w settled.agreed.linemode)) (ap edits settled.agreed.mask.1) settled.empty.half settled.empty.waiting settled.idle.server_failed))
+    (subst (λ x. Agrees s [] [] x c) (sym (core_is (terms.linemode w.server.terms.options) l (edits w.server.modes.current)
+    (edits w.client.mode) w.server.failed w.server.terminal.line.held w.server.terminal.entries (sym (agreed_linemode w settled.agreed.linemode))
+    (ap edits settled.agreed.mask.1) settled.empty.half settled.empty.waiting settled.idle.server_failed))
     (subst (λ (x : List ℕ). Agrees s [] [] v (record c { held = x })) (sym settled.empty.held)
     (subst (λ (x : ℕ). Agrees s [] [] v (record c { held = []; ahead = x })) (sym settled.empty.ahead)
     (subst (λ (x : ℕ). Agrees s [] [] v (record c { held = []; ahead = 0; trapped = x })) (sym settled.empty.counts.0)
@@ -101,7 +115,8 @@ mark_holds s w m =
     let stands = m.past.server in
     let is_settings : w.server.terminal.settings ≡ s.settings = ap (λ (x : Canon). x.settings) m.rules in
     let is_limit : w.server.terminal.line.limit ≡ s.limit = ap (λ (x : Canon). x.limit) m.rules in
-    let chars : w.server.table ≡ s.settings.chars = stands.table ∙ sym (ap (λ (x : Settings). x.chars) stands.settings) ∙ ap (λ (x : Settings). x.chars) is_settings in
+    let chars : w.server.table ≡ s.settings.chars = stands.table ∙ sym (ap (λ (x : Settings). x.chars) stands.settings)
+    ∙ ap (λ (x : Settings). x.chars) is_settings in
     let there = m.past.to_server m.settled.idle.server_failed in
     let back = m.past.to_client m.settled.idle.client_failed in
     let none : there.0 ≡ [] = no_items w.server.decoder there.0 (subst (λ x. InFlight w.server.decoder x there.0) m.settled.idle.to_server there.1) in
@@ -122,6 +137,10 @@ mark_holds s w m =
         flags = subst (λ (x : Settings). w.server.terminal.settings.flags ≡ record (x.flags) { echo = w.server.terminal.settings.flags.echo }) is_settings refl;
         limit = is_limit;
       };
-      client = record { linemode = client_never w m.settled.agreed.linemode; chars = sym m.settled.agreed.chars ∙ chars; limit = m.past.limit m.settled.idle.client_failed ∙ is_limit };
+      client = record {
+        linemode = client_never w m.settled.agreed.linemode;
+        chars = sym m.settled.agreed.chars ∙ chars;
+        limit = m.past.limit m.settled.idle.client_failed ∙ is_limit;
+      };
       past = m.past;
     }

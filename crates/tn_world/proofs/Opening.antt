@@ -63,8 +63,18 @@ opening_calm s is =
 server_begun : (s : Canon) → server_steps.core_of (server_calls.begun s) false ≡ server_at false false [] []
 server_begun s = ap (λ (l : Bool). server_at l false [] []) off_there
 
-client_begun : (width height limit : ℕ) → client_steps.core_of (client_calls.begun width height limit) ≡ record { linemode = false; mask = remote_mode; held = []; ahead = 0; forward = is_forward None; trapped = 0; plain = 0; failed = false }
-client_begun width height limit = ap (λ (l : Bool). record { linemode = l; mask = remote_mode; held = []; ahead = 0; forward = is_forward None; trapped = 0; plain = 0; failed = false }) off_here
+client_begun : (width height limit : ℕ) → client_steps.core_of (client_calls.begun width height limit)
+    ≡ record { linemode = false; mask = remote_mode; held = []; ahead = 0; forward = is_forward None; trapped = 0; plain = 0; failed = false }
+client_begun width height limit = ap (λ (l : Bool). record {
+  linemode = l;
+  mask = remote_mode;
+  held = [];
+  ahead = 0;
+  forward = is_forward None;
+  trapped = 0;
+  plain = 0;
+  failed = false;
+}) off_here
 
 -- what is so before anything came
 pub server_kept : (s : Canon) → server_steps.IsKept s (server_calls.begun s)
@@ -73,7 +83,8 @@ server_kept s = record { on = asked_for; characters = refl; others = refl; line 
 pub client_kept : (s : Canon) (width height : ℕ) → s.settings.chars ≡ standard_characters → client_steps.IsKept s (client_calls.begun width height s.limit)
 client_kept s width height standard = record { on = not_begun; characters = sym standard; limit = refl }
 
-pub begun_agrees : (s : Canon) (width height : ℕ) → Agrees s [] [] (server_steps.core_of (server_calls.begun s) false) (client_steps.core_of (client_calls.begun width height s.limit))
+pub begun_agrees : (s : Canon) (width height : ℕ) → Agrees s [] [] (server_steps.core_of (server_calls.begun s) false)
+    (client_steps.core_of (client_calls.begun width height s.limit))
 begun_agrees s width height =
     subst (λ (x : Server). Agrees s [] [] x (client_steps.core_of (client_calls.begun width height s.limit))) (sym (server_begun s))
     (subst (λ (x : Client). Agrees s [] [] (server_at false false [] []) x) (sym (client_begun width height s.limit))
@@ -105,7 +116,8 @@ opened_past s width height w o =
 opened_agrees : (s : Canon) (width height : ℕ) (w : World) → IsOpened s width height w → Agrees s w.typed w.taken (server_core w.server) (client_core w.client)
 opened_agrees s width height w o =
     let f = fresh s width height w o in
-    let v : server_core w.server ≡ server_steps.core_of (server_calls.begun s) false = server_steps.core_at (server_calls.begun s) w.server f.there ∙ ap (server_steps.core_of (server_calls.begun s)) o.server_runs in
+    let v : server_core w.server ≡ server_steps.core_of (server_calls.begun s) false =
+    server_steps.core_at (server_calls.begun s) w.server f.there ∙ ap (server_steps.core_of (server_calls.begun s)) o.server_runs in
     let c = client_steps.core_at (client_calls.begun width height s.limit) w.client f.here o.client_runs in
     subst (λ x. Agrees s x w.taken (server_core w.server) (client_core w.client)) (sym (ap (λ (x : World). x.typed) o.rest))
     (subst (λ x. Agrees s [] x (server_core w.server) (client_core w.client)) (sym (ap (λ (x : World). x.taken) o.rest))
@@ -121,7 +133,8 @@ opened_holds s width height w standard o =
         flight = subst (λ (x : List ℕ). InFlight w.server.decoder x []) (sym (ap (λ (x : World). x.to_server) o.rest)) (start w.server.decoder f.reads);
         calm = All-nil (IsCalmToServer s.settings);
         messages = opening;
-        back = said_behind w.client.decoder [] w.to_client [] opening (ap (λ (x : World). x.to_client) o.rest) (sent-fit (server_calls.begun s)) (start w.client.decoder f.hears);
+        back = said_behind w.client.decoder [] w.to_client [] opening (ap (λ (x : World). x.to_client) o.rest) (sent-fit (server_calls.begun s))
+            (start w.client.decoder f.hears);
         calm_back = opening_calm s.settings standard;
         agrees = opened_agrees s width height w o;
       };

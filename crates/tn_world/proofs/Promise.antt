@@ -7,7 +7,8 @@ use Rattle.tn_discipline.specs.declared.reads.Entry.{Entry}
 use Rattle.tn_discipline.specs.Canon.{Canon}
 use Rattle.tn_discipline.specs.Characters.{standard_characters}
 use Rattle.tn_world.specs.Past.{HasPast}
-use Rattle.tn_world.specs.Headline.{local_entries, local_half, PassesQuietly, IsQuiet, AreQuietEvents, IsBeginning, Follows, NoneFailed, IsSettled, entries_made, half_made, Headline}
+use Rattle.tn_world.specs.Headline.{local_entries, local_half, PassesQuietly, IsQuiet, AreQuietEvents, IsBeginning, Follows, NoneFailed, IsSettled}
+use Rattle.tn_world.specs.Headline.{entries_made, half_made, Headline}
 use Rattle.tn_streams.specs.Prefixes.{IsPrefixOf}
 use Rattle.tn_world.specs.Opened.{IsOpened, with_new_lists}
 use Rattle.tn_world.specs.Worlds.{World, RunsEvent, Refuses, Runs, StopsWithin, canon_of}
@@ -40,13 +41,16 @@ begins_running s w (inr o) = (o.opened.server_runs, o.opened.client_runs)
 passes_headline : (s : Canon) (start w : World) (events : List Event) → IsBeginning s start → PassesQuietly start events w → Headline s w
 passes_headline s start w events b p = related_headline s start w events (begins_running s start b) (begins_related s start b) p
 
-pub passes_prefix : (s : Canon) (start new : World) (events : List Event) → IsBeginning s start → PassesQuietly start events new → IsPrefixOf (entries_made new) (local_entries s new.typed)
+pub passes_prefix : (s : Canon) (start new : World) (events : List Event) → IsBeginning s start → PassesQuietly start events new
+    → IsPrefixOf (entries_made new) (local_entries s new.typed)
 passes_prefix s start new events b p = (passes_headline s start new events b p).prefix
 
-pub passes_complete : (s : Canon) (start new : World) (events : List Event) → IsBeginning s start → PassesQuietly start events new → NoneFailed new → new.to_server ≡ [] → entries_made new ≡ local_entries s new.typed
+pub passes_complete : (s : Canon) (start new : World) (events : List Event) → IsBeginning s start → PassesQuietly start events new → NoneFailed new
+    → new.to_server ≡ [] → entries_made new ≡ local_entries s new.typed
 passes_complete s start new events b p none nothing = (passes_headline s start new events b p).complete none nothing
 
-pub passes_half : (s : Canon) (start new : World) (events : List Event) → IsBeginning s start → PassesQuietly start events new → NoneFailed new → new.to_server ≡ [] → half_made new ≡ local_half s new.typed
+pub passes_half : (s : Canon) (start new : World) (events : List Event) → IsBeginning s start → PassesQuietly start events new → NoneFailed new
+    → new.to_server ≡ [] → half_made new ≡ local_half s new.typed
 passes_half s start new events b p none nothing = (passes_headline s start new events b p).half none nothing
 
 pub headline : (s : Canon) (w : World) → Follows s w → Headline s w
@@ -60,7 +64,12 @@ passes_on old mid new [] ys p q = subst (λ w. PassesQuietly w ys new) p q
 passes_on old mid new (e ∷ xs) ys p q = (p.0, p.1, passes_on p.0 mid new xs ys p.2 q)
 
 pub follows_on : (s : Canon) (old new : World) (events : List Event) → Follows s old → PassesQuietly old events new → Follows s new
-follows_on s old new events f p = record { start = f.start; begins = f.begins; events = f.events ++ events; passes = passes_on f.start old new f.events events f.passes p }
+follows_on s old new events f p = record {
+  start = f.start;
+  begins = f.begins;
+  events = f.events ++ events;
+  passes = passes_on f.start old new f.events events f.passes p;
+}
 
 pub just_opened : (s : Canon) (width height : ℕ) (w : World) → IsOpened s width height w → s.settings.chars ≡ standard_characters → Follows s w
 just_opened s width height w o standard =
@@ -74,7 +83,8 @@ runs_pass old new (e ∷ events) quiet r =
     (r.0, inl (here.0, r.1), runs_pass r.0 new events here.1 r.2)
 
 -- a run up to the event that was refused
-ends_pass : (old mid new : World) (done left : List Event) (e : Event) (cause : Cause) → IsQuiet old (done ++ e ∷ left) → Runs old done mid → Refuses mid e cause new → PassesQuietly old (done ++ e ∷ []) new
+ends_pass : (old mid new : World) (done left : List Event) (e : Event) (cause : Cause) → IsQuiet old (done ++ e ∷ left) → Runs old done mid
+    → Refuses mid e cause new → PassesQuietly old (done ++ e ∷ []) new
 ends_pass old mid new [] left e cause quiet r refused = subst (λ w. PassesQuietly w (e ∷ []) new) r (new, inr (cause, refused), refl)
 ends_pass old mid new (d ∷ done) left e cause quiet r refused =
     let here = quiet r.0 r.1 in
@@ -83,10 +93,12 @@ ends_pass old mid new (d ∷ done) left e cause quiet r refused =
 pub follows_runs : (s : Canon) (old new : World) (events : List Event) → Follows s old → IsQuiet old events → Runs old events new → Follows s new
 follows_runs s old new events f quiet r = follows_on s old new events f (runs_pass old new events quiet r)
 
-stops_pass : (old new : World) (events : List Event) (at : ℕ) (cause : Cause) → IsQuiet old events → (e : StopsWithin old events at cause new) → PassesQuietly old (e.done ++ e.event ∷ []) new
+stops_pass : (old new : World) (events : List Event) (at : ℕ) (cause : Cause) → IsQuiet old events → (e : StopsWithin old events at cause new)
+    → PassesQuietly old (e.done ++ e.event ∷ []) new
 stops_pass old new events at cause quiet e = ends_pass old e.mid new e.done e.left e.event cause (subst (λ l. IsQuiet old l) e.whole quiet) e.runs e.refuses
 
-pub follows_ends : (s : Canon) (old new : World) (events : List Event) (at : ℕ) (cause : Cause) → Follows s old → IsQuiet old events → StopsWithin old events at cause new → Follows s new
+pub follows_ends : (s : Canon) (old new : World) (events : List Event) (at : ℕ) (cause : Cause) → Follows s old → IsQuiet old events
+    → StopsWithin old events at cause new → Follows s new
 follows_ends s old new events at cause f quiet e = follows_on s old new (e.done ++ e.event ∷ []) f (stops_pass old new events at cause quiet e)
 
 -- quiet events are quiet wherever they are done
@@ -98,8 +110,21 @@ quiet_always w (e ∷ events) q = λ mid does. (q.0 w, quiet_always mid events q
 pub new_lists_settled : (w : World) → IsSettled w → IsSettled (with_new_lists w)
 new_lists_settled w m =
     record {
-      idle = record { to_server = m.idle.to_server; to_client = m.idle.to_client; server_stopped = m.idle.server_stopped; server_failed = m.idle.server_failed; client_stopped = m.idle.client_stopped; client_failed = m.idle.client_failed };
-      agreed = record { linemode = m.agreed.linemode; mask = m.agreed.mask; chars = m.agreed.chars; server_steady = m.agreed.server_steady; client_steady = m.agreed.client_steady };
+      idle = record {
+        to_server = m.idle.to_server;
+        to_client = m.idle.to_client;
+        server_stopped = m.idle.server_stopped;
+        server_failed = m.idle.server_failed;
+        client_stopped = m.idle.client_stopped;
+        client_failed = m.idle.client_failed;
+      };
+      agreed = record {
+        linemode = m.agreed.linemode;
+        mask = m.agreed.mask;
+        chars = m.agreed.chars;
+        server_steady = m.agreed.server_steady;
+        client_steady = m.agreed.client_steady;
+      };
       empty = record { half = m.empty.half; held = m.empty.held; ahead = m.empty.ahead; counts = m.empty.counts; waiting = m.empty.waiting };
     }
 
@@ -127,7 +152,8 @@ mark_follows w s m =
       passes = refl;
     }
 
-pub marked : (old w : World) (typed : List ℕ) (taken : List Entry) → w ≡ old → HasPast w → IsSettled old → typed ≡ [] → taken ≡ [] → Follows (canon_of old) (record w { typed = typed; taken = taken })
+pub marked : (old w : World) (typed : List ℕ) (taken : List Entry) → w ≡ old → HasPast w → IsSettled old → typed ≡ [] → taken ≡ []
+    → Follows (canon_of old) (record w { typed = typed; taken = taken })
 marked old w typed taken is sound settled no_keys no_entries =
     subst (λ x. Follows (canon_of old) (record w { typed = x; taken = taken })) (sym no_keys)
     (subst (λ x. Follows (canon_of old) (record w { typed = []; taken = x })) (sym no_entries)
@@ -138,14 +164,16 @@ pub runs_on : (old mid new : World) (xs : List Event) (e : Event) → Runs old x
 runs_on old mid new [] e r d = (new, subst (λ w. RunsEvent w e new) r d, refl)
 runs_on old mid new (x ∷ xs) e r d = (r.0, r.1, runs_on r.0 mid new xs e r.2 d)
 
-pub runs_more : (old mid new : World) (events : List Event) (n : ℕ) (e : Event) → n < length events → e ≡ get_or events n e → Runs old (take n events) mid → RunsEvent mid e new → Runs old (take (n + 1) events) new
+pub runs_more : (old mid new : World) (events : List Event) (n : ℕ) (e : Event) → n < length events → e ≡ get_or events n e → Runs old (take n events) mid
+    → RunsEvent mid e new → Runs old (take (n + 1) events) new
 runs_more old mid new events n e within is r d =
     subst (λ l. Runs old l new) (ap (λ x. take n events ++ x ∷ []) is ∙ sym (take_more events n e within)) (runs_on old mid new (take n events) e r d)
 
 pub runs_whole : (old new : World) (events : List Event) (n : ℕ) → length events ≤ n → Runs old (take n events) new → Runs old events new
 runs_whole old new events n over r = subst (λ l. Runs old l new) (take_all n events over) r
 
-pub runs_stop : (old mid new : World) (events : List Event) (n : ℕ) (e : Event) (cause : Cause) → n < length events → e ≡ get_or events n e → Runs old (take n events) mid → Refuses mid e cause new → StopsWithin old events n cause new
+pub runs_stop : (old mid new : World) (events : List Event) (n : ℕ) (e : Event) (cause : Cause) → n < length events → e ≡ get_or events n e
+    → Runs old (take n events) mid → Refuses mid e cause new → StopsWithin old events n cause new
 runs_stop old mid new events n e cause within is r refuses =
     record {
       done = take n events;
@@ -162,5 +190,6 @@ runs_stop old mid new events n e cause within is r refuses =
 pub run_follows : (old new : World) (events : List Event) → Runs old events new → (s : Canon) → Follows s old → IsQuiet old events → Follows s new
 run_follows old new events r s f quiet = follows_runs s old new events f quiet r
 
-pub end_follows : (old new : World) (events : List Event) (at : ℕ) (cause : Cause) → StopsWithin old events at cause new → (s : Canon) → Follows s old → IsQuiet old events → Follows s new
+pub end_follows : (old new : World) (events : List Event) (at : ℕ) (cause : Cause) → StopsWithin old events at cause new → (s : Canon) → Follows s old
+    → IsQuiet old events → Follows s new
 end_follows old new events at cause e s f quiet = follows_ends s old new events at cause f quiet e

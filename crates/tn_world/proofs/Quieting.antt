@@ -10,7 +10,9 @@ use Rattle.tn_option.specs.declared.q_method.QState.TheVariants.{No, Yes, WantNo
 use Rattle.tn_option.specs.declared.q_method.Side.TheVariants.{Us}
 use Rattle.tn_server.specs.Terms as terms
 use Rattle.tn_wire.specs.Words.{differ}
-use Rattle.tn_world.proofs.Stages.{Question, linemode, naws, ours, theirs, echo, Progress, before, done, asks, grants, next, left, Lead, server_at, opening_at, IsOpening, both_on, both_off, asked_on, asked_off, granted_on, granted_off, pair_at, Stage, IsAtStage, same_question, not_done, wish_step}
+use Rattle.tn_world.proofs.Stages.{Question, linemode, naws, ours, theirs, echo, Progress, before, done, asks, grants, next, left, Lead, server_at, opening_at}
+use Rattle.tn_world.proofs.Stages.{IsOpening, both_on, both_off, asked_on, asked_off, granted_on, granted_off, pair_at, Stage, IsAtStage, same_question}
+use Rattle.tn_world.proofs.Stages.{not_done, wish_step}
 
 -- WHILE A SERVER READS, once no word was on its way to the client: the opening, all of whose questions the client has
 -- heard
@@ -96,7 +98,8 @@ none_read wanted ours b = refl
 none_read wanted theirs b = refl
 none_read wanted echo b = refl
 
-one_read : (wanted : Bool) (q : Question) (b : Bool) (going : List Question) → Lead (next q) going done → IsWaiting (heard_by wanted (opening_at q b (q ∷ going) done))
+one_read : (wanted : Bool) (q : Question) (b : Bool) (going : List Question) → Lead (next q) going done
+    → IsWaiting (heard_by wanted (opening_at q b (q ∷ going) done))
 unfolding options_after_word reply_to options_after_wish answer_to state_of cell
 one_read wanted linemode b going lead =
     subst IsWaiting (sym (wish_step naws b wanted (opening_at naws b going done) refl)) (reading naws (not wanted) going lead)
@@ -107,7 +110,8 @@ one_read wanted echo false [] lead = inr (w_on, refl)
 one_read wanted echo true [] lead = inr (w_asked_off, refl)
 one_read wanted echo b (q ∷ going) lead = absurd (not_done q lead.0)
 
-reading_on : (wanted : Bool) (q : Question) (b : Bool) (going : List Question) → Lead (before q) going done → IsWaiting (heard_by wanted (opening_at q b going done))
+reading_on : (wanted : Bool) (q : Question) (b : Bool) (going : List Question) → Lead (before q) going done
+    → IsWaiting (heard_by wanted (opening_at q b going done))
 reading_on wanted q b [] lead = subst IsWaiting (sym (none_read wanted q b)) (reading q b [] lead)
 reading_on wanted q b (p ∷ going) lead =
     let same : p ≡ q = sym (same_question q p lead.0) in
@@ -182,7 +186,8 @@ last_going (q ∷ []) lead = ap (λ (p : Question). p ∷ []) (sym (same_questio
 last_going (q ∷ p ∷ going) lead =
     absurd (not_done p (subst (λ (r : Question). next r ≡ before p) (sym (same_question echo q lead.0)) lead.1.0))
 
-reading_calms : (q : Question) (b : Bool) (going : List Question) → Lead (before q) going done → is_pending (server_at q b) ≡ false → IsCalm (opening_at q b going done)
+reading_calms : (q : Question) (b : Bool) (going : List Question) → Lead (before q) going done → is_pending (server_at q b) ≡ false
+    → IsCalm (opening_at q b going done)
 reading_calms linemode b going lead p = absurd (cc)
 reading_calms naws b going lead p = absurd (cc)
 reading_calms ours b going lead p = absurd (cc)
@@ -190,7 +195,8 @@ reading_calms theirs b going lead p = absurd (cc)
 reading_calms echo true going lead p = absurd (cc)
 reading_calms echo false going lead p = (c_granted_on, ap (λ (qs : List Question). opening_at echo false qs done) (last_going going lead))
 
-later_calms : (s : Waiting) → is_pending (pair_at (stage_of s)).here ≡ false → (pair_at (stage_of s)).to_there ≡ [] → (c : Calm) × (pair_at (stage_of s) ≡ pair_at (calm_stage c))
+later_calms : (s : Waiting) → is_pending (pair_at (stage_of s)).here ≡ false → (pair_at (stage_of s)).to_there ≡ [] → (c : Calm)
+    × (pair_at (stage_of s) ≡ pair_at (calm_stage c))
 later_calms w_on p e = (c_on, refl)
 later_calms w_off p e = (c_off, refl)
 later_calms w_asked_on p e = absurd (cc)

@@ -1,5 +1,6 @@
 -- What the server makes of items.
-use Rattle.std.proofs.Common.{◌≡◌, ◌≤◌, ◌<◌, ℕ, zero, suc, ◌+◌, ◌==◌, Bool, true, false, List, [], ◌∷◌, ◌++◌, length, take, refl, sym, ap, ◌∙◌, if◌then◌else◌, arith, append-nil, append_assoc, length-append}
+use Rattle.std.proofs.Common.{◌≡◌, ◌≤◌, ◌<◌, ℕ, zero, suc, ◌+◌, ◌==◌, Bool, true, false, List, [], ◌∷◌, ◌++◌, length, take, refl, sym, ap, ◌∙◌, if◌then◌else◌}
+use Rattle.std.proofs.Common.{arith, append-nil, append_assoc, length-append}
 use Rattle.tn_discipline.specs.declared.reads.Entry.{Entry}
 use Rattle.tn_discipline.specs.Canon.{Canon, typed_entries, typed_half}
 use Rattle.tn_discipline.specs.Limits.{max_counted}
@@ -31,14 +32,16 @@ ordinary-take chars (suc n) (x ∷ xs) p = (p.0, ordinary-take chars n xs p.1)
 not_full : (limit n : ℕ) → n < max_counted limit → (n == max_counted limit) ≡ false
 not_full limit n h = grind arith
 
-read-byte : (s : Canon) (l : Bool) (h : List ℕ) (w : List Entry) (b : ℕ) → literal_role s.settings.chars b ≡ role.Ordinary b → length h < max_counted s.limit → read s (server_at l true h w) (byte b) ≡ server_at l true (h ++ b ∷ []) w
+read-byte : (s : Canon) (l : Bool) (h : List ℕ) (w : List Entry) (b : ℕ) → literal_role s.settings.chars b ≡ role.Ordinary b → length h < max_counted s.limit
+    → read s (server_at l true h w) (byte b) ≡ server_at l true (h ++ b ∷ []) w
 read-byte s l h w b plain fits =
     ap (λ r. server_at l true (half_next s.limit h r) (w ++ gain_next s.limit h r)) plain
     ∙ ap (λ (t : Bool). server_at l true (if t then h else h ++ b ∷ []) (w ++ (if t then [] else []))) (not_full s.limit (length h) fits)
     ∙ ap (λ x. server_at l true (h ++ b ∷ []) x) (append-nil w)
 
 -- ordinary bytes that fit are all kept
-pub read-bytes : (s : Canon) (l : Bool) (h : List ℕ) (w : List Entry) (bs : List ℕ) → AreOrdinary s.settings.chars bs → length h + length bs ≤ max_counted s.limit → read_all s (server_at l true h w) (bytes bs) ≡ server_at l true (h ++ bs) w
+pub read-bytes : (s : Canon) (l : Bool) (h : List ℕ) (w : List Entry) (bs : List ℕ) → AreOrdinary s.settings.chars bs
+    → length h + length bs ≤ max_counted s.limit → read_all s (server_at l true h w) (bytes bs) ≡ server_at l true (h ++ bs) w
 read-bytes s l h w [] plain fits = ap (λ x. server_at l true x w) (sym (append-nil h))
 read-bytes s l h w (b ∷ bs) plain fits =
     ap (λ v. read_all s v (bytes bs)) (read-byte s l h w b plain.0 (omega arith))
@@ -46,7 +49,8 @@ read-bytes s l h w (b ∷ bs) plain fits =
     ∙ ap (λ x. server_at l true x w) (append_assoc h (b ∷ []) bs)
 
 -- ordinary bytes, and one more item
-pub read-bytes_then : (s : Canon) (l : Bool) (h : List ℕ) (w : List Entry) (bs : List ℕ) (item : Item) → AreOrdinary s.settings.chars bs → length h + length bs ≤ max_counted s.limit → read_all s (server_at l true h w) (bytes bs ++ item ∷ []) ≡ read s (server_at l true (h ++ bs) w) item
+pub read-bytes_then : (s : Canon) (l : Bool) (h : List ℕ) (w : List Entry) (bs : List ℕ) (item : Item) → AreOrdinary s.settings.chars bs
+    → length h + length bs ≤ max_counted s.limit → read_all s (server_at l true h w) (bytes bs ++ item ∷ []) ≡ read s (server_at l true (h ++ bs) w) item
 read-bytes_then s l h w bs item plain fits =
     read_all-append s (server_at l true h w) (bytes bs) (item ∷ []) ∙ ap (λ v. read s v item) (read-bytes s l h w bs plain fits)
 
@@ -79,5 +83,7 @@ typed_more s keys key = roles_of-append s keys (key ∷ []) ∙ ap (λ rs. roles
 pub half-typed : (s : Canon) (keys : List ℕ) (key : ℕ) → typed_half s (keys ++ key ∷ []) ≡ half_next s.limit (typed_half s keys) (role_of_key s.settings key)
 half-typed s keys key = ap (half_of s.limit) (typed_more s.settings keys key) ∙ half-role s.limit (roles_of s.settings keys) (role_of_key s.settings key)
 
-pub entries-typed : (s : Canon) (keys : List ℕ) (key : ℕ) → typed_entries s (keys ++ key ∷ []) ≡ typed_entries s keys ++ gain_next s.limit (typed_half s keys) (role_of_key s.settings key)
-entries-typed s keys key = ap (entries_of s.limit) (typed_more s.settings keys key) ∙ entries-role s.limit (roles_of s.settings keys) (role_of_key s.settings key)
+pub entries-typed : (s : Canon) (keys : List ℕ) (key : ℕ) → typed_entries s (keys ++ key ∷ []) ≡ typed_entries s keys
+    ++ gain_next s.limit (typed_half s keys) (role_of_key s.settings key)
+entries-typed s keys key = ap (entries_of s.limit) (typed_more s.settings keys key)
+    ∙ entries-role s.limit (roles_of s.settings keys) (role_of_key s.settings key)

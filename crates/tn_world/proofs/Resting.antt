@@ -1,5 +1,6 @@
 -- No wish of an end waits behind another where none does at the four options that it knows.
-use Rattle.std.proofs.Common.{◌≡◌, ◌↔◌, ℕ, ◌==◌, Bool, true, false, ◌&&◌, Option, Some, None, List, [], ◌∷◌, length, not, is_some, refl, ap, ◌∙◌, sym, arith, nat_eq, Bor}
+use Rattle.std.proofs.Common.{◌≡◌, ◌↔◌, ℕ, ◌==◌, Bool, true, false, ◌&&◌, Option, Some, None, List, [], ◌∷◌, length, not, is_some, refl, ap, ◌∙◌, sym, arith}
+use Rattle.std.proofs.Common.{nat_eq, Bor}
 use Rattle.std.specs.Prelude.{option_copied, slice_get}
 use Rattle.std.specs.Option.{option_eq}
 use Rattle.tn_discipline.specs.Characters.{Characters}
@@ -26,7 +27,9 @@ and_from : (a b : Bool) → a ≡ true → b ≡ true → (a && b) ≡ true
 and_from true b p q = q
 and_from false b p q = absurd (cc)
 
-at_known : (o : Options) (side : Side) → is_in_order (state_or_no o side (Some Echo)) ≡ true → is_in_order (state_or_no o side (Some SuppressGoAhead)) ≡ true → is_in_order (state_or_no o side (Some Naws)) ≡ true → is_in_order (state_or_no o side (Some Linemode)) ≡ true → (option : Option Known) → is_in_order (state_or_no o side option) ≡ true
+at_known : (o : Options) (side : Side) → is_in_order (state_or_no o side (Some Echo)) ≡ true → is_in_order (state_or_no o side (Some SuppressGoAhead)) ≡ true
+    → is_in_order (state_or_no o side (Some Naws)) ≡ true → is_in_order (state_or_no o side (Some Linemode)) ≡ true → (option : Option Known)
+    → is_in_order (state_or_no o side option) ≡ true
 at_known o side a b c d None = refl
 at_known o side a b c d (Some Echo) = a
 at_known o side a b c d (Some SuppressGoAhead) = b
@@ -68,7 +71,8 @@ steady_where o r found is same =
     let all : r ≡ list_all is_in_order (states o) = is ∙ ap (list_all is_in_order) same in
     (λ t. all_steady o (sym all ∙ t), λ s. all ∙ steady_all o s)
 
-pub same_states : (o : Options) (a b c d e f g h : QState) → a ≡ state_of o Us 1 → b ≡ state_of o Us 3 → c ≡ state_of o Us 31 → d ≡ state_of o Us 34 → e ≡ state_of o Them 1 → f ≡ state_of o Them 3 → g ≡ state_of o Them 31 → h ≡ state_of o Them 34 → a ∷ b ∷ c ∷ d ∷ e ∷ f ∷ g ∷ h ∷ [] ≡ states o
+pub same_states : (o : Options) (a b c d e f g h : QState) → a ≡ state_of o Us 1 → b ≡ state_of o Us 3 → c ≡ state_of o Us 31 → d ≡ state_of o Us 34
+    → e ≡ state_of o Them 1 → f ≡ state_of o Them 3 → g ≡ state_of o Them 31 → h ≡ state_of o Them 34 → a ∷ b ∷ c ∷ d ∷ e ∷ f ∷ g ∷ h ∷ [] ≡ states o
 same_states o a b c d e f g h p q r s t u v w = rw (p, q, r, s, t, u, v, w) refl
 
 -- no byte is held where the length is none
@@ -77,7 +81,8 @@ empty_where b [] is t = refl
 empty_where b (x ∷ l) is t = absurd (let p = sym is ∙ t in grind (arith, p))
 
 -- no entry waits where there is no first one
-pub none_waits : (r : Bool) (entries : List Entry) (first : Option (Bor Entry)) → is_some first ≡ not r → option_copied first ≡ slice_get entries 0 → (r ≡ true → entries ≡ []) × (entries ≡ [] → r ≡ true)
+pub none_waits : (r : Bool) (entries : List Entry) (first : Option (Bor Entry)) → is_some first ≡ not r → option_copied first ≡ slice_get entries 0
+    → (r ≡ true → entries ≡ []) × (entries ≡ [] → r ≡ true)
 none_waits true [] None is copied = (λ t. refl, λ t. refl)
 none_waits false [] None is copied = absurd (cc)
 none_waits true [] (Some x) is copied = absurd (cc)
@@ -98,7 +103,10 @@ not_not : (b : Bool) → false ≡ not b → b ≡ true
 not_not true h = refl
 not_not false h = absurd (cc)
 
-pub chars_same : (a b : Characters) → false ≡ not (option_eq nat_eq a.intr b.intr && (option_eq nat_eq a.quit b.quit && (option_eq nat_eq a.eof b.eof && (option_eq nat_eq a.susp b.susp && (option_eq nat_eq a.erase b.erase && (option_eq nat_eq a.kill b.kill && (option_eq nat_eq a.eol b.eol && option_eq nat_eq a.eol2 b.eol2))))))) → a ≡ b
+pub chars_same : (a b : Characters) → false ≡ not (option_eq nat_eq a.intr b.intr &&
+    (option_eq nat_eq a.quit b.quit && (option_eq nat_eq a.eof b.eof &&
+    (option_eq nat_eq a.susp b.susp && (option_eq nat_eq a.erase b.erase &&
+    (option_eq nat_eq a.kill b.kill && (option_eq nat_eq a.eol b.eol && option_eq nat_eq a.eol2 b.eol2))))))) → a ≡ b
 chars_same a b h =
     let p = and_both _ _ (not_not _ h) in
     let q = and_both _ _ p.1 in
@@ -107,11 +115,19 @@ chars_same a b h =
     let t = and_both _ _ s.1 in
     let u = and_both _ _ t.1 in
     let v = and_both _ _ u.1 in
-    ap (λ x. record { intr = x; quit = a.quit; eof = a.eof; susp = a.susp; erase = a.erase; kill = a.kill; eol = a.eol; eol2 = a.eol2 }) (same_byte a.intr b.intr p.0)
-    ∙ ap (λ x. record { intr = b.intr; quit = x; eof = a.eof; susp = a.susp; erase = a.erase; kill = a.kill; eol = a.eol; eol2 = a.eol2 }) (same_byte a.quit b.quit q.0)
-    ∙ ap (λ x. record { intr = b.intr; quit = b.quit; eof = x; susp = a.susp; erase = a.erase; kill = a.kill; eol = a.eol; eol2 = a.eol2 }) (same_byte a.eof b.eof r.0)
-    ∙ ap (λ x. record { intr = b.intr; quit = b.quit; eof = b.eof; susp = x; erase = a.erase; kill = a.kill; eol = a.eol; eol2 = a.eol2 }) (same_byte a.susp b.susp s.0)
-    ∙ ap (λ x. record { intr = b.intr; quit = b.quit; eof = b.eof; susp = b.susp; erase = x; kill = a.kill; eol = a.eol; eol2 = a.eol2 }) (same_byte a.erase b.erase t.0)
-    ∙ ap (λ x. record { intr = b.intr; quit = b.quit; eof = b.eof; susp = b.susp; erase = b.erase; kill = x; eol = a.eol; eol2 = a.eol2 }) (same_byte a.kill b.kill u.0)
-    ∙ ap (λ x. record { intr = b.intr; quit = b.quit; eof = b.eof; susp = b.susp; erase = b.erase; kill = b.kill; eol = x; eol2 = a.eol2 }) (same_byte a.eol b.eol v.0)
-    ∙ ap (λ x. record { intr = b.intr; quit = b.quit; eof = b.eof; susp = b.susp; erase = b.erase; kill = b.kill; eol = b.eol; eol2 = x }) (same_byte a.eol2 b.eol2 v.1)
+    ap (λ x. record { intr = x; quit = a.quit; eof = a.eof; susp = a.susp; erase = a.erase; kill = a.kill; eol = a.eol; eol2 = a.eol2 })
+    (same_byte a.intr b.intr p.0)
+    ∙ ap (λ x. record { intr = b.intr; quit = x; eof = a.eof; susp = a.susp; erase = a.erase; kill = a.kill; eol = a.eol; eol2 = a.eol2 })
+    (same_byte a.quit b.quit q.0)
+    ∙ ap (λ x. record { intr = b.intr; quit = b.quit; eof = x; susp = a.susp; erase = a.erase; kill = a.kill; eol = a.eol; eol2 = a.eol2 })
+    (same_byte a.eof b.eof r.0)
+    ∙ ap (λ x. record { intr = b.intr; quit = b.quit; eof = b.eof; susp = x; erase = a.erase; kill = a.kill; eol = a.eol; eol2 = a.eol2 })
+    (same_byte a.susp b.susp s.0)
+    ∙ ap (λ x. record { intr = b.intr; quit = b.quit; eof = b.eof; susp = b.susp; erase = x; kill = a.kill; eol = a.eol; eol2 = a.eol2 })
+    (same_byte a.erase b.erase t.0)
+    ∙ ap (λ x. record { intr = b.intr; quit = b.quit; eof = b.eof; susp = b.susp; erase = b.erase; kill = x; eol = a.eol; eol2 = a.eol2 })
+    (same_byte a.kill b.kill u.0)
+    ∙ ap (λ x. record { intr = b.intr; quit = b.quit; eof = b.eof; susp = b.susp; erase = b.erase; kill = b.kill; eol = x; eol2 = a.eol2 })
+    (same_byte a.eol b.eol v.0)
+    ∙ ap (λ x. record { intr = b.intr; quit = b.quit; eof = b.eof; susp = b.susp; erase = b.erase; kill = b.kill; eol = b.eol; eol2 = x })
+    (same_byte a.eol2 b.eol2 v.1)

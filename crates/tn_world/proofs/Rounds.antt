@@ -1,5 +1,6 @@
 -- After two rounds of delivery nothing is in flight.
-use Rattle.std.proofs.Common.{◌≡◌, ℕ, ◌≤◌, Bool, true, false, Some, None, List, [], ◌∷◌, ◌++◌, length, take, refl, sym, ap, ◌∙◌, subst, if◌then◌else◌, append-nil, append_assoc}
+use Rattle.std.proofs.Common.{◌≡◌, ℕ, ◌≤◌, Bool, true, false, Some, None, List, [], ◌∷◌, ◌++◌, length, take, refl, sym, ap, ◌∙◌, subst, if◌then◌else◌}
+use Rattle.std.proofs.Common.{append-nil, append_assoc}
 use Rattle.std.specs.Prelude.{All}
 use Rattle.std.proofs.lemmas.List.{append_cancel_left, drop_all}
 use Rattle.std.proofs.lemmas.List.Elements.{All-nil, All-append}
@@ -36,11 +37,13 @@ server_goes_on : (end : server.End) → server.call_fault end ≡ None → end.f
 server_goes_on end e = by_test end.failed refl
   where
     by_test : (b : Bool) → end.failed ≡ b → end.failed ≡ false
-    by_test true is = absurd (let f : (if true then Some server_faults.Failed else None) ≡ None = ap (λ (b : Bool). if b then Some server_faults.Failed else None) (sym is) ∙ e in cc)
+    by_test true is = absurd (let f : (if true then Some server_faults.Failed else None)
+        ≡ None = ap (λ (b : Bool). if b then Some server_faults.Failed else None) (sym is) ∙ e in cc)
     by_test false is = is
 
 -- all that is in flight is read
-all_delivered : (old new : DecoderState) (n : ℕ) (flight : List ℕ) (items got : List Item) → length flight ≤ n → InFlight old flight items → Advances old (take n flight) got new → items ≡ got
+all_delivered : (old new : DecoderState) (n : ℕ) (flight : List ℕ) (items got : List Item) → length flight ≤ n → InFlight old flight items
+    → Advances old (take n flight) got new → items ≡ got
 all_delivered old new n flight items got whole f adds =
     let d = cut_at old new n flight items got f adds in
     d.all
@@ -48,7 +51,8 @@ all_delivered old new n flight items got whole f adds =
     ∙ append-nil got
 
 -- THE FIRST ROUND leaves no contrary wish at the server
-module _ (w0 w1 w2 : World) (n m : ℕ) (s0 : HasPast w0) (back : DeliversToClient w0 n w1) (all_back : length w0.to_client ≤ n) (there : DeliversToServer w1 m w2) (all_there : length w1.to_server ≤ m) where
+module _ (w0 w1 w2 : World) (n m : ℕ) (s0 : HasPast w0) (back : DeliversToClient w0 n w1) (all_back : length w0.to_client ≤ n)
+    (there : DeliversToServer w1 m w2) (all_there : length w1.to_server ≤ m) where
   s1 : HasPast w1
   s1 = sound_returns w0 w1 n back s0
 
@@ -95,7 +99,8 @@ module _ (w0 w1 w2 : World) (n m : ℕ) (s0 : HasPast w0) (back : DeliversToClie
   first_empty = ap (λ (w : World). w.to_server) there.rest ∙ drop_all m w1.to_server all_there
 
 -- WHAT A CLIENT ANSWERS
-module _ (answered : (c s : Characters) (ts : List Triple) → server_answers s (client_answers c ts) ≡ []) (asked : (c : Characters) (ts : List Triple) → server_is_asked (client_answers c ts) ≡ false) where
+module _ (answered : (c s : Characters) (ts : List Triple) → server_answers s (client_answers c ts) ≡ [])
+    (asked : (c : Characters) (ts : List Triple) → server_is_asked (client_answers c ts) ≡ false) where
   list_asks : (c : Characters) (ts : List Triple) → AsksNothing (Sub 34 (parameters_of (payload.Slc (client_answers c ts))))
   list_asks c ts =
       let us = client_answers c ts in
@@ -121,7 +126,8 @@ module _ (answered : (c s : Characters) (ts : List Triple) → server_answers s 
       }
 
   -- THE SECOND ROUND
-  module _ (w2 w3 w4 : World) (n m : ℕ) (s2 : HasPast w2) (empty : w2.to_server ≡ []) (pending : is_pending w2.server.terms.options ≡ false) (back : DeliversToClient w2 n w3) (all_back : length w2.to_client ≤ n) (there : DeliversToServer w3 m w4) (all_there : length w3.to_server ≤ m) where
+  module _ (w2 w3 w4 : World) (n m : ℕ) (s2 : HasPast w2) (empty : w2.to_server ≡ []) (pending : is_pending w2.server.terms.options ≡ false)
+      (back : DeliversToClient w2 n w3) (all_back : length w2.to_client ≤ n) (there : DeliversToServer w3 m w4) (all_there : length w3.to_server ≤ m) where
     s3 : HasPast w3
     s3 = sound_returns w2 w3 n back s2
 
@@ -157,15 +163,19 @@ module _ (answered : (c s : Characters) (ts : List Triple) → server_answers s 
         let z = s2.to_server (sym (ap (λ (e : server.End). e.failed) same) ∙ last_server_runs) in
         let f = back.feeds in
         let none : z.0 ≡ [] = no_items w2.server.decoder z.0 (subst (λ (x : List ℕ). InFlight w2.server.decoder x z.0) empty z.1) in
-        let flight : InFlight w2.server.decoder w3.to_server (z.0 ++ f.said) = said_behind w2.server.decoder w2.to_server w3.to_server z.0 f.said f.appended (came_fit at.history w2.client w3.client (take n w2.to_client) w2.to_server w3.to_server w2.shown w3.shown at.leads f) z.1 in
-        sym (all_delivered w3.server.decoder w4.server.decoder m w3.to_server (z.0 ++ f.said) there.feeds.items all_there (subst (λ (e : server.End). InFlight e.decoder w3.to_server (z.0 ++ f.said)) (sym same) flight) there.feeds.reads)
+        let flight : InFlight w2.server.decoder w3.to_server (z.0 ++ f.said) =
+        said_behind w2.server.decoder w2.to_server w3.to_server z.0 f.said f.appended
+        (came_fit at.history w2.client w3.client (take n w2.to_client) w2.to_server w3.to_server w2.shown w3.shown at.leads f) z.1 in
+        sym (all_delivered w3.server.decoder w4.server.decoder m w3.to_server (z.0 ++ f.said) there.feeds.items all_there
+        (subst (λ (e : server.End). InFlight e.decoder w3.to_server (z.0 ++ f.said)) (sym same) flight) there.feeds.reads)
         ∙ ap (λ (x : List Item). x ++ f.said) none
 
     asks : All AsksNothing there.feeds.items
     asks =
         let at = (s2.client_course client_ran).1 in
         let a = all_answered back.feeds.items at.history in
-        let is : a.said ≡ back.feeds.said = append_cancel_left (client_says.items_said at.history) a.said back.feeds.said (sym a.sends ∙ back.feeds.sends at.history at.leads) in
+        let is : a.said ≡ back.feeds.said = append_cancel_left (client_says.items_said at.history) a.said back.feeds.said
+        (sym a.sends ∙ back.feeds.sends at.history at.leads) in
         subst (All AsksNothing) (is ∙ sym all_said) a.asks
 
     calm : IsCalm (engines w3 (s3.to_server last_server_runs).0 (s3.to_client last_client_runs).0)
@@ -179,14 +189,16 @@ module _ (answered : (c s : Characters) (ts : List Triple) → server_answers s 
     calm_as =
         subst (λ (o : server_terms.Terms). IsCalm (pair o.options w3.client.options (words_in there.feeds.items) [])) s3.server.terms
         (subst (λ (x : List Item). IsCalm (pair w3.server.terms.options w3.client.options (words_in x) [])) last_all_got
-        (subst (λ (y : List Item). IsCalm (pair w3.server.terms.options w3.client.options (words_in (s3.to_server last_server_runs).0) (words_in y))) last_quiet calm))
+        (subst (λ (y : List Item). IsCalm (pair w3.server.terms.options w3.client.options (words_in (s3.to_server last_server_runs).0) (words_in y))) last_quiet
+        calm))
 
     none_said : there.feeds.said ≡ []
     none_said =
         let h = s3.history in
         append_cancel_left (server_says.items_said h) there.feeds.said []
         (sym (there.feeds.sends h s3.server)
-        ∙ all_silent there.feeds.items h w3.client.options [] (subst (All WishesNothing) last_all_got (s3.unwished last_server_runs last_client_runs)) asks calm_as
+        ∙ all_silent there.feeds.items h w3.client.options [] (subst (All WishesNothing) last_all_got (s3.unwished last_server_runs last_client_runs)) asks
+        calm_as
         ∙ sym (append-nil (server_says.items_said h)))
 
     pub second_empty : NothingInFlight w4

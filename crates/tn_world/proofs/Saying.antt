@@ -1,6 +1,7 @@
 -- What a client says wishes for no mode, and what it says to an item is answered by nothing, unless it is an option
 -- word.
-use Rattle.std.proofs.Common.{◌≡◌, ℕ, zero, suc, arith, ◌<◌, ◌==◌, Bool, true, false, not, ◌&&◌, ◌||◌, Option, Some, None, List, [], ◌∷◌, refl, sym, subst, if◌then◌else◌}
+use Rattle.std.proofs.Common.{◌≡◌, ℕ, zero, suc, arith, ◌<◌, ◌==◌, Bool, true, false, not, ◌&&◌, ◌||◌, Option, Some, None, List, [], ◌∷◌, refl, sym, subst}
+use Rattle.std.proofs.Common.{if◌then◌else◌}
 use Rattle.std.specs.Prelude.{All, bit_or}
 use Rattle.std.proofs.lemmas.List.Elements.{All-nil, All-cons, All-append}
 use Rattle.std.proofs.lemmas.Nat.{and_mask}
@@ -26,7 +27,8 @@ use Rattle.tn_option.specs.Options.{Options, reply_to}
 use Rattle.tn_wire.specs.Words.{word_items, mode_items, list_items}
 use Rattle.tn_client.specs.Events.{Event, History, begun, next, typed, got, resized, proposed, sent}
 use Rattle.tn_client.specs.Lines.{role_at, sends_ahead, line}
-use Rattle.tn_client.specs.Replies.{byte_items, command_of, command_items, raw_key_items, edited_key_items, sent_ahead_items, key_items, size_items, new_size_items, payload_answers, answer_items, end_of_edit_items, is_same_size, command_sent, replies, items_said}
+use Rattle.tn_client.specs.Replies.{byte_items, command_of, command_items, raw_key_items, edited_key_items, sent_ahead_items, key_items, size_items}
+use Rattle.tn_client.specs.Replies.{new_size_items, payload_answers, answer_items, end_of_edit_items, is_same_size, command_sent, replies, items_said}
 use Rattle.tn_client.specs.Terms.{options, mode, forward, chars, size, tells_size, payload_at, options_after, mode_at}
 use Rattle.tn_world.specs.Past.{IsNoWish, WishesNothing}
 
@@ -41,7 +43,10 @@ is-ack (suc (suc (suc zero))) h = refl
 is-ack (suc (suc (suc (suc n)))) h = absurd (omega arith)
 
 -- WHATEVER HOLDS OF EACH KIND OF ITEM
-module _ (P : Item → Type 0) (byte : (b : ℕ) → P (Byte b)) (newline : P Newline) (command : (c : Command) → P (Cmd c)) (word : (v : Verb) (o : ℕ) → P (Neg v o)) (window : (w h : ℕ) → P (Sub 31 (parameters_of (payload.Naws w h)))) (ack : (n : ℕ) → n < 4 → P (Sub 34 (parameters_of (payload.Mode (bit_or n 4))))) (yes : P (Sub 34 (parameters_of payload.ForwardYes))) (no : P (Sub 34 (parameters_of payload.ForwardNo))) (list : (c : Characters) (ts : List Triple) → P (Sub 34 (parameters_of (payload.Slc (client_answers c ts))))) where
+module _ (P : Item → Type 0) (byte : (b : ℕ) → P (Byte b)) (newline : P Newline) (command : (c : Command) → P (Cmd c)) (word : (v : Verb) (o : ℕ) → P (Neg v o))
+    (window : (w h : ℕ) → P (Sub 31 (parameters_of (payload.Naws w h)))) (ack : (n : ℕ) → n < 4 → P (Sub 34 (parameters_of (payload.Mode (bit_or n 4)))))
+    (yes : P (Sub 34 (parameters_of payload.ForwardYes))) (no : P (Sub 34 (parameters_of payload.ForwardNo)))
+    (list : (c : Characters) (ts : List Triple) → P (Sub 34 (parameters_of (payload.Slc (client_answers c ts))))) where
   one_all : (item : Item) → P item → All P (item ∷ [])
   one_all item p = All-cons P item [] p (All-nil P)
 
@@ -116,7 +121,8 @@ module _ (P : Item → Type 0) (byte : (b : ℕ) → P (Byte b)) (newline : P Ne
 
   answer_all : (o : Options) (m : ℕ) (c : Characters) (z : ℕ × ℕ) (item : Item) → All P (answer_items o m c z item)
   answer_all o m c z (Neg verb option) =
-      All-append P (word_items (reply_to o verb option)) (new_size_items (tells_size o) (tells_size (options_after o (Neg verb option))) z) (word_all (reply_to o verb option)) (if_all (tells_size (options_after o (Neg verb option)) && not (tells_size o)) (size_items z) (size_all z))
+      All-append P (word_items (reply_to o verb option)) (new_size_items (tells_size o) (tells_size (options_after o (Neg verb option))) z)
+      (word_all (reply_to o verb option)) (if_all (tells_size (options_after o (Neg verb option)) && not (tells_size o)) (size_items z) (size_all z))
   answer_all o m c z (Sub option params) = payload_all m c (payload_at o (Sub option params))
   answer_all o m c z (Byte b) = All-nil P
   answer_all o m c z Newline = All-nil P
@@ -129,13 +135,15 @@ module _ (P : Item → Type 0) (byte : (b : ℕ) → P (Byte b)) (newline : P Ne
 
   pub answers_all : (h : History) (item : Item) → All P (replies h (got item))
   answers_all h item =
-      All-append P (end_of_edit_items (edits (mode h)) (edits (mode_at (options h) (mode h) item)) (line h).held) (answer_items (options h) (mode h) (chars h) (size h) item)
+      All-append P (end_of_edit_items (edits (mode h)) (edits (mode_at (options h) (mode h) item)) (line h).held)
+      (answer_items (options h) (mode h) (chars h) (size h) item)
       (ending_all (edits (mode h)) (edits (mode_at (options h) (mode h) item)) (line h).held) (answer_all (options h) (mode h) (chars h) (size h) item)
 
   replies_all : (h : History) (e : Event) → ((f : Func) (v : Option ℕ) → P (Sub 34 (parameters_of (payload.Slc (triple_of f v ∷ []))))) → All P (replies h e)
   replies_all h (typed key) p = key_all (edits (mode h)) (forward h) (role_at h key) (line h) key
   replies_all h (got item) p = answers_all h item
-  replies_all h (resized width height) p = if_all (tells_size (options h) && not (is_same_size (size h) (width, height))) (size_items (width, height)) (size_all (width, height))
+  replies_all h (resized width height) p = if_all (tells_size (options h) && not (is_same_size (size h) (width, height))) (size_items (width, height))
+      (size_all (width, height))
   replies_all h (proposed func value) p = one_all (Sub 34 (parameters_of (payload.Slc (triple_of func value ∷ [])))) (p func value)
   replies_all h (sent c) p = one_all (Cmd (command_sent c)) (command (command_sent c))
 
@@ -148,7 +156,8 @@ ack_no_wish n fits = is-ack n fits
 
 pub says_no_wish : (h : History) (e : Event) → All WishesNothing (replies h e)
 says_no_wish h e =
-    replies_all WishesNothing (λ b. tt) tt (λ c. tt) (λ v o. tt) (λ w h. tt) ack_no_wish tt tt (λ c ts. list_no_wish (client_answers c ts)) h e (λ f v. list_no_wish (triple_of f v ∷ []))
+    replies_all WishesNothing (λ b. tt) tt (λ c. tt) (λ v o. tt) (λ w h. tt) ack_no_wish tt tt (λ c ts. list_no_wish (client_answers c ts)) h e
+    (λ f v. list_no_wish (triple_of f v ∷ []))
 
 pub said_no_wish : (h : History) → All WishesNothing (items_said h)
 said_no_wish (begun width height limit) = All-nil WishesNothing

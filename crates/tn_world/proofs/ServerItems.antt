@@ -1,5 +1,6 @@
 -- What a server end says, whatever came and whatever its owner did, shows nothing on a screen but what is pulled.
-use Rattle.std.proofs.Common.{◌≡◌, ℕ, ◌+◌, nat_le, Bool, true, false, not, ◌&&◌, Option, Some, None, Result, Ok, Err, List, [], ◌∷◌, ◌++◌, length, take, refl, sym, ap, ◌∙◌, if◌then◌else◌, append-nil, append_assoc}
+use Rattle.std.proofs.Common.{◌≡◌, ℕ, ◌+◌, nat_le, Bool, true, false, not, ◌&&◌, Option, Some, None, Result, Ok, Err, List, [], ◌∷◌, ◌++◌, length, take, refl}
+use Rattle.std.proofs.Common.{sym, ap, ◌∙◌, if◌then◌else◌, append-nil, append_assoc}
 use Rattle.std.proofs.lemmas.Grind.{flat_map-append}
 use Rattle.std.proofs.lemmas.List.{append_cancel_left}
 use Rattle.tn_codes.specs.declared.codes.Command.TheVariants.{Ga}
@@ -22,10 +23,12 @@ use Rattle.tn_option.specs.declared.q_method.AskFault.{AskFault}
 use Rattle.tn_option.specs.declared.q_method.Side.TheVariants.{Us}
 use Rattle.tn_pty.specs.Terminal.{queue_symbols, output_symbols, fitting_count}
 use Rattle.tn_server.specs.Events.{Event, History, next, got, took, wrote, pulled, wished, char_set, echo_set, mask_set, gets}
-use Rattle.tn_server.specs.Terms.{Terms, terms, options, flags, chars, settings, mode, linemode, echoes, payload_at, options_after, wish_at, is_echo_set, wish_after, mask_told, asks_echo, asked_mask_of, wants_echo, chars_after}
+use Rattle.tn_server.specs.Terms.{Terms, terms, options, flags, chars, settings, mode, linemode, echoes, payload_at, options_after, wish_at, is_echo_set}
+use Rattle.tn_server.specs.Terms.{wish_after, mask_told, asks_echo, asked_mask_of, wants_echo, chars_after}
 use Rattle.tn_server.specs.Lines.{line}
 use Rattle.tn_server.specs.Screen.{queue, shows, sends_ga, none_waits, due}
-use Rattle.tn_server.specs.Replies.{asked_word_items, reply_items, opening, table_items, new_table_items, echo_items, items_by, items_at, list_replies, triple_items, forward_payload, replies, items_said}
+use Rattle.tn_server.specs.Replies.{asked_word_items, reply_items, opening, table_items, new_table_items, echo_items, items_by, items_at, list_replies}
+use Rattle.tn_server.specs.Replies.{triple_items, forward_payload, replies, items_said}
 use Rattle.tn_wire.specs.Words.{word_items, payload_items, list_items, mode_items}
 use Rattle.tn_server.specs.Calls.{End, LeadsTo, Advances, Feeds, StopsWithin, first_replies}
 use Rattle.tn_server.specs.declared.faults.ServerFault.{ServerFault}
@@ -156,7 +159,8 @@ first_none : (h : History) (left : List Item) → text_of (first_replies h left)
 first_none h [] = refl
 first_none h (item ∷ left) = replies_none h (got item) tt
 
-pub halts_none : (h : History) (old new : End) (piece before after : List ℕ) (fault : ServerFault) → LeadsTo h old → (x : StopsWithin old piece fault before after new) → text_of (x.said ++ x.part) ≡ []
+pub halts_none : (h : History) (old new : End) (piece before after : List ℕ) (fault : ServerFault) → LeadsTo h old
+    → (x : StopsWithin old piece fault before after new) → text_of (x.said ++ x.part) ≡ []
 halts_none h old new piece before after fault s x =
     let b = x.begins h s in
     both_none x.said x.part (said_none h x.done x.said (x.sends h s))
@@ -186,20 +190,23 @@ gets_grow h (item ∷ items) =
     let later = gets_grow (next h (got item)) items in
     (first.0 ++ later.0, later.1 ∙ ap (λ (q : List Symbol). q ++ later.0) first.1 ∙ append_assoc (queue h) first.0 later.0)
 
-pub feeds_queue : (h : History) (old new : End) (piece before after : List ℕ) → LeadsTo h old → Feeds old piece before after new → (more : List Symbol) × (new.terminal.queue ≡ old.terminal.queue ++ more)
+pub feeds_queue : (h : History) (old new : End) (piece before after : List ℕ) → LeadsTo h old → Feeds old piece before after new → (more : List Symbol)
+    × (new.terminal.queue ≡ old.terminal.queue ++ more)
 feeds_queue h old new piece before after s f =
     let later = gets_grow h f.items in
     let stands = f.leads h s in
     (later.0, stands.queue ∙ later.1 ∙ ap (λ (q : List Symbol). q ++ later.0) (sym s.queue))
 
 -- the same for a call
-pub goes_queue : (h : History) (old new : End) (e : Event) (before after : List ℕ) → IsUnpulled e → LeadsTo h old → Advances old e before after new → (more : List Symbol) × (new.terminal.queue ≡ old.terminal.queue ++ more)
+pub goes_queue : (h : History) (old new : End) (e : Event) (before after : List ℕ) → IsUnpulled e → LeadsTo h old → Advances old e before after new
+    → (more : List Symbol) × (new.terminal.queue ≡ old.terminal.queue ++ more)
 goes_queue h old new e before after is s g =
     let later = queue_grows h e is in
     let stands = g.leads h s in
     (later.0, stands.queue ∙ later.1 ∙ ap (λ (q : List Symbol). q ++ later.0) (sym s.queue))
 
-pub halts_queue : (h : History) (old new : End) (piece before after : List ℕ) (fault : ServerFault) → LeadsTo h old → StopsWithin old piece fault before after new → (more : List Symbol) × (new.terminal.queue ≡ old.terminal.queue ++ more)
+pub halts_queue : (h : History) (old new : End) (piece before after : List ℕ) (fault : ServerFault) → LeadsTo h old
+    → StopsWithin old piece fault before after new → (more : List Symbol) × (new.terminal.queue ≡ old.terminal.queue ++ more)
 halts_queue h old new piece before after fault s x =
     let later = gets_grow h x.done in
     let stands = x.leads h s in

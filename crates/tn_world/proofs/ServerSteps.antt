@@ -1,5 +1,7 @@
 -- What a server end does after a mark: with items that are calm, and with its owner's calls.
-use Rattle.std.proofs.Common.{◌≡◌, ◌≢◌, ◌≤◌, inl, inr, ℕ, ◌+◌, ◌==◌, nat_lt, nat_le, Bool, true, false, not, ◌&&◌, Option, Some, None, Result, Ok, Err, option_to_list, List, [], ◌∷◌, ◌++◌, length, take, drop, refl, sym, ap, ◌∙◌, if◌then◌else◌, subst, arith, append-nil, append_assoc, length-append, map}
+use Rattle.std.proofs.Common.{◌≡◌, ◌≢◌, ◌≤◌, inl, inr, ℕ, ◌+◌, ◌==◌, nat_lt, nat_le, Bool, true, false, not, ◌&&◌, Option, Some, None, Result, Ok, Err}
+use Rattle.std.proofs.Common.{option_to_list, List, [], ◌∷◌, ◌++◌, length, take, drop, refl, sym, ap, ◌∙◌, if◌then◌else◌, subst, arith, append-nil}
+use Rattle.std.proofs.Common.{append_assoc, length-append, map}
 use Rattle.std.specs.Prelude.{All, MatchOption}
 use Rattle.std.proofs.lemmas.Bool.{eqb-false, ltb-true}
 use Rattle.std.proofs.lemmas.Bool.Decides.{nat_tests}
@@ -31,7 +33,8 @@ use Rattle.tn_nvt.specs.Spelling.{Fits}
 use Rattle.tn_nvt.specs.declared.items.Item.{Item}
 use Rattle.tn_nvt.specs.declared.items.Item.TheVariants.{Byte, Newline, Cmd, Neg, Sub}
 use Rattle.tn_option.specs.QMethod.{side_of, cause_of, word_of_answer, result_of_answer, wish_for}
-use Rattle.tn_option.specs.Options.{Options, known_option, cell_now, refusal_word, word_now, answer_now, options_after_word, reply_to, answer_to, state_of, agrees_to, is_yes}
+use Rattle.tn_option.specs.Options.{Options, known_option, cell_now, refusal_word, word_now, answer_now, options_after_word, reply_to, answer_to, state_of}
+use Rattle.tn_option.specs.Options.{agrees_to, is_yes}
 use Rattle.tn_option.specs.declared.known.Known.{Known}
 use Rattle.tn_option.specs.declared.q_method.Answer.{Answer}
 use Rattle.tn_option.specs.declared.q_method.Answer.TheVariants as answer
@@ -43,11 +46,14 @@ use Rattle.tn_option.specs.declared.q_method.QState.TheVariants.{Yes}
 use Rattle.tn_option.specs.declared.q_method.Side.TheVariants.{Us, Them}
 use Rattle.tn_option.proofs.lemmas.OptionLaws.{LeavesOthers-moved}
 use Rattle.tn_server.specs.Events.{Event, History, next, got, took, wrote, pulled, wished, char_set, echo_set, mask_set, gets, limit}
-use Rattle.tn_server.specs.Terms.{Terms, terms, options, flags, chars, settings, mode, linemode, payload_at, options_after, wish_in, wish_after, mask_for, mask_or, asked_mask_of, asked_mask_while, mode_sent, mask_told, asks_echo, wants_echo, terms_by, mask_after, chars_after, allows_local}
+use Rattle.tn_server.specs.Terms.{Terms, terms, options, flags, chars, settings, mode, linemode, payload_at, options_after, wish_in, wish_after, mask_for}
+use Rattle.tn_server.specs.Terms.{mask_or, asked_mask_of, asked_mask_while, mode_sent, mask_told, asks_echo, wants_echo, terms_by, mask_after, chars_after}
+use Rattle.tn_server.specs.Terms.{allows_local}
 use Rattle.tn_wire.specs.Words.{differ, word_items, payload_items, mode_items, list_items}
 use Rattle.tn_server.specs.Lines.{role_at, roles, entries, half, taken_count, waiting}
 use Rattle.tn_server.specs.Screen.{queue, sends_ga, none_waits, due}
-use Rattle.tn_server.specs.Replies.{asked_word_items, reply_items, table_items, new_table_items, echo_items, items_by, items_at, list_replies, forward_payload, data_of, replies, items_said}
+use Rattle.tn_server.specs.Replies.{asked_word_items, reply_items, table_items, new_table_items, echo_items, items_by, items_at, list_replies, forward_payload}
+use Rattle.tn_server.specs.Replies.{data_of, replies, items_said}
 use Rattle.tn_server.specs.Calls.{End, LeadsTo, Advances, ReadsNothing, Feeds}
 use Rattle.tn_server.specs.declared.wishes.Editing.{Editing}
 use Rattle.tn_server.specs.declared.wishes.Editing.TheVariants.{Remote, Local}
@@ -77,7 +83,8 @@ both P xs ys a b = All-append P xs ys a b
 none_made : (P : Item → Type 0) (word_of_answer : List Item) → word_of_answer ≡ [] → All P word_of_answer
 none_made P word_of_answer e = subst (All P) (sym e) (nothing P)
 
-replies_of : (canon : Canon) (word_of_answer : List Item) → All Fits word_of_answer → All (IsCalmToClient canon.settings) word_of_answer → AreReplies canon word_of_answer
+replies_of : (canon : Canon) (word_of_answer : List Item) → All Fits word_of_answer → All (IsCalmToClient canon.settings) word_of_answer
+    → AreReplies canon word_of_answer
 replies_of canon word_of_answer fit calm = record { fit = fit; calm = calm }
 
 -- OPTION WORDS answer with the option that they were asked about
@@ -129,9 +136,11 @@ wish_speaks o side option on = asked_speaks o side option (wish_for on) (known_o
 
 pub word_made : (P : Item → Type 0) (option : ℕ) (w : Option (Verb × ℕ)) → Speaks option w → ((verb : Verb) → P (Neg verb option)) → All P (word_items w)
 word_made P option None s p = nothing P
-word_made P option (Some word_of_answer) s p = one P (Neg word_of_answer.0 word_of_answer.1) (subst (λ (c : ℕ). P (Neg word_of_answer.0 c)) (sym s) (p word_of_answer.0))
+word_made P option (Some word_of_answer) s p = one P (Neg word_of_answer.0 word_of_answer.1)
+    (subst (λ (c : ℕ). P (Neg word_of_answer.0 c)) (sym s) (p word_of_answer.0))
 
-pub asked_made : (P : Item → Type 0) (option : ℕ) (w : Result (Option (Verb × ℕ)) AskFault) → SpeaksAsked option w → ((verb : Verb) → P (Neg verb option)) → All P (asked_word_items w)
+pub asked_made : (P : Item → Type 0) (option : ℕ) (w : Result (Option (Verb × ℕ)) AskFault) → SpeaksAsked option w → ((verb : Verb) → P (Neg verb option))
+    → All P (asked_word_items w)
 asked_made P option (Ok w) s p = word_made P option w s p
 asked_made P option (Err fault) s p = nothing P
 
@@ -140,7 +149,9 @@ echo_made P true wanted o p = asked_made P 1 (answer_to o Us 1 wanted) (wish_spe
 echo_made P false wanted o p = nothing P
 
 -- what is said once the options and perhaps a wish are new: the table, the mode, the server's ECHO
-pub settled_made : (P : Item → Type 0) (f : Flags) (c : Characters) (t : Terms) (o : Options) (ed : Option Editing) (set : Bool) → All P (new_table_items (linemode t.options) (linemode o) c) → All P (mode_items (mask_told t o (wish_after f t.wish ed))) → ((verb : Verb) → P (Neg verb 1)) → All P (items_by f c t o ed set)
+pub settled_made : (P : Item → Type 0) (f : Flags) (c : Characters) (t : Terms) (o : Options) (ed : Option Editing) (set : Bool)
+    → All P (new_table_items (linemode t.options) (linemode o) c) → All P (mode_items (mask_told t o (wish_after f t.wish ed)))
+    → ((verb : Verb) → P (Neg verb 1)) → All P (items_by f c t o ed set)
 settled_made P f c t o ed set table told p =
     let wish = wish_after f t.wish ed in
     both P _ _ table (both P _ _ told (echo_made P (asks_echo t.options o (mask_told t o wish) set) (wants_echo (asked_mask_of o wish) f) o p))
@@ -189,10 +200,29 @@ core_of h failed = record { linemode = linemode (options h); edit = edits (mode 
 
 pub core_at : (h : History) (end : End) → LeadsTo h end → server_core end ≡ core_of h end.failed
 core_at h end s =
-    ap (λ (t : Terms). record { linemode = linemode t.options; edit = edits end.modes.current; half = end.terminal.line.held; waiting = end.terminal.entries; failed = end.failed }) s.terms
-    ∙ ap (λ (m : Modes). record { linemode = linemode (options h); edit = edits m.current; half = end.terminal.line.held; waiting = end.terminal.entries; failed = end.failed }) s.modes
-    ∙ ap (λ (held : List ℕ). record { linemode = linemode (options h); edit = edits (mode h); half = held; waiting = end.terminal.entries; failed = end.failed }) (ap (λ l. l.held) (line_is h end s))
-    ∙ ap (λ (w : List Entry). record { linemode = linemode (options h); edit = edits (mode h); half = half h; waiting = w; failed = end.failed }) (sym (waits_are h end s))
+    ap (λ (t : Terms). record {
+      linemode = linemode t.options;
+      edit = edits end.modes.current;
+      half = end.terminal.line.held;
+      waiting = end.terminal.entries;
+      failed = end.failed;
+    }) s.terms
+    ∙ ap (λ (m : Modes). record {
+      linemode = linemode (options h);
+      edit = edits m.current;
+      half = end.terminal.line.held;
+      waiting = end.terminal.entries;
+      failed = end.failed;
+    }) s.modes
+    ∙ ap (λ (held : List ℕ). record {
+      linemode = linemode (options h);
+      edit = edits (mode h);
+      half = held;
+      waiting = end.terminal.entries;
+      failed = end.failed;
+    }) (ap (λ l. l.held) (line_is h end s))
+    ∙ ap (λ (w : List Entry). record { linemode = linemode (options h); edit = edits (mode h); half = half h; waiting = w; failed = end.failed })
+    (sym (waits_are h end s))
 
 -- A CALM ITEM brings no wish and no character
 calm_if : (b : Bool) (p : Option Payload) → SaysCalmly p → SaysCalmly (if b then p else None)
@@ -230,9 +260,11 @@ turning_word : (option : ℕ) → option ≡ 34 → server_item (Neg Will option
 turning_word option is = ap (λ (n : ℕ). seen_word (n == 34)) is
 
 -- the words of the client after which LINEMODE is on
-turned_after : (o : Options) (verb : Verb) (option : ℕ) → agrees_to o Them 34 ≡ true → NeverEnds (state_of o Them 34) → verb ≡ Will → option ≡ 34 → state_of (options_after_word o verb option) Them 34 ≡ Yes
+turned_after : (o : Options) (verb : Verb) (option : ℕ) → agrees_to o Them 34 ≡ true → NeverEnds (state_of o Them 34) → verb ≡ Will → option ≡ 34
+    → state_of (options_after_word o verb option) Them 34 ≡ Yes
 turned_after o verb option a n v c =
-    ap (λ (x : Verb). state_of (options_after_word o x option) Them 34) v ∙ ap (λ (x : ℕ). state_of (options_after_word o Will x) Them 34) c ∙ server_turned o a n
+    ap (λ (x : Verb). state_of (options_after_word o x option) Them 34) v ∙ ap (λ (x : ℕ). state_of (options_after_word o Will x) Them 34) c
+    ∙ server_turned o a n
 
 -- LINEMODE comes on with the one word that says so
 seen_keeps : (l : Bool) (p : Option Payload) → linemode_after l (seen_payload p) ≡ l
@@ -240,7 +272,8 @@ seen_keeps l None = refl
 seen_keeps l (Some (payload.Mode mask)) = refl
 seen_keeps l (Some p) = refl
 
-heard_linemode : (s : Settings) (o : Options) (item : Item) → agrees_to o Them 34 ≡ true → NeverEnds (state_of o Them 34) → IsCalmToServer s item → linemode (options_after o (got item)) ≡ linemode_after (linemode o) (server_item item)
+heard_linemode : (s : Settings) (o : Options) (item : Item) → agrees_to o Them 34 ≡ true → NeverEnds (state_of o Them 34) → IsCalmToServer s item
+    → linemode (options_after o (got item)) ≡ linemode_after (linemode o) (server_item item)
 heard_linemode s o (Byte b) a n c = refl
 heard_linemode s o Newline a n c = refl
 heard_linemode s o (Cmd command) a n c = refl
@@ -249,7 +282,8 @@ heard_linemode s o (Neg verb option) a n (inr t) =
     ap is_yes (turned_after o verb option a n t.0 t.1) ∙ ap (linemode_after (linemode o)) (sym (turning_word option t.1))
 heard_linemode s o (Sub option params) a n c = sym (seen_keeps (linemode o) (payload_of option params))
 
-pub linemode_got : (canon : Canon) (h : History) (item : Item) → IsKept canon h → IsCalmToServer canon.settings item → linemode (options (next h (got item))) ≡ linemode_after (linemode (options h)) (server_item item)
+pub linemode_got : (canon : Canon) (h : History) (item : Item) → IsKept canon h → IsCalmToServer canon.settings item
+    → linemode (options (next h (got item))) ≡ linemode_after (linemode (options h)) (server_item item)
 linemode_got canon h item k c =
     let o = options_after (options h) (got item) in
     let wish = wish_after (flags h) (terms h).wish (wish_in (payload_at (options h) item)) in
@@ -257,7 +291,8 @@ linemode_got canon h item k c =
     ∙ heard_linemode canon.settings (options h) item (server_agrees h) k.on c
 
 -- and does not go off
-heard_never : (s : Settings) (o : Options) (item : Item) → agrees_to o Them 34 ≡ true → NeverEnds (state_of o Them 34) → IsCalmToServer s item → NeverEnds (state_of (options_after o (got item)) Them 34)
+heard_never : (s : Settings) (o : Options) (item : Item) → agrees_to o Them 34 ≡ true → NeverEnds (state_of o Them 34) → IsCalmToServer s item
+    → NeverEnds (state_of (options_after o (got item)) Them 34)
 heard_never s o (Byte b) a n c = n
 heard_never s o Newline a n c = n
 heard_never s o (Cmd command) a n c = n
@@ -265,7 +300,8 @@ heard_never s o (Neg verb option) a n (inl e) = subst NeverEnds (sym (word_keeps
 heard_never s o (Neg verb option) a n (inr t) = subst NeverEnds (sym (turned_after o verb option a n t.0 t.1)) tt
 heard_never s o (Sub option params) a n c = n
 
-settled_never : (f : Flags) (t : Terms) (o : Options) (ed : Option Editing) (set : Bool) → NeverEnds (state_of o Them 34) → NeverEnds (state_of (terms_by f t o ed set).options Them 34)
+settled_never : (f : Flags) (t : Terms) (o : Options) (ed : Option Editing) (set : Bool) → NeverEnds (state_of o Them 34)
+    → NeverEnds (state_of (terms_by f t o ed set).options Them 34)
 settled_never f t o ed set n =
     let wish = wish_after f t.wish ed in
     subst NeverEnds (sym (echo_keeps_state (asks_echo t.options o (mask_told t o wish) set) (wants_echo (asked_mask_of o wish) f) o)) n
@@ -296,17 +332,20 @@ word_role : (s : Settings) (edit b : Bool) → role.Ignored ≡ item_role s edit
 word_role s edit true = refl
 word_role s edit false = refl
 
-role_seen : (s : Settings) (echo edit : Bool) (item : Item) → role_at (record { flags = record (s.flags) { echo = echo }; chars = s.chars }) edit item ≡ item_role s edit (server_item item)
+role_seen : (s : Settings) (echo edit : Bool) (item : Item) → role_at (record { flags = record (s.flags) { echo = echo }; chars = s.chars }) edit item
+    ≡ item_role s edit (server_item item)
 role_seen s echo edit (Byte b) = refl
 role_seen s echo edit Newline = refl
 role_seen s echo edit (Cmd command) = refl
 role_seen s echo edit (Neg verb option) = word_role s edit (option == 34)
 role_seen s echo edit (Sub option params) = sub_role s edit (payload_of option params)
 
-pub role_is : (canon : Canon) (h : History) (item : Item) → IsKept canon h → role_at (settings h) (edits (mode h)) item ≡ item_role canon.settings (edits (mode h)) (server_item item)
+pub role_is : (canon : Canon) (h : History) (item : Item) → IsKept canon h
+    → role_at (settings h) (edits (mode h)) item ≡ item_role canon.settings (edits (mode h)) (server_item item)
 role_is canon h item k =
     ap (λ (f : Flags). role_at (record { flags = f; chars = chars h }) (edits (mode h)) item) k.others
-    ∙ ap (λ (c : Characters). role_at (record { flags = record (canon.settings.flags) { echo = (flags h).echo }; chars = c }) (edits (mode h)) item) k.characters
+    ∙ ap (λ (c : Characters). role_at (record { flags = record (canon.settings.flags) { echo = (flags h).echo }; chars = c }) (edits (mode h)) item)
+    k.characters
     ∙ role_seen canon.settings (flags h).echo (edits (mode h)) item
 
 -- the mask after it
@@ -331,7 +370,8 @@ pub edits-mode_of : (mask : ℕ) → edits (mode_of mask) ≡ edits mask
 edits-mode_of mask = ap (λ (n : ℕ). not (n == 0)) (and_assoc 1 mask 3)
 
 -- a mask that acknowledges counts where LINEMODE is on
-mask_seen : (on : Bool) (m mask : ℕ) → is_acknowledged mask ≡ true → edits (mask_after false m (if on then Some (payload.Mode mask) else None)) ≡ edit_after on (edits m) (seen_payload (Some (payload.Mode mask)))
+mask_seen : (on : Bool) (m mask : ℕ) → is_acknowledged mask ≡ true
+    → edits (mask_after false m (if on then Some (payload.Mode mask) else None)) ≡ edit_after on (edits m) (seen_payload (Some (payload.Mode mask)))
 mask_seen true m mask acked = ap (λ (b : Bool). edits (if b then mode_of mask else m)) acked ∙ edits-mode_of mask
 mask_seen false m mask acked = refl
 
@@ -342,13 +382,16 @@ and_is : (a b c : Bool) → a ≡ c → b ≡ true → (a && b) ≡ c
 and_is true b c e f = f ∙ e
 and_is false b c e f = e
 
-sub_seen : (on : Bool) (o : Options) (m option : ℕ) (params : List ℕ) (p : Option Payload) → payload_of option params ≡ p → linemode o ≡ on → length params ≤ 512 → SaysCalmly p → edits (mask_after false m (if is_yes (state_of o Them option) && nat_le (length params) 512 then p else None)) ≡ edit_after on (edits m) (seen_payload p)
+sub_seen : (on : Bool) (o : Options) (m option : ℕ) (params : List ℕ) (p : Option Payload) → payload_of option params ≡ p → linemode o ≡ on
+    → length params ≤ 512 → SaysCalmly p → edits (mask_after false m (if is_yes (state_of o Them option) && nat_le (length params) 512 then p else None))
+    ≡ edit_after on (edits m) (seen_payload p)
 sub_seen on o m option params None e l fits c =
     ap edits (no_payload (is_yes (state_of o Them option) && nat_le (length params) 512) m)
 sub_seen on o m option params (Some (payload.Mode mask)) e l fits c =
     let is : option ≡ 34 = (says option params (payload.Mode mask) e).0 in
     let counts : (is_yes (state_of o Them option) && nat_le (length params) 512) ≡ on =
-    and_is (is_yes (state_of o Them option)) (nat_le (length params) 512) on (ap (λ (n : ℕ). is_yes (state_of o Them n)) is ∙ l) (short_enough (length params) fits) in
+    and_is (is_yes (state_of o Them option)) (nat_le (length params) 512) on (ap (λ (n : ℕ). is_yes (state_of o Them n)) is ∙ l)
+    (short_enough (length params) fits) in
     ap (λ (b : Bool). edits (mask_after false m (if b then Some (payload.Mode mask) else None))) counts ∙ mask_seen on m mask c
 sub_seen on o m option params (Some p) e l fits c =
     ap edits (same_mask (is_yes (state_of o Them option) && nat_le (length params) 512) m p tt) ∙ sym (ap (edit_after on (edits m)) (other_seen p tt))
@@ -361,42 +404,50 @@ begins_unmasked false m = refl
 stays_masked : (l : Bool) (m : ℕ) (p : Option Payload) → edits (mask_after (differ l l) m p) ≡ edits (mask_after false m p)
 stays_masked l m p = ap (λ (b : Bool). edits (mask_after b m p)) (differ_self l)
 
-item_seen : (s : Settings) (o : Options) (m : ℕ) (on : Bool) (item : Item) → on ≡ linemode_after (linemode o) (server_item item) → Fits item → IsCalmToServer s item → edits (mask_after (differ (linemode o) on) m (payload_at o item)) ≡ edit_after (linemode o) (edits m) (server_item item)
+item_seen : (s : Settings) (o : Options) (m : ℕ) (on : Bool) (item : Item) → on ≡ linemode_after (linemode o) (server_item item) → Fits item
+    → IsCalmToServer s item → edits (mask_after (differ (linemode o) on) m (payload_at o item)) ≡ edit_after (linemode o) (edits m) (server_item item)
 item_seen s o m on item is f c = ap (λ (b : Bool). edits (mask_after (differ (linemode o) b) m (payload_at o item))) is ∙ by_item item f c
   where
-    by_item : (i : Item) → Fits i → IsCalmToServer s i → edits (mask_after (differ (linemode o) (linemode_after (linemode o) (server_item i))) m (payload_at o i)) ≡ edit_after (linemode o) (edits m) (server_item i)
+    by_item : (i : Item) → Fits i → IsCalmToServer s i → edits (mask_after (differ (linemode o) (linemode_after (linemode o) (server_item i))) m
+        (payload_at o i)) ≡ edit_after (linemode o) (edits m) (server_item i)
     by_item (Byte b) f c = stays_masked (linemode o) m None
     by_item Newline f c = stays_masked (linemode o) m None
     by_item (Cmd command) f c = stays_masked (linemode o) m None
     by_item (Neg verb option) f (inl e) =
-        subst (λ (i : machine.Item). edits (mask_after (differ (linemode o) (linemode_after (linemode o) i)) m None) ≡ edit_after (linemode o) (edits m) i) (sym (other_word option e))
+        subst (λ (i : machine.Item). edits (mask_after (differ (linemode o) (linemode_after (linemode o) i)) m None) ≡ edit_after (linemode o) (edits m) i)
+        (sym (other_word option e))
         (stays_masked (linemode o) m None)
     by_item (Neg verb option) f (inr t) =
-        subst (λ (i : machine.Item). edits (mask_after (differ (linemode o) (linemode_after (linemode o) i)) m None) ≡ edit_after (linemode o) (edits m) i) (sym (turning_word option t.1))
+        subst (λ (i : machine.Item). edits (mask_after (differ (linemode o) (linemode_after (linemode o) i)) m None) ≡ edit_after (linemode o) (edits m) i)
+        (sym (turning_word option t.1))
         (begins_unmasked (linemode o) m)
     by_item (Sub option params) f c =
         ap (λ (b : Bool). edits (mask_after (differ (linemode o) b) m (payload_at o (Sub option params)))) (seen_keeps (linemode o) (payload_of option params))
         ∙ stays_masked (linemode o) m (payload_at o (Sub option params))
         ∙ sub_seen (linemode o) o m option params (payload_of option params) refl refl f c
 
-pub edit_got : (canon : Canon) (h : History) (item : Item) → IsKept canon h → Fits item → IsCalmToServer canon.settings item → edits (mode (next h (got item))) ≡ edit_after (linemode (options h)) (edits (mode h)) (server_item item)
+pub edit_got : (canon : Canon) (h : History) (item : Item) → IsKept canon h → Fits item → IsCalmToServer canon.settings item
+    → edits (mode (next h (got item))) ≡ edit_after (linemode (options h)) (edits (mode h)) (server_item item)
 edit_got canon h item k f c = item_seen canon.settings (options h) (mode h) (linemode (options (next h (got item)))) item (linemode_got canon h item k c) f c
 
 -- the half line and the entries after it
-pub half_got : (canon : Canon) (h : History) (item : Item) → IsKept canon h → half (next h (got item)) ≡ half_next canon.limit (half h) (item_role canon.settings (edits (mode h)) (server_item item))
+pub half_got : (canon : Canon) (h : History) (item : Item) → IsKept canon h
+    → half (next h (got item)) ≡ half_next canon.limit (half h) (item_role canon.settings (edits (mode h)) (server_item item))
 half_got canon h item k =
     half-role (limit h) (roles h) (role_at (settings h) (edits (mode h)) item)
     ∙ ap (λ (r : Role). half_next (limit h) (half h) r) (role_is canon h item k)
     ∙ ap (λ (m : ℕ). half_next m (half h) (item_role canon.settings (edits (mode h)) (server_item item))) k.line
 
-pub entries_got : (canon : Canon) (h : History) (item : Item) → IsKept canon h → entries (next h (got item)) ≡ entries h ++ gain_next canon.limit (half h) (item_role canon.settings (edits (mode h)) (server_item item))
+pub entries_got : (canon : Canon) (h : History) (item : Item) → IsKept canon h
+    → entries (next h (got item)) ≡ entries h ++ gain_next canon.limit (half h) (item_role canon.settings (edits (mode h)) (server_item item))
 entries_got canon h item k =
     entries-role (limit h) (roles h) (role_at (settings h) (edits (mode h)) item)
     ∙ ap (λ (r : Role). entries h ++ gain_next (limit h) (half h) r) (role_is canon h item k)
     ∙ ap (λ (m : ℕ). entries h ++ gain_next m (half h) (item_role canon.settings (edits (mode h)) (server_item item))) k.line
 
 -- A calm item is read as what it says.
-pub core_got : (canon : Canon) (h : History) (item : Item) → IsKept canon h → Fits item → IsCalmToServer canon.settings item → core_of (next h (got item)) false ≡ read canon (core_of h false) (server_item item)
+pub core_got : (canon : Canon) (h : History) (item : Item) → IsKept canon h → Fits item → IsCalmToServer canon.settings item
+    → core_of (next h (got item)) false ≡ read canon (core_of h false) (server_item item)
 core_got canon h item k f c =
     let l = linemode_after (linemode (options h)) (server_item item) in
     let e = edit_after (linemode (options h)) (edits (mode h)) (server_item item) in
@@ -405,8 +456,15 @@ core_got canon h item k f c =
     let waits : waiting (next h (got item)) ≡ waiting h ++ gain_next n (half h) i =
     ap (λ (es : List Entry). drop (taken_count h) es) (entries_got canon h item k)
     ∙ drop-append-le (taken_count h) (entries h) (gain_next n (half h) i) k.fits in
-    ap (λ (b : Bool). record { linemode = b; edit = edits (mode (next h (got item))); half = half (next h (got item)); waiting = waiting (next h (got item)); failed = false }) (linemode_got canon h item k c)
-    ∙ ap (λ (b : Bool). record { linemode = l; edit = b; half = half (next h (got item)); waiting = waiting (next h (got item)); failed = false }) (edit_got canon h item k f c)
+    ap (λ (b : Bool). record {
+      linemode = b;
+      edit = edits (mode (next h (got item)));
+      half = half (next h (got item));
+      waiting = waiting (next h (got item));
+      failed = false;
+    }) (linemode_got canon h item k c)
+    ∙ ap (λ (b : Bool). record { linemode = l; edit = b; half = half (next h (got item)); waiting = waiting (next h (got item)); failed = false })
+    (edit_got canon h item k f c)
     ∙ ap (λ (bytes : List ℕ). record { linemode = l; edit = e; half = bytes; waiting = waiting (next h (got item)); failed = false }) (half_got canon h item k)
     ∙ ap (λ (es : List Entry). record { linemode = l; edit = e; half = half_next n (half h) i; waiting = es; failed = false }) waits
 
@@ -414,7 +472,8 @@ core_got canon h item k f c =
 abbrev IsAskedMask : Settings → ℕ → Type 0
 IsAskedMask s mask = (is_acknowledged (mode_of mask) ≡ false) × IsAskable s (bits (mode_of mask))
 
-local_mask : (s : Settings) (allowed isig : Bool) (mask : ℕ) → allows_local s.flags ≡ allowed → s.flags.isig ≡ isig → (if allowed then Some (if isig then 3 else 1) else None) ≡ Some mask → IsAskedMask s mask
+local_mask : (s : Settings) (allowed isig : Bool) (mask : ℕ) → allows_local s.flags ≡ allowed → s.flags.isig ≡ isig
+    → (if allowed then Some (if isig then 3 else 1) else None) ≡ Some mask → IsAskedMask s mask
 local_mask s false isig mask a i e = absurd (cc)
 local_mask s true true mask a i e =
     let same : 3 ≡ mask = cc in
@@ -439,7 +498,8 @@ unless_made P false mask p = mode_made P mask p
 
 -- WHAT A CALM ITEM IS ANSWERED WITH
 -- an option word, with a word
-back_calm : (s : Settings) (o : Options) (item : Item) → agrees_to o Them 34 ≡ true → NeverEnds (state_of o Them 34) → IsCalmToServer s item → All (IsCalmToClient s) (reply_items o (got item))
+back_calm : (s : Settings) (o : Options) (item : Item) → agrees_to o Them 34 ≡ true → NeverEnds (state_of o Them 34) → IsCalmToServer s item
+    → All (IsCalmToClient s) (reply_items o (got item))
 back_calm s o (Byte b) a n c = nothing (IsCalmToClient s)
 back_calm s o Newline a n c = nothing (IsCalmToClient s)
 back_calm s o (Cmd command) a n c = nothing (IsCalmToClient s)
@@ -459,7 +519,8 @@ told_calm : (s : Settings) (c : Characters) (b : Bool) → c ≡ s.chars → s.c
 told_calm s c true same is = subst (λ (x : Characters). All (IsCalmToClient s) (list_items (announcement x))) (sym (same ∙ is)) (table_calm s is)
 told_calm s c false same is = nothing (IsCalmToClient s)
 
-new_table_calm : (s : Settings) (o : Options) (c : Characters) (item : Item) → c ≡ s.chars → IsCalmToServer s item → All (IsCalmToClient s) (new_table_items (linemode o) (linemode (options_after o (got item))) c)
+new_table_calm : (s : Settings) (o : Options) (c : Characters) (item : Item) → c ≡ s.chars → IsCalmToServer s item
+    → All (IsCalmToClient s) (new_table_items (linemode o) (linemode (options_after o (got item))) c)
 new_table_calm s o c (Byte b) same calm = none_made (IsCalmToClient s) _ (table_again (linemode o) c)
 new_table_calm s o c Newline same calm = none_made (IsCalmToClient s) _ (table_again (linemode o) c)
 new_table_calm s o c (Cmd command) same calm = none_made (IsCalmToClient s) _ (table_again (linemode o) c)
@@ -477,7 +538,8 @@ wish_asked : (s : Settings) (f : Flags) (wish : ℕ) → f ≡ record (s.flags) 
 wish_asked s f wish same (inl is) = subst (IsAskedMask s) (sym is) (refl, inl refl)
 wish_asked s f wish same (inr is) = mask_asked s f Local wish same is
 
-pub calm_got : (canon : Canon) (h : History) (item : Item) → IsKept canon h → IsCalmToServer canon.settings item → All (IsCalmToClient canon.settings) (replies h (got item))
+pub calm_got : (canon : Canon) (h : History) (item : Item) → IsKept canon h → IsCalmToServer canon.settings item
+    → All (IsCalmToClient canon.settings) (replies h (got item))
 calm_got canon h item k c =
     let s = canon.settings in
     let P = IsCalmToClient s in
@@ -503,7 +565,8 @@ pub record After (canon : Canon) (h : History) (items : List Item) : Type 0 wher
   pub sends : items_said (gets h items) ≡ items_said h ++ said
   pub made : All (IsCalmToClient canon.settings) said
 
-pub goes_on : (canon : Canon) (h : History) (items : List Item) → IsKept canon h → All Fits items → All (IsCalmToServer canon.settings) items → After canon h items
+pub goes_on : (canon : Canon) (h : History) (items : List Item) → IsKept canon h → All Fits items → All (IsCalmToServer canon.settings) items
+    → After canon h items
 goes_on canon h [] k f c = record {
   kept = k;
   core = refl;
@@ -513,7 +576,8 @@ goes_on canon h [] k f c = record {
 }
 goes_on canon h (item ∷ items) k f c =
     let calm = All-head (IsCalmToServer canon.settings) item items c in
-    let later = goes_on canon (next h (got item)) items (kept_got canon h item k calm) (All-tail Fits item items f) (All-tail (IsCalmToServer canon.settings) item items c) in
+    let later = goes_on canon (next h (got item)) items (kept_got canon h item k calm) (All-tail Fits item items f)
+    (All-tail (IsCalmToServer canon.settings) item items c) in
     record {
       kept = later.kept;
       core = later.core ∙ ap (λ (v : Server). read_all canon v (server_items items)) (core_got canon h item k (All-head Fits item items f) calm);
@@ -523,7 +587,9 @@ goes_on canon h (item ∷ items) k f c =
     }
 
 -- THE LEMMAS ON A PIECE of calm items
-pub feeds_core : (canon : Canon) (h : History) (old new : End) (piece before after : List ℕ) → LeadsTo h old → ServerStays canon old → old.failed ≡ false → (f : Feeds old piece before after new) → All Fits f.items → All (IsCalmToServer canon.settings) f.items → server_core new ≡ read_all canon (server_core old) (server_items f.items)
+pub feeds_core : (canon : Canon) (h : History) (old new : End) (piece before after : List ℕ) → LeadsTo h old → ServerStays canon old → old.failed ≡ false
+    → (f : Feeds old piece before after new) → All Fits f.items → All (IsCalmToServer canon.settings) f.items
+    → server_core new ≡ read_all canon (server_core old) (server_items f.items)
 feeds_core canon h old new piece before after s stays works f fit calm =
     let later = goes_on canon h f.items (kept_at canon h old s stays) fit calm in
     core_at (gets h f.items) new (f.leads h s)
@@ -531,18 +597,22 @@ feeds_core canon h old new piece before after s stays works f fit calm =
     ∙ later.core
     ∙ ap (λ (v : Server). read_all canon v (server_items f.items)) (sym (core_at h old s ∙ ap (core_of h) works))
 
-pub feeds_stays : (canon : Canon) (h : History) (old new : End) (piece before after : List ℕ) → LeadsTo h old → ServerStays canon old → old.failed ≡ false → (f : Feeds old piece before after new) → All Fits f.items → All (IsCalmToServer canon.settings) f.items → ServerStays canon new
+pub feeds_stays : (canon : Canon) (h : History) (old new : End) (piece before after : List ℕ) → LeadsTo h old → ServerStays canon old → old.failed ≡ false
+    → (f : Feeds old piece before after new) → All Fits f.items → All (IsCalmToServer canon.settings) f.items → ServerStays canon new
 feeds_stays canon h old new piece before after s stays works f fit calm =
     stays_at canon (gets h f.items) new (f.leads h s) (goes_on canon h f.items (kept_at canon h old s stays) fit calm).kept
 
-pub feeds_replies : (canon : Canon) (h : History) (old new : End) (piece before after : List ℕ) → LeadsTo h old → ServerStays canon old → old.failed ≡ false → (f : Feeds old piece before after new) → All Fits f.items → All (IsCalmToServer canon.settings) f.items → AreReplies canon f.said
+pub feeds_replies : (canon : Canon) (h : History) (old new : End) (piece before after : List ℕ) → LeadsTo h old → ServerStays canon old → old.failed ≡ false
+    → (f : Feeds old piece before after new) → All Fits f.items → All (IsCalmToServer canon.settings) f.items → AreReplies canon f.said
 feeds_replies canon h old new piece before after s stays works f fit calm =
     let later = goes_on canon h f.items (kept_at canon h old s stays) fit calm in
     replies_of canon f.said (feeds_fit h old new piece before after s f)
     (subst (All (IsCalmToClient canon.settings)) (append_cancel_left (items_said h) later.said f.said (sym later.sends ∙ f.sends h s)) later.made)
 
 -- The entries that wait where the first calm items of a piece were done.
-pub stops_waiting : (canon : Canon) (h : History) (old new : End) (done : List Item) → LeadsTo h old → ServerStays canon old → old.failed ≡ false → LeadsTo (gets h done) new → All Fits done → All (IsCalmToServer canon.settings) done → new.terminal.entries ≡ (read_all canon (server_core old) (server_items done)).waiting
+pub stops_waiting : (canon : Canon) (h : History) (old new : End) (done : List Item) → LeadsTo h old → ServerStays canon old → old.failed ≡ false
+    → LeadsTo (gets h done) new → All Fits done → All (IsCalmToServer canon.settings) done
+    → new.terminal.entries ≡ (read_all canon (server_core old) (server_items done)).waiting
 stops_waiting canon h old new done s stays works stands fit calm =
     let later = goes_on canon h done (kept_at canon h old s stays) fit calm in
     sym (waits_are (gets h done) new stands)
@@ -563,14 +633,17 @@ KeepsEntries took = ⊥
 KeepsEntries _ = Unit {0}
 
 -- the MODE that is sent for a wish
-told_made : (P : Item → Type 0) (on : Bool) (before : ℕ) (mask : Option ℕ) → ((m : ℕ) → mask ≡ Some m → P (Sub 34 (1 ∷ mode_of m ∷ []))) → All P (mode_items (mode_sent on (asked_mask_while on before) (mask_or before mask)))
+told_made : (P : Item → Type 0) (on : Bool) (before : ℕ) (mask : Option ℕ) → ((m : ℕ) → mask ≡ Some m → P (Sub 34 (1 ∷ mode_of m ∷ [])))
+    → All P (mode_items (mode_sent on (asked_mask_while on before) (mask_or before mask)))
 told_made P on before None p = none_made P _ (ap mode_items (told_again on before))
 told_made P true before (Some m) p = unless_made P (mode_of m == mode_of before) (mode_of m) (p m refl)
 told_made P false before (Some m) p = nothing P
 
-wish_calm : (canon : Canon) (h : History) (ed : Editing) → IsKept canon h → All (IsCalmToClient canon.settings) (mode_items (mask_told (terms h) (options h) (wish_after (flags h) (terms h).wish (Some ed))))
+wish_calm : (canon : Canon) (h : History) (ed : Editing) → IsKept canon h
+    → All (IsCalmToClient canon.settings) (mode_items (mask_told (terms h) (options h) (wish_after (flags h) (terms h).wish (Some ed))))
 wish_calm canon h ed k =
-    told_made (IsCalmToClient canon.settings) (linemode (options h)) (terms h).wish (mask_for (flags h) ed) (λ m e. mask_asked canon.settings (flags h) ed m k.others e)
+    told_made (IsCalmToClient canon.settings) (linemode (options h)) (terms h).wish (mask_for (flags h) ed)
+    (λ m e. mask_asked canon.settings (flags h) ed m k.others e)
 
 -- where no wish is new, no MODE is sent
 pub unwished_made : (P : Item → Type 0) (t : Terms) → All P (mode_items (mask_told t t.options t.wish))
@@ -590,7 +663,8 @@ ga_made P p true = one P (Cmd Ga) p
 ga_made P p false = nothing P
 
 -- a forward mask
-pub mask_made : (P : Item → Type 0) → ((octets : List ℕ) → P (Sub 34 (253 ∷ 2 ∷ octets))) → P (Sub 34 (254 ∷ 2 ∷ [])) → (mask : Option Mask) → All P (payload_items (forward_payload mask))
+pub mask_made : (P : Item → Type 0) → ((octets : List ℕ) → P (Sub 34 (253 ∷ 2 ∷ octets))) → P (Sub 34 (254 ∷ 2 ∷ [])) → (mask : Option Mask)
+    → All P (payload_items (forward_payload mask))
 mask_made P on off (Some mask) = one P (Sub 34 (253 ∷ 2 ∷ trimmed_octets (take 32 mask.0))) (on (trimmed_octets (take 32 mask.0)))
 mask_made P on off None = one P (Sub 34 (254 ∷ 2 ∷ [])) off
 
@@ -620,7 +694,13 @@ one_more_fits false n m e fits = fits
 pub kept_call : (canon : Canon) (h : History) (e : Event) → IsCall e → IsKept canon h → IsKept canon (next h e)
 kept_call canon h (got item) is k = absurd is
 kept_call canon h (char_set func value) is k = absurd is
-kept_call canon h took is k = record { on = k.on; characters = k.characters; others = k.others; line = k.line; fits = one_more_fits (nat_lt (taken_count h) (length (entries h))) (taken_count h) (length (entries h)) refl k.fits }
+kept_call canon h took is k = record {
+  on = k.on;
+  characters = k.characters;
+  others = k.others;
+  line = k.line;
+  fits = one_more_fits (nat_lt (taken_count h) (length (entries h))) (taken_count h) (length (entries h)) refl k.fits;
+}
 kept_call canon h (wrote bytes) is k = record { on = k.on; characters = k.characters; others = k.others; line = k.line; fits = k.fits }
 kept_call canon h (pulled n) is k = record { on = k.on; characters = k.characters; others = k.others; line = k.line; fits = k.fits }
 kept_call canon h (wished ed) is k = record {
@@ -652,19 +732,24 @@ core_call h took failed is = absurd is
 core_call h (wrote bytes) failed is = refl
 core_call h (pulled n) failed is = refl
 core_call h (wished ed) failed is = ap (λ (b : Bool). record (core_of h failed) { linemode = b }) (terms_keep (flags h) (terms h) (Some ed) false)
-core_call h (echo_set on) failed is = ap (λ (b : Bool). record (core_of h failed) { linemode = b }) (terms_keep (flags (next h (echo_set on))) (terms h) None true)
+core_call h (echo_set on) failed is = ap (λ (b : Bool). record (core_of h failed) { linemode = b })
+    (terms_keep (flags (next h (echo_set on))) (terms h) None true)
 core_call h (mask_set mask) failed is = refl
 
 -- THE LEMMAS ON A CALL
-pub says_replies : (canon : Canon) (h : History) (old new : End) (e : Event) (before after : List ℕ) → IsCall e → LeadsTo h old → ServerStays canon old → (g : Advances old e before after new) → AreReplies canon g.said
+pub says_replies : (canon : Canon) (h : History) (old new : End) (e : Event) (before after : List ℕ) → IsCall e → LeadsTo h old → ServerStays canon old
+    → (g : Advances old e before after new) → AreReplies canon g.said
 says_replies canon h old new e before after is s stays g =
-    replies_of canon g.said (goes_fit h old new e before after s g) (subst (All (IsCalmToClient canon.settings)) (g.replies h s) (calm_call canon h e is (kept_at canon h old s stays)))
+    replies_of canon g.said (goes_fit h old new e before after s g)
+    (subst (All (IsCalmToClient canon.settings)) (g.replies h s) (calm_call canon h e is (kept_at canon h old s stays)))
 
-pub says_stays : (canon : Canon) (h : History) (old new : End) (e : Event) (before after : List ℕ) → IsCall e → LeadsTo h old → ServerStays canon old → Advances old e before after new → ServerStays canon new
+pub says_stays : (canon : Canon) (h : History) (old new : End) (e : Event) (before after : List ℕ) → IsCall e → LeadsTo h old → ServerStays canon old
+    → Advances old e before after new → ServerStays canon new
 says_stays canon h old new e before after is s stays g =
     stays_at canon (next h e) new (g.leads h s) (kept_call canon h e is (kept_at canon h old s stays))
 
-pub says_core : (h : History) (old new : End) (e : Event) (before after : List ℕ) → KeepsEntries e → LeadsTo h old → Advances old e before after new → ReadsNothing old new → server_core new ≡ server_core old
+pub says_core : (h : History) (old new : End) (e : Event) (before after : List ℕ) → KeepsEntries e → LeadsTo h old → Advances old e before after new
+    → ReadsNothing old new → server_core new ≡ server_core old
 says_core h old new e before after is s g k =
     core_at (next h e) new (g.leads h s)
     ∙ ap (core_of (next h e)) k.failed
@@ -680,16 +765,19 @@ still_none false n es e = e
 abbrev pub GivesEntry : History → Option Entry → Type 0
 GivesEntry h entry = MatchOption entry (waiting h ≡ []) (λ e. waiting h ≡ e ∷ waiting (next h took))
 
-took_picture : (h : History) (old new : End) (before after : List ℕ) → LeadsTo h old → Advances old took before after new → ReadsNothing old new → server_picture new ≡ record { decoder = old.decoder; core = core_of (next h took) old.failed }
+took_picture : (h : History) (old new : End) (before after : List ℕ) → LeadsTo h old → Advances old took before after new → ReadsNothing old new
+    → server_picture new ≡ record { decoder = old.decoder; core = core_of (next h took) old.failed }
 took_picture h old new before after s g k =
     ap (λ d. record { decoder = d; core = server_core new }) k.decoder
     ∙ ap (λ (v : Server). record { decoder = old.decoder; core = v }) (core_at (next h took) new (g.leads h s) ∙ ap (core_of (next h took)) k.failed)
 
-pub took_core : (h : History) (old new : End) (before after : List ℕ) (entry : Option Entry) → LeadsTo h old → Advances old took before after new → ReadsNothing old new → GivesEntry h entry → TakesFirst (server_picture old) (option_to_list entry) (server_picture new)
+pub took_core : (h : History) (old new : End) (before after : List ℕ) (entry : Option Entry) → LeadsTo h old → Advances old took before after new
+    → ReadsNothing old new → GivesEntry h entry → TakesFirst (server_picture old) (option_to_list entry) (server_picture new)
 took_core h old new before after None s g k gives = (
   sym (waits_are h old s) ∙ gives,
   took_picture h old new before after s g k
-      ∙ ap (λ (w : List Entry). record { decoder = old.decoder; core = record (core_of h old.failed) { waiting = w } }) (still_none (nat_lt (taken_count h) (length (entries h))) (taken_count h) (entries h) gives ∙ sym gives)
+      ∙ ap (λ (w : List Entry). record { decoder = old.decoder; core = record (core_of h old.failed) { waiting = w } })
+      (still_none (nat_lt (taken_count h) (length (entries h))) (taken_count h) (entries h) gives ∙ sym gives)
       ∙ ap (λ (v : Server). record { decoder = old.decoder; core = v }) (sym (core_at h old s)),
 )
 took_core h old new before after (Some e) s g k gives = (

@@ -53,7 +53,8 @@ round_stops old new r =
     record { server = b.server ∙ a.server; client = b.client ∙ a.client }
 
 -- TWO ROUNDS
-pub two_rounds : ((c s : Characters) (ts : List Triple) → server_answers s (client_answers c ts) ≡ []) → ((c : Characters) (ts : List Triple) → server_is_asked (client_answers c ts) ≡ false)
+pub two_rounds : ((c s : Characters) (ts : List Triple) → server_answers s (client_answers c ts) ≡ [])
+    → ((c : Characters) (ts : List Triple) → server_is_asked (client_answers c ts) ≡ false)
     → (old mid new : World) → HasPast old → old.server_stopped ≡ false → old.client_stopped ≡ false → IsRound old mid → IsRound mid new → NothingInFlight new
 two_rounds answered asked old mid new past server_goes client_goes r q =
     let s = round_stops old mid r in
@@ -66,7 +67,8 @@ two_rounds answered asked old mid new past server_goes client_goes r q =
     let z = to_client mid q.mid k (s.client ∙ client_goes) q.to_client in
     let v = to_server q.mid new l ((to_client_stops mid q.mid k q.to_client).server ∙ s.server ∙ server_goes) q.to_server in
     second_empty answered asked mid q.mid new k l (sound_reaches r.mid mid m y (sound_returns old r.mid n x past))
-    (first_empty old r.mid mid n m past x (omega arith) y (omega arith)) (first_none old r.mid mid n m past x (omega arith) y (omega arith)) z (omega arith) v (omega arith)
+    (first_empty old r.mid mid n m past x (omega arith) y (omega arith)) (first_none old r.mid mid n m past x (omega arith) y (omega arith)) z (omega arith) v
+    (omega arith)
 
 -- the last delivery of a round leaves nothing for its end
 none_to_server : (old new : World) → IsRound old new → old.server_stopped ≡ false → new.to_server ≡ []
@@ -82,7 +84,8 @@ none_to_client old new r stopped goes =
     let same : new ≡ r.mid = subst (λ b. UnlessStopped b r.mid new (DeliversToServer r.mid (length r.mid.to_server) new)) (s.server ∙ stopped) r.to_server in
     ap (λ (w : World). w.to_client) same ∙ ap (λ (w : World). w.to_client) d.rest ∙ drop_all (length old.to_client) old.to_client (omega arith)
 
-pub settles_rest : ((c s : Characters) (ts : List Triple) → server_answers s (client_answers c ts) ≡ []) → ((c : Characters) (ts : List Triple) → server_is_asked (client_answers c ts) ≡ false)
+pub settles_rest : ((c s : Characters) (ts : List Triple) → server_answers s (client_answers c ts) ≡ [])
+    → ((c : Characters) (ts : List Triple) → server_is_asked (client_answers c ts) ≡ false)
     → (old new : World) → HasPast old → Settles old new → IsAtRest old new
 settles_rest answered asked old new past s = by_end s.ended
   where
@@ -113,7 +116,11 @@ quiet_on [] e q here = (here, tt)
 quiet_on (d ∷ events) e q here = (q.0, quiet_on events e q.1 here)
 
 delivered_on : (old mid new : World) (e : Event) → Delivered old mid → ((w : World) → IsQuietEvent w e) → RunsEvent mid e new → Delivered old new
-delivered_on old mid new e d quiet r = record { events = d.events ++ e ∷ []; quiet = quiet_on d.events e d.quiet quiet; runs = runs_on old mid new d.events e d.runs r }
+delivered_on old mid new e d quiet r = record {
+  events = d.events ++ e ∷ [];
+  quiet = quiet_on d.events e d.quiet quiet;
+  runs = runs_on old mid new d.events e d.runs r;
+}
 
 delivered : (n : ℕ) (old new : World) → RunsRounds n old new → Delivered old new
 delivered zero old new is = record { events = []; quiet = tt; runs = is }
@@ -128,7 +135,8 @@ record DeliveredBut (old : World) (cause : Cause) (new : World) : Type 0 where
   pub at : ℕ
   pub stops : StopsWithin old events at cause new
 
-stopped_on : (old mid new : World) (e : Event) (cause : Cause) → Delivered old mid → ((w : World) → IsQuietEvent w e) → Refuses mid e cause new → DeliveredBut old cause new
+stopped_on : (old mid new : World) (e : Event) (cause : Cause) → Delivered old mid → ((w : World) → IsQuietEvent w e) → Refuses mid e cause new
+    → DeliveredBut old cause new
 stopped_on old mid new e cause d quiet r =
     record {
       events = d.events ++ e ∷ [];
@@ -162,11 +170,13 @@ stops_cause old new at cause past s =
     shows_cause old new d.events d.at cause past d.stops
 
 -- THE USER'S CASE
-module _ (answered : (c s : Characters) (ts : List Triple) → server_answers s (client_answers c ts) ≡ []) (asked : (c : Characters) (ts : List Triple) → server_is_asked (client_answers c ts) ≡ false) (canon : Canon) (w : World) (s : HasSettled canon w) where
+module _ (answered : (c s : Characters) (ts : List Triple) → server_answers s (client_answers c ts) ≡ [])
+    (asked : (c : Characters) (ts : List Triple) → server_is_asked (client_answers c ts) ≡ false) (canon : Canon) (w : World) (s : HasSettled canon w) where
   settled_past : HasPast s.before
   settled_past =
       let d = delivered s.settles.count s.before w s.settles.rounds in
-      (related canon s.before s.follows (passes_ran s.before w d.events (runs_pass s.before w d.events (quiet_always s.before d.events d.quiet) d.runs) s.none_failed)).past
+      (related canon s.before s.follows (passes_ran s.before w d.events
+      (runs_pass s.before w d.events (quiet_always s.before d.events d.quiet) d.runs) s.none_failed)).past
 
   settled_empty : w.to_server ≡ []
   settled_empty = (settles_rest answered asked s.before w settled_past s.settles).to_server s.server_goes_on
@@ -188,7 +198,26 @@ pub both_rounds : (old mid new : World) → ¬ NothingInFlight old → IsRound o
 both_rounds old mid new some r more q = record { count = 2; rounds = (mid, (old, refl, some, r), more, q); most = omega arith; ended = inr refl }
 
 pub first_stops : (old new : World) (at : ℕ) (cause : Cause) → ¬ NothingInFlight old → RefusesRound old at cause new → StopsSettling old at cause new
-first_stops old new at cause some r = record { count = 0; mid = old; rounds = refl; less = omega arith; flies = some; place = at; is_at = omega arith; refuses = r }
+first_stops old new at cause some r = record {
+  count = 0;
+  mid = old;
+  rounds = refl;
+  less = omega arith;
+  flies = some;
+  place = at;
+  is_at = omega arith;
+  refuses = r;
+}
 
-pub second_stops : (old mid new : World) (at : ℕ) (cause : Cause) → ¬ NothingInFlight old → IsRound old mid → ¬ NothingInFlight mid → RefusesRound mid at cause new → StopsSettling old (at + 2) cause new
-second_stops old mid new at cause some r more q = record { count = 1; mid = mid; rounds = (old, refl, some, r); less = omega arith; flies = more; place = at; is_at = omega arith; refuses = q }
+pub second_stops : (old mid new : World) (at : ℕ) (cause : Cause) → ¬ NothingInFlight old → IsRound old mid → ¬ NothingInFlight mid
+    → RefusesRound mid at cause new → StopsSettling old (at + 2) cause new
+second_stops old mid new at cause some r more q = record {
+  count = 1;
+  mid = mid;
+  rounds = (old, refl, some, r);
+  less = omega arith;
+  flies = more;
+  place = at;
+  is_at = omega arith;
+  refuses = q;
+}

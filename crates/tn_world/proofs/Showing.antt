@@ -25,10 +25,12 @@ use Rattle.tn_world.specs.Past.{HasPast}
 use Rattle.tn_streams.specs.Prefixes.{IsPrefixOf}
 use Rattle.tn_world.specs.Flight.{InFlight}
 use Rattle.tn_world.specs.Output.{screen, text_of, IsOutput, Queues, IsNoneAt, OutputGrows, OutputGrowsTo, OutputGrowsAll, OutputGrowsBefore}
-use Rattle.tn_world.specs.Worlds.{World, UnlessStopped, TypesKey, SendsCommand, CallsClient, DeliversToServer, DeliversToClient, CallsServer, Pulls, TakesEntry, RunsEvent, Runs, StopsWithin, ServerRefusesDelivery}
+use Rattle.tn_world.specs.Worlds.{World, UnlessStopped, TypesKey, SendsCommand, CallsClient, DeliversToServer, DeliversToClient, CallsServer, Pulls, TakesEntry}
+use Rattle.tn_world.specs.Worlds.{RunsEvent, Runs, StopsWithin, ServerRefusesDelivery}
 use Rattle.tn_client.specs.declared.commands.UserCommand.{UserCommand}
 use Rattle.tn_world.specs.declared.events.Event.{Event}
-use Rattle.tn_world.specs.declared.events.Event.TheVariants.{Key, Send, ToServer, ToClient, Write, Pull, Take, Wish, Resize, SetChar, Propose, Echo, Mask, ServerStops, ClientStops}
+use Rattle.tn_world.specs.declared.events.Event.TheVariants.{Key, Send, ToServer, ToClient, Write, Pull, Take, Wish, Resize, SetChar, Propose, Echo, Mask}
+use Rattle.tn_world.specs.declared.events.Event.TheVariants.{ServerStops, ClientStops}
 use Rattle.tn_world.specs.declared.faults.Cause.{Cause}
 use Rattle.tn_world.proofs.Cut.{start, said_behind, cut_at}
 use Rattle.tn_world.proofs.Soundness.{sound_does, opposite, Refusal, unchanged, by_server, by_client, refusal_of, goes_fit, feeds_fit, halts_fit}
@@ -36,10 +38,12 @@ use Rattle.tn_world.proofs.ServerItems.{IsUnpulled, replies_none, opening_none, 
 
 shown-items : (h : client_calls.History) (items : List Item) → shown_of (client_calls.gets h items) ≡ shown_of h ++ flat_map item_shown items
 shown-items h [] = sym (append-nil (shown_of h))
-shown-items h (item ∷ items) = shown-items (client_calls.next h (client_calls.got item)) items ∙ append_assoc (shown_of h) (item_shown item) (flat_map item_shown items)
+shown-items h (item ∷ items) = shown-items (client_calls.next h (client_calls.got item)) items
+    ∙ append_assoc (shown_of h) (item_shown item) (flat_map item_shown items)
 
 -- what is shown for a piece is what the server wrote
-feeds_text : (h : client_calls.History) (old new : client.End) (piece before after seen now : List ℕ) → client.LeadsTo h old → (f : client.Feeds old piece before after seen now new) → f.text ≡ flat_map item_shown f.items
+feeds_text : (h : client_calls.History) (old new : client.End) (piece before after seen now : List ℕ) → client.LeadsTo h old
+    → (f : client.Feeds old piece before after seen now new) → f.text ≡ flat_map item_shown f.items
 feeds_text h old new piece before after seen now s f =
     append_cancel_left (shown_of h) f.text (flat_map item_shown f.items) (sym (f.shows h s) ∙ shown-items h f.items)
 
@@ -53,7 +57,9 @@ parts a b c d e f p q r =
     ap (λ (x : List ℕ). x ++ (b ++ c)) p ∙ ap (λ (x : List ℕ). d ++ (x ++ c)) q ∙ ap (λ (x : List ℕ). d ++ (e ++ x)) r
 
 -- the server said what shows nothing, and its queue took these symbols
-says_output : (old new : World) (text : List ℕ) (said : List Item) (more : List Symbol) → All Fits said → text_of said ≡ [] → new.client.decoder ≡ old.client.decoder → new.shown ≡ old.shown → new.to_client ≡ old.to_client ++ spells said → new.server.terminal.queue ≡ old.server.terminal.queue ++ more → IsOutput old text → IsOutput new (text ++ screen more)
+says_output : (old new : World) (text : List ℕ) (said : List Item) (more : List Symbol) → All Fits said → text_of said ≡ []
+    → new.client.decoder ≡ old.client.decoder → new.shown ≡ old.shown → new.to_client ≡ old.to_client ++ spells said
+    → new.server.terminal.queue ≡ old.server.terminal.queue ++ more → IsOutput old text → IsOutput new (text ++ screen more)
 says_output old new text said more fit silent decoder shown appended took o =
     record {
       items = o.items ++ said;
@@ -62,16 +68,19 @@ says_output old new text said more fit silent decoder shown appended took o =
           (said_behind old.client.decoder old.to_client new.to_client o.items said appended fit o.flight);
       is =
           joined text old.shown (text_of o.items) (screen old.server.terminal.queue) (screen more) o.is
-          ∙ parts old.shown (text_of o.items) (screen old.server.terminal.queue ++ screen more) new.shown (text_of (o.items ++ said)) (screen new.server.terminal.queue)
+          ∙ parts old.shown (text_of o.items) (screen old.server.terminal.queue ++ screen more) new.shown (text_of (o.items ++ said))
+          (screen new.server.terminal.queue)
           (sym shown)
           (sym (append-nil (text_of o.items)) ∙ ap (λ (x : List ℕ). text_of o.items ++ x) (sym silent) ∙ sym (flat_map-append item_shown o.items said))
           (sym (flat_map-append symbol_shown old.server.terminal.queue more) ∙ ap screen (sym took));
     }
 
 -- nothing was said
-still_output : (old new : World) (text : List ℕ) → new.client.decoder ≡ old.client.decoder → new.shown ≡ old.shown → new.to_client ≡ old.to_client → new.server.terminal.queue ≡ old.server.terminal.queue → IsOutput old text → IsOutput new (text ++ [])
+still_output : (old new : World) (text : List ℕ) → new.client.decoder ≡ old.client.decoder → new.shown ≡ old.shown → new.to_client ≡ old.to_client
+    → new.server.terminal.queue ≡ old.server.terminal.queue → IsOutput old text → IsOutput new (text ++ [])
 still_output old new text decoder shown said took o =
-    says_output old new text [] [] (All-nil Fits) refl decoder shown (said ∙ sym (append-nil old.to_client)) (took ∙ sym (append-nil old.server.terminal.queue)) o
+    says_output old new text [] [] (All-nil Fits) refl decoder shown (said ∙ sym (append-nil old.to_client))
+    (took ∙ sym (append-nil old.server.terminal.queue)) o
 
 none_queued : (old new : World) (e : Event) → new.server.terminal.queue ≡ old.server.terminal.queue → Queues old e [] new
 none_queued old new (Pull n) is = refl
@@ -82,25 +91,32 @@ none_at (Pull n) = refl
 none_at (ToClient n) = refl
 none_at e = tt
 
-still_grows : (old new : World) (e : Event) (text : List ℕ) → new.client.decoder ≡ old.client.decoder → new.shown ≡ old.shown → new.to_client ≡ old.to_client → new.server.terminal.queue ≡ old.server.terminal.queue → IsOutput old text → OutputGrows old e new text
+still_grows : (old new : World) (e : Event) (text : List ℕ) → new.client.decoder ≡ old.client.decoder → new.shown ≡ old.shown → new.to_client ≡ old.to_client
+    → new.server.terminal.queue ≡ old.server.terminal.queue → IsOutput old text → OutputGrows old e new text
 still_grows old new e text decoder shown said took o =
     record { symbols = []; took = none_queued old new e took; none = none_at e; output = still_output old new text decoder shown said took o }
 
 same_grows : (old new : World) (e : Event) (text : List ℕ) → new ≡ old → IsOutput old text → OutputGrows old e new text
 same_grows old new e text is o =
-    still_grows old new e text (ap (λ (w : World). w.client.decoder) is) (ap (λ (w : World). w.shown) is) (ap (λ (w : World). w.to_client) is) (ap (λ (w : World). w.server.terminal.queue) is) o
+    still_grows old new e text (ap (λ (w : World). w.client.decoder) is) (ap (λ (w : World). w.shown) is) (ap (λ (w : World). w.to_client) is)
+    (ap (λ (w : World). w.server.terminal.queue) is) o
 
 types_grows : (old new : World) (key : ℕ) (text : List ℕ) → TypesKey old key new → IsOutput old text → OutputGrows old (Key key) new text
 types_grows old new key text t o =
-    still_grows old new (Key key) text t.keeps.decoder (ap (λ (w : World). w.shown) t.rest) (ap (λ (w : World). w.to_client) t.rest) (ap (λ (w : World). w.server.terminal.queue) t.rest) o
+    still_grows old new (Key key) text t.keeps.decoder (ap (λ (w : World). w.shown) t.rest) (ap (λ (w : World). w.to_client) t.rest)
+    (ap (λ (w : World). w.server.terminal.queue) t.rest) o
 
-sends_grows : (old new : World) (command : UserCommand) (text : List ℕ) → SendsCommand old command new → IsOutput old text → OutputGrows old (Send command) new text
+sends_grows : (old new : World) (command : UserCommand) (text : List ℕ) → SendsCommand old command new → IsOutput old text
+    → OutputGrows old (Send command) new text
 sends_grows old new command text t o =
-    still_grows old new (Send command) text t.keeps.decoder (ap (λ (w : World). w.shown) t.rest) (ap (λ (w : World). w.to_client) t.rest) (ap (λ (w : World). w.server.terminal.queue) t.rest) o
+    still_grows old new (Send command) text t.keeps.decoder (ap (λ (w : World). w.shown) t.rest) (ap (λ (w : World). w.to_client) t.rest)
+    (ap (λ (w : World). w.server.terminal.queue) t.rest) o
 
-tells_grows : (old new : World) (call : client_calls.Event) (e : Event) (text : List ℕ) → CallsClient old call new → IsOutput old text → OutputGrows old e new text
+tells_grows : (old new : World) (call : client_calls.Event) (e : Event) (text : List ℕ) → CallsClient old call new → IsOutput old text
+    → OutputGrows old e new text
 tells_grows old new call e text t o =
-    still_grows old new e text t.keeps.decoder (ap (λ (w : World). w.shown) t.rest) (ap (λ (w : World). w.to_client) t.rest) (ap (λ (w : World). w.server.terminal.queue) t.rest) o
+    still_grows old new e text t.keeps.decoder (ap (λ (w : World). w.shown) t.rest) (ap (λ (w : World). w.to_client) t.rest)
+    (ap (λ (w : World). w.server.terminal.queue) t.rest) o
 
 -- A CALL OF THE SERVER
 pub record Took (old new : World) (text : List ℕ) : Type 0 where
@@ -108,20 +124,25 @@ pub record Took (old new : World) (text : List ℕ) : Type 0 where
   pub took : new.server.terminal.queue ≡ old.server.terminal.queue ++ symbols
   pub output : IsOutput new (text ++ screen symbols)
 
-goes_took : (old new : World) (e : server_calls.Event) (text : List ℕ) → IsUnpulled e → HasPast old → server.Advances old.server e old.to_client new.to_client new.server → new.client.decoder ≡ old.client.decoder → new.shown ≡ old.shown → IsOutput old text → Took old new text
+goes_took : (old new : World) (e : server_calls.Event) (text : List ℕ) → IsUnpulled e → HasPast old
+    → server.Advances old.server e old.to_client new.to_client new.server → new.client.decoder ≡ old.client.decoder → new.shown ≡ old.shown → IsOutput old text
+    → Took old new text
 goes_took old new e text is s g decoder shown o =
     let more = goes_queue s.history old.server new.server e old.to_client new.to_client is s.server g in
     record {
       symbols = more.0;
       took = more.1;
-      output = says_output old new text g.said more.0 (goes_fit s.history old.server new.server e old.to_client new.to_client s.server g) (ap text_of (sym (g.replies s.history s.server)) ∙ replies_none s.history e is) decoder shown g.appended more.1 o;
+      output = says_output old new text g.said more.0 (goes_fit s.history old.server new.server e old.to_client new.to_client s.server g)
+          (ap text_of (sym (g.replies s.history s.server)) ∙ replies_none s.history e is) decoder shown g.appended more.1 o;
     }
 
-asks_took : (old new : World) (e : server_calls.Event) (text : List ℕ) → IsUnpulled e → HasPast old → CallsServer old e new → IsOutput old text → Took old new text
+asks_took : (old new : World) (e : server_calls.Event) (text : List ℕ) → IsUnpulled e → HasPast old → CallsServer old e new → IsOutput old text
+    → Took old new text
 asks_took old new e text is s a o = goes_took old new e text is s a.goes (ap (λ (w : World). w.client.decoder) a.rest) (ap (λ (w : World). w.shown) a.rest) o
 
 takes_took : (old new : World) (text : List ℕ) → HasPast old → TakesEntry old new → IsOutput old text → Took old new text
-takes_took old new text s a o = goes_took old new server_calls.took text tt s a.goes (ap (λ (w : World). w.client.decoder) a.rest) (ap (λ (w : World). w.shown) a.rest) o
+takes_took old new text s a o = goes_took old new server_calls.took text tt s a.goes (ap (λ (w : World). w.client.decoder) a.rest)
+    (ap (λ (w : World). w.shown) a.rest) o
 
 -- a delivery to the server
 reaches_took : (old new : World) (n : ℕ) (text : List ℕ) → HasPast old → DeliversToServer old n new → IsOutput old text → Took old new text
@@ -130,7 +151,10 @@ reaches_took old new n text s r o =
     record {
       symbols = more.0;
       took = more.1;
-      output = says_output old new text r.feeds.said more.0 (feeds_fit s.history old.server new.server (take n old.to_server) old.to_client new.to_client s.server r.feeds) (feeds_none s.history old.server new.server (take n old.to_server) old.to_client new.to_client s.server r.feeds) (ap (λ (w : World). w.client.decoder) r.rest) (ap (λ (w : World). w.shown) r.rest) r.feeds.appended more.1 o;
+      output = says_output old new text r.feeds.said more.0 (feeds_fit s.history old.server new.server
+          (take n old.to_server) old.to_client new.to_client s.server r.feeds)
+          (feeds_none s.history old.server new.server (take n old.to_server) old.to_client new.to_client s.server r.feeds)
+          (ap (λ (w : World). w.client.decoder) r.rest) (ap (λ (w : World). w.shown) r.rest) r.feeds.appended more.1 o;
     }
 
 -- A PULL: symbols leave the queue as items
@@ -160,11 +184,14 @@ pulls_grows old new n text s p o =
         items = o.items ++ g.said;
         flight =
             subst (λ (d : DecoderState). InFlight d new.to_client (o.items ++ g.said)) (sym (ap (λ (w : World). w.client.decoder) p.asks.rest))
-            (said_behind old.client.decoder old.to_client new.to_client o.items g.said g.appended (goes_fit h old.server new.server (server_calls.pulled p.count) old.to_client new.to_client s.server g) o.flight);
+            (said_behind old.client.decoder old.to_client new.to_client o.items g.said g.appended
+            (goes_fit h old.server new.server (server_calls.pulled p.count) old.to_client new.to_client s.server g) o.flight);
         is =
             append-nil text ∙ o.is
-            ∙ ap (λ (x : List ℕ). old.shown ++ x) (moved (text_of o.items) (screen old.server.terminal.queue) (screen (take p.count (queue h))) (screen (drop p.count (queue h))) (cut_screen p.count (queue h) ∙ ap screen (sym s.server.queue)))
-            ∙ parts old.shown (text_of o.items ++ screen (take p.count (queue h))) (screen (drop p.count (queue h))) new.shown (text_of (o.items ++ g.said)) (screen new.server.terminal.queue)
+            ∙ ap (λ (x : List ℕ). old.shown ++ x) (moved (text_of o.items) (screen old.server.terminal.queue) (screen (take p.count (queue h)))
+            (screen (drop p.count (queue h))) (cut_screen p.count (queue h) ∙ ap screen (sym s.server.queue)))
+            ∙ parts old.shown (text_of o.items ++ screen (take p.count (queue h))) (screen (drop p.count (queue h))) new.shown (text_of (o.items ++ g.said))
+            (screen new.server.terminal.queue)
             (sym (ap (λ (w : World). w.shown) p.asks.rest))
             (ap (λ (x : List ℕ). text_of o.items ++ x) (sym is_text) ∙ sym (flat_map-append item_shown o.items g.said))
             (ap screen (sym stands.queue));
@@ -175,13 +202,15 @@ pulls_grows old new n text s p o =
 shown_more : (shown got left waiting : List ℕ) → shown ++ ((got ++ left) ++ waiting) ≡ (shown ++ got) ++ (left ++ waiting)
 shown_more shown got left waiting = ap (λ (x : List ℕ). shown ++ x) (append_assoc got left waiting) ∙ sym (append_assoc shown got (left ++ waiting))
 
-returns_grows : (old new : World) (n : ℕ) (text : List ℕ) → HasPast old → old.client.failed ≡ false → DeliversToClient old n new → IsOutput old text → OutputGrows old (ToClient n) new text
+returns_grows : (old new : World) (n : ℕ) (text : List ℕ) → HasPast old → old.client.failed ≡ false → DeliversToClient old n new → IsOutput old text
+    → OutputGrows old (ToClient n) new text
 returns_grows old new n text s runs r o =
     let f = r.feeds in
     let at = (s.client_course runs).1 in
     let d = cut_at old.client.decoder new.client.decoder n old.to_client o.items f.items o.flight f.reads in
     let is_shown : new.shown ≡ old.shown ++ text_of f.items =
-    f.displayed ∙ ap (λ (x : List ℕ). old.shown ++ x) (feeds_text at.history old.client new.client (take n old.to_client) old.to_server new.to_server old.shown new.shown at.leads f) in
+    f.displayed ∙ ap (λ (x : List ℕ). old.shown ++ x) (feeds_text at.history old.client new.client
+    (take n old.to_client) old.to_server new.to_server old.shown new.shown at.leads f) in
     let queued : new.server.terminal.queue ≡ old.server.terminal.queue = ap (λ (w : World). w.server.terminal.queue) r.rest in
     record {
       symbols = [];
@@ -194,41 +223,62 @@ returns_grows old new n text s runs r o =
             append-nil text ∙ o.is
             ∙ ap (λ (x : List ℕ). old.shown ++ (x ++ screen old.server.terminal.queue)) (ap text_of d.all ∙ flat_map-append item_shown f.items d.left)
             ∙ shown_more old.shown (text_of f.items) (text_of d.left) (screen old.server.terminal.queue)
-            ∙ parts (old.shown ++ text_of f.items) (text_of d.left) (screen old.server.terminal.queue) new.shown (text_of d.left) (screen new.server.terminal.queue) (sym is_shown) refl (ap screen (sym queued));
+            ∙ parts (old.shown ++ text_of f.items) (text_of d.left) (screen old.server.terminal.queue) new.shown (text_of d.left)
+            (screen new.server.terminal.queue) (sym is_shown) refl (ap screen (sym queued));
       };
     }
 
 -- EVERY EVENT
-unless : (stopped : Bool) (old new : World) (e : Event) (text : List ℕ) (happens : Type 0) → (happens → OutputGrows old e new text) → IsOutput old text → UnlessStopped stopped old new happens → OutputGrows old e new text
+unless : (stopped : Bool) (old new : World) (e : Event) (text : List ℕ) (happens : Type 0) → (happens → OutputGrows old e new text) → IsOutput old text
+    → UnlessStopped stopped old new happens → OutputGrows old e new text
 unless true old new e text happens done o is = same_grows old new e text is o
 unless false old new e text happens done o is = done is
 
-pub output_grows : (old new : World) (e : Event) (text : List ℕ) → HasPast old → old.client.failed ≡ false → RunsEvent old e new → IsOutput old text → OutputGrows old e new text
-output_grows old new (Key key) text s runs d o = unless old.client_stopped old new (Key key) text (TypesKey old key new) (λ t. types_grows old new key text t o) o d
-output_grows old new (Send command) text s runs d o = unless old.client_stopped old new (Send command) text (SendsCommand old command new) (λ t. sends_grows old new command text t o) o d
+pub output_grows : (old new : World) (e : Event) (text : List ℕ) → HasPast old → old.client.failed ≡ false → RunsEvent old e new → IsOutput old text
+    → OutputGrows old e new text
+output_grows old new (Key key) text s runs d o = unless old.client_stopped old new (Key key) text (TypesKey old key new)
+    (λ t. types_grows old new key text t o) o d
+output_grows old new (Send command) text s runs d o = unless old.client_stopped old new (Send command) text (SendsCommand old command new)
+    (λ t. sends_grows old new command text t o) o d
 output_grows old new (ToServer n) text s runs d o =
-    unless old.server_stopped old new (ToServer n) text (DeliversToServer old n new) (λ r. let t = reaches_took old new n text s r o in record { symbols = t.symbols; took = t.took; none = tt; output = t.output }) o d
-output_grows old new (ToClient n) text s runs d o = unless old.client_stopped old new (ToClient n) text (DeliversToClient old n new) (λ r. returns_grows old new n text s runs r o) o d
+    unless old.server_stopped old new (ToServer n) text (DeliversToServer old n new)
+    (λ r. let t = reaches_took old new n text s r o in record { symbols = t.symbols; took = t.took; none = tt; output = t.output }) o d
+output_grows old new (ToClient n) text s runs d o = unless old.client_stopped old new (ToClient n) text (DeliversToClient old n new)
+    (λ r. returns_grows old new n text s runs r o) o d
 output_grows old new (Write bytes) text s runs d o =
-    unless old.server_stopped old new (Write bytes) text (CallsServer old (server_calls.wrote bytes) new) (λ a. let t = asks_took old new (server_calls.wrote bytes) text tt s a o in record { symbols = t.symbols; took = t.took; none = tt; output = t.output }) o d
+    unless old.server_stopped old new (Write bytes) text (CallsServer old (server_calls.wrote bytes) new)
+    (λ a. let t = asks_took old new (server_calls.wrote bytes) text tt s a o in record { symbols = t.symbols; took = t.took; none = tt; output = t.output })
+    o d
 output_grows old new (Pull n) text s runs d o = unless old.server_stopped old new (Pull n) text (Pulls old n new) (λ p. pulls_grows old new n text s p o) o d
 output_grows old new Take text s runs d o = let t = takes_took old new text s d o in record { symbols = t.symbols; took = t.took; none = tt; output = t.output }
 output_grows old new (Wish editing) text s runs d o =
-    unless old.server_stopped old new (Wish editing) text (CallsServer old (server_calls.wished editing) new) (λ a. let t = asks_took old new (server_calls.wished editing) text tt s a o in record { symbols = t.symbols; took = t.took; none = tt; output = t.output }) o d
+    unless old.server_stopped old new (Wish editing) text (CallsServer old (server_calls.wished editing) new)
+    (λ a. let t = asks_took old new (server_calls.wished editing) text tt s a o
+    in record { symbols = t.symbols; took = t.took; none = tt; output = t.output }) o d
 output_grows old new (Resize width height) text s runs d o =
-    unless old.client_stopped old new (Resize width height) text (CallsClient old (client_calls.resized width height) new) (λ t. tells_grows old new (client_calls.resized width height) (Resize width height) text t o) o d
+    unless old.client_stopped old new (Resize width height) text (CallsClient old (client_calls.resized width height) new)
+    (λ t. tells_grows old new (client_calls.resized width height) (Resize width height) text t o) o d
 output_grows old new (SetChar func value) text s runs d o =
-    unless old.server_stopped old new (SetChar func value) text (CallsServer old (server_calls.char_set func value) new) (λ a. let t = asks_took old new (server_calls.char_set func value) text tt s a o in record { symbols = t.symbols; took = t.took; none = tt; output = t.output }) o d
+    unless old.server_stopped old new (SetChar func value) text (CallsServer old (server_calls.char_set func value) new)
+    (λ a. let t = asks_took old new (server_calls.char_set func value) text tt s a o
+    in record { symbols = t.symbols; took = t.took; none = tt; output = t.output }) o d
 output_grows old new (Propose func value) text s runs d o =
-    unless old.client_stopped old new (Propose func value) text (CallsClient old (client_calls.proposed func value) new) (λ t. tells_grows old new (client_calls.proposed func value) (Propose func value) text t o) o d
+    unless old.client_stopped old new (Propose func value) text (CallsClient old (client_calls.proposed func value) new)
+    (λ t. tells_grows old new (client_calls.proposed func value) (Propose func value) text t o) o d
 output_grows old new (Echo on) text s runs d o =
-    unless old.server_stopped old new (Echo on) text (CallsServer old (server_calls.echo_set on) new) (λ a. let t = asks_took old new (server_calls.echo_set on) text tt s a o in record { symbols = t.symbols; took = t.took; none = tt; output = t.output }) o d
+    unless old.server_stopped old new (Echo on) text (CallsServer old (server_calls.echo_set on) new)
+    (λ a. let t = asks_took old new (server_calls.echo_set on) text tt s a o in record { symbols = t.symbols; took = t.took; none = tt; output = t.output })
+    o d
 output_grows old new (Mask mask) text s runs d o =
-    unless old.server_stopped old new (Mask mask) text (CallsServer old (server_calls.mask_set mask) new) (λ a. let t = asks_took old new (server_calls.mask_set mask) text tt s a o in record { symbols = t.symbols; took = t.took; none = tt; output = t.output }) o d
+    unless old.server_stopped old new (Mask mask) text (CallsServer old (server_calls.mask_set mask) new)
+    (λ a. let t = asks_took old new (server_calls.mask_set mask) text tt s a o
+    in record { symbols = t.symbols; took = t.took; none = tt; output = t.output }) o d
 output_grows old new ServerStops text s runs d o =
-    still_grows old new ServerStops text (ap (λ (w : World). w.client.decoder) d) (ap (λ (w : World). w.shown) d) (ap (λ (w : World). w.to_client) d) (ap (λ (w : World). w.server.terminal.queue) d) o
+    still_grows old new ServerStops text (ap (λ (w : World). w.client.decoder) d) (ap (λ (w : World). w.shown) d) (ap (λ (w : World). w.to_client) d)
+    (ap (λ (w : World). w.server.terminal.queue) d) o
 output_grows old new ClientStops text s runs d o =
-    still_grows old new ClientStops text (ap (λ (w : World). w.client.decoder) d) (ap (λ (w : World). w.shown) d) (ap (λ (w : World). w.to_client) d) (ap (λ (w : World). w.server.terminal.queue) d) o
+    still_grows old new ClientStops text (ap (λ (w : World). w.client.decoder) d) (ap (λ (w : World). w.shown) d) (ap (λ (w : World). w.to_client) d)
+    (ap (λ (w : World). w.server.terminal.queue) d) o
 
 -- THE CLIENT GOES ON: an event that is done fails no end
 abbrev pub KeepsOn : World → World → Type 0
@@ -246,42 +296,54 @@ goes_on old new (Key key) d = on_unless old.client_stopped old new (TypesKey old
 goes_on old new (Send command) d = on_unless old.client_stopped old new (SendsCommand old command new) (λ t. t.keeps.failed) d
 goes_on old new (ToServer n) d = on_unless old.server_stopped old new (DeliversToServer old n new) (λ r. ap (λ (w : World). w.client.failed) r.rest) d
 goes_on old new (ToClient n) d = on_unless old.client_stopped old new (DeliversToClient old n new) (λ r. r.feeds.failed) d
-goes_on old new (Write bytes) d = on_unless old.server_stopped old new (CallsServer old (server_calls.wrote bytes) new) (asks_on old new (server_calls.wrote bytes)) d
+goes_on old new (Write bytes) d = on_unless old.server_stopped old new (CallsServer old (server_calls.wrote bytes) new)
+    (asks_on old new (server_calls.wrote bytes)) d
 goes_on old new (Pull n) d = on_unless old.server_stopped old new (Pulls old n new) (λ p. asks_on old new (server_calls.pulled p.count) p.asks) d
 goes_on old new Take d = ap (λ (w : World). w.client.failed) d.rest
-goes_on old new (Wish editing) d = on_unless old.server_stopped old new (CallsServer old (server_calls.wished editing) new) (asks_on old new (server_calls.wished editing)) d
+goes_on old new (Wish editing) d = on_unless old.server_stopped old new (CallsServer old (server_calls.wished editing) new)
+    (asks_on old new (server_calls.wished editing)) d
 goes_on old new (Resize width height) d = on_unless old.client_stopped old new (CallsClient old (client_calls.resized width height) new) (λ t. t.keeps.failed) d
-goes_on old new (SetChar func value) d = on_unless old.server_stopped old new (CallsServer old (server_calls.char_set func value) new) (asks_on old new (server_calls.char_set func value)) d
+goes_on old new (SetChar func value) d = on_unless old.server_stopped old new (CallsServer old (server_calls.char_set func value) new)
+    (asks_on old new (server_calls.char_set func value)) d
 goes_on old new (Propose func value) d = on_unless old.client_stopped old new (CallsClient old (client_calls.proposed func value) new) (λ t. t.keeps.failed) d
-goes_on old new (Echo on) d = on_unless old.server_stopped old new (CallsServer old (server_calls.echo_set on) new) (asks_on old new (server_calls.echo_set on)) d
-goes_on old new (Mask mask) d = on_unless old.server_stopped old new (CallsServer old (server_calls.mask_set mask) new) (asks_on old new (server_calls.mask_set mask)) d
+goes_on old new (Echo on) d = on_unless old.server_stopped old new (CallsServer old (server_calls.echo_set on) new)
+    (asks_on old new (server_calls.echo_set on)) d
+goes_on old new (Mask mask) d = on_unless old.server_stopped old new (CallsServer old (server_calls.mask_set mask) new)
+    (asks_on old new (server_calls.mask_set mask)) d
 goes_on old new ServerStops d = ap (λ (w : World). w.client.failed) d
 goes_on old new ClientStops d = ap (λ (w : World). w.client.failed) d
 
 -- A REFUSED EVENT adds to it as long as the client does not fail
-halted : (old new : World) (n : ℕ) (fault : ServerFault) (text : List ℕ) → HasPast old → ServerRefusesDelivery old n fault new → IsOutput old text → server.StopsWithin old.server (take n old.to_server) fault old.to_client new.to_client new.server → Took old new text
+halted : (old new : World) (n : ℕ) (fault : ServerFault) (text : List ℕ) → HasPast old → ServerRefusesDelivery old n fault new → IsOutput old text
+    → server.StopsWithin old.server (take n old.to_server) fault old.to_client new.to_client new.server → Took old new text
 halted old new n fault text s r o x =
     let more = halts_queue s.history old.server new.server (take n old.to_server) old.to_client new.to_client fault s.server x in
     record {
       symbols = more.0;
       took = more.1;
-      output = says_output old new text (x.said ++ x.part) more.0 (halts_fit s.history old.server new.server (take n old.to_server) old.to_client new.to_client fault s.server x) (halts_none s.history old.server new.server (take n old.to_server) old.to_client new.to_client fault s.server x) (ap (λ (w : World). w.client.decoder) r.rest) (ap (λ (w : World). w.shown) r.rest) x.appended more.1 o;
+      output = says_output old new text (x.said ++ x.part) more.0
+          (halts_fit s.history old.server new.server (take n old.to_server) old.to_client new.to_client fault s.server x)
+          (halts_none s.history old.server new.server (take n old.to_server) old.to_client new.to_client fault s.server x)
+          (ap (λ (w : World). w.client.decoder) r.rest) (ap (λ (w : World). w.shown) r.rest) x.appended more.1 o;
     }
 
-halts_took : (old new : World) (n : ℕ) (fault : ServerFault) (text : List ℕ) → HasPast old → ServerRefusesDelivery old n fault new → IsOutput old text → (f : ServerFault) → fault ≡ f → Took old new text
+halts_took : (old new : World) (n : ℕ) (fault : ServerFault) (text : List ℕ) → HasPast old → ServerRefusesDelivery old n fault new → IsOutput old text
+    → (f : ServerFault) → fault ≡ f → Took old new text
 halts_took old new n fault text s r o server_faults.Failed e =
     let same = (r.again e).1 in
     record {
       symbols = [];
       took = ap (λ (w : World). w.server.terminal.queue) same ∙ sym (append-nil old.server.terminal.queue);
-      output = still_output old new text (ap (λ (w : World). w.client.decoder) same) (ap (λ (w : World). w.shown) same) (ap (λ (w : World). w.to_client) same) (ap (λ (w : World). w.server.terminal.queue) same) o;
+      output = still_output old new text (ap (λ (w : World). w.client.decoder) same) (ap (λ (w : World). w.shown) same) (ap (λ (w : World). w.to_client) same)
+          (ap (λ (w : World). w.server.terminal.queue) same) o;
     }
 halts_took old new n fault text s r o (server_faults.Char f) e = absurd (subst IsOfPiece e r.is_fault)
 halts_took old new n fault text s r o server_faults.NotOn e = absurd (subst IsOfPiece e r.is_fault)
 halts_took old new n fault text s r o (server_faults.Pty f) e = halted old new n fault text s r o (r.halts (subst IsOfItem (sym e) tt))
 halts_took old new n fault text s r o server_faults.Memory e = halted old new n fault text s r o (r.halts (subst IsOfItem (sym e) tt))
 
-pub refused_grows : (old new : World) (e : Event) (text : List ℕ) → HasPast old → Refusal old e new → IsOutput old text → new.client.failed ≡ false → OutputGrows old e new text
+pub refused_grows : (old new : World) (e : Event) (text : List ℕ) → HasPast old → Refusal old e new → IsOutput old text → new.client.failed ≡ false
+    → OutputGrows old e new text
 refused_grows old new e text s (unchanged is) o runs = same_grows old new e text is o
 refused_grows old new e text s (by_server n fault is r) o runs =
     let t = halts_took old new n fault text s r o fault refl in
@@ -289,7 +351,8 @@ refused_grows old new e text s (by_server n fault is r) o runs =
 refused_grows old new e text s (by_client n fault is r) o runs = opposite new.client.failed _ r.failed runs
 
 -- one event after another
-pub runs_grow : (old new : World) (events : List Event) (text : List ℕ) → HasPast old → old.client.failed ≡ false → Runs old events new → IsOutput old text → OutputGrowsAll old events new text
+pub runs_grow : (old new : World) (events : List Event) (text : List ℕ) → HasPast old → old.client.failed ≡ false → Runs old events new → IsOutput old text
+    → OutputGrowsAll old events new text
 runs_grow old new [] text s runs r o = (text, (r, refl))
 runs_grow old new (e ∷ events) text s runs r o =
     let g = output_grows old r.0 e text s runs r.1 o in
@@ -307,14 +370,16 @@ last_output old new (e ∷ events) text last g o =
     let first = g.2 in
     last_output g.0 new events (text ++ screen first.symbols) last g.3 first.output
 
-pub ends_grow : (old new : World) (events : List Event) (at : ℕ) (cause : Cause) (text : List ℕ) → HasPast old → old.client.failed ≡ false → StopsWithin old events at cause new → IsOutput old text → OutputGrowsBefore old events at cause new text
+pub ends_grow : (old new : World) (events : List Event) (at : ℕ) (cause : Cause) (text : List ℕ) → HasPast old → old.client.failed ≡ false
+    → StopsWithin old events at cause new → IsOutput old text → OutputGrowsBefore old events at cause new text
 ends_grow old new events at cause text s runs e o =
     let g = runs_grow old e.mid e.done text s runs e.runs o in
     record {
       ends = e;
       last = g.0;
       grows = g.1;
-      refused = λ on. refused_grows e.mid new e.event g.0 (runs_sound old e.mid e.done e.runs s) (refusal_of e.mid new e.event cause e.refuses) (last_output old e.mid e.done text g.0 g.1 o) on;
+      refused = λ on. refused_grows e.mid new e.event g.0 (runs_sound old e.mid e.done e.runs s) (refusal_of e.mid new e.event cause e.refuses)
+          (last_output old e.mid e.done text g.0 g.1 o) on;
     }
 
 -- what is shown comes first

@@ -34,10 +34,12 @@ use Rattle.tn_client.proofs.lemmas.Fitting as client_fits
 use Rattle.tn_client.proofs.lemmas.Words as client_words
 use Rattle.tn_world.specs.Past.{HasPast, engines, opening_pair, WishesNothing}
 use Rattle.tn_world.specs.Flight.{InFlight}
-use Rattle.tn_world.specs.Worlds.{World, UnlessStopped, TypesKey, SendsCommand, CallsClient, DeliversToServer, DeliversToClient, CallsServer, Pulls, TakesEntry, RunsEvent, ServerRefusesDelivery, ClientRefusesDelivery, Refuses, client_fault}
+use Rattle.tn_world.specs.Worlds.{World, UnlessStopped, TypesKey, SendsCommand, CallsClient, DeliversToServer, DeliversToClient, CallsServer, Pulls, TakesEntry}
+use Rattle.tn_world.specs.Worlds.{RunsEvent, ServerRefusesDelivery, ClientRefusesDelivery, Refuses, client_fault}
 use Rattle.tn_client.specs.declared.commands.UserCommand.{UserCommand}
 use Rattle.tn_world.specs.declared.events.Event.{Event}
-use Rattle.tn_world.specs.declared.events.Event.TheVariants.{Key, Send, ToServer, ToClient, Write, Pull, Take, Wish, Resize, SetChar, Propose, Echo, Mask, ServerStops, ClientStops}
+use Rattle.tn_world.specs.declared.events.Event.TheVariants.{Key, Send, ToServer, ToClient, Write, Pull, Take, Wish, Resize, SetChar, Propose, Echo, Mask}
+use Rattle.tn_world.specs.declared.events.Event.TheVariants.{ServerStops, ClientStops}
 use Rattle.tn_world.specs.declared.faults.Cause.{Cause}
 use Rattle.tn_world.specs.declared.faults.Cause.TheVariants as cause
 use Rattle.tn_world.proofs.Cut.{said_behind, cut_at}
@@ -49,7 +51,8 @@ pub opposite : (b : Bool) (A : Type 0) → b ≡ true → b ≡ false → A
 opposite b A p q = absurd (cc)
 
 -- WHAT IS SAID FITS A STREAM
-pub goes_fit : (h : server_calls.History) (old new : server.End) (e : server_calls.Event) (before after : List ℕ) → server.LeadsTo h old → (g : server.Advances old e before after new) → All Fits g.said
+pub goes_fit : (h : server_calls.History) (old new : server.End) (e : server_calls.Event) (before after : List ℕ) → server.LeadsTo h old
+    → (g : server.Advances old e before after new) → All Fits g.said
 goes_fit h old new e before after s g = subst (All Fits) (g.replies h s) (server_fits.replies-fit h e)
 
 later_fit : (all before said : List Item) → all ≡ before ++ said → All Fits all → All Fits said
@@ -58,34 +61,45 @@ later_fit all before said is fit = (all_parts Fits before said (subst (All Fits)
 front_fit : (all part rest : List Item) → all ≡ part ++ rest → All Fits all → All Fits part
 front_fit all part rest is fit = (all_parts Fits part rest (subst (All Fits) is fit)).0
 
-pub feeds_fit : (h : server_calls.History) (old new : server.End) (piece before after : List ℕ) → server.LeadsTo h old → (f : server.Feeds old piece before after new) → All Fits f.said
-feeds_fit h old new piece before after s f = later_fit (server_says.items_said (server_calls.gets h f.items)) (server_says.items_said h) f.said (f.sends h s) (server_fits.sent-fit (server_calls.gets h f.items))
+pub feeds_fit : (h : server_calls.History) (old new : server.End) (piece before after : List ℕ) → server.LeadsTo h old
+    → (f : server.Feeds old piece before after new) → All Fits f.said
+feeds_fit h old new piece before after s f = later_fit (server_says.items_said (server_calls.gets h f.items)) (server_says.items_said h) f.said (f.sends h s)
+    (server_fits.sent-fit (server_calls.gets h f.items))
 
 first_fit : (h : server_calls.History) (left part rest : List Item) → server.first_replies h left ≡ part ++ rest → All Fits part
 first_fit h [] part rest is = front_fit [] part rest is (All-nil Fits)
-first_fit h (item ∷ left) part rest is = front_fit (server_says.replies h (server_calls.got item)) part rest is (server_fits.replies-fit h (server_calls.got item))
+first_fit h (item ∷ left) part rest is = front_fit (server_says.replies h (server_calls.got item)) part rest is
+    (server_fits.replies-fit h (server_calls.got item))
 
-pub halts_fit : (h : server_calls.History) (old new : server.End) (piece before after : List ℕ) (fault : ServerFault) → server.LeadsTo h old → (x : server.StopsWithin old piece fault before after new) → All Fits (x.said ++ x.part)
+pub halts_fit : (h : server_calls.History) (old new : server.End) (piece before after : List ℕ) (fault : ServerFault) → server.LeadsTo h old
+    → (x : server.StopsWithin old piece fault before after new) → All Fits (x.said ++ x.part)
 halts_fit h old new piece before after fault s x =
     let b = x.begins h s in
     All-append Fits x.said x.part
-    (later_fit (server_says.items_said (server_calls.gets h x.done)) (server_says.items_said h) x.said (x.sends h s) (server_fits.sent-fit (server_calls.gets h x.done)))
+    (later_fit (server_says.items_said (server_calls.gets h x.done)) (server_says.items_said h) x.said (x.sends h s)
+    (server_fits.sent-fit (server_calls.gets h x.done)))
     (first_fit (server_calls.gets h x.done) x.left x.part b.0 b.1)
 
-pub sends_fit : (h : client_calls.History) (old : client.End) (e : client_calls.Event) (before after : List ℕ) → client.LeadsTo h old → (g : client.Sends old e before after) → All Fits g.said
+pub sends_fit : (h : client_calls.History) (old : client.End) (e : client_calls.Event) (before after : List ℕ) → client.LeadsTo h old
+    → (g : client.Sends old e before after) → All Fits g.said
 sends_fit h old e before after s g = subst (All Fits) (g.replies h s) (client_fits.replies-fit h e)
 
-pub came_fit : (h : client_calls.History) (old new : client.End) (piece before after seen now : List ℕ) → client.LeadsTo h old → (f : client.Feeds old piece before after seen now new) → All Fits f.said
-came_fit h old new piece before after seen now s f = later_fit (client_says.items_said (client_calls.gets h f.items)) (client_says.items_said h) f.said (f.sends h s) (client_fits.sent-fits (client_calls.gets h f.items))
+pub came_fit : (h : client_calls.History) (old new : client.End) (piece before after seen now : List ℕ) → client.LeadsTo h old
+    → (f : client.Feeds old piece before after seen now new) → All Fits f.said
+came_fit h old new piece before after seen now s f = later_fit (client_says.items_said (client_calls.gets h f.items)) (client_says.items_said h) f.said
+    (f.sends h s) (client_fits.sent-fits (client_calls.gets h f.items))
 
 gave_fit : (h : client_calls.History) (left part : List Item) (here : DecoderState) (back : List ℕ) → client.IsStopCause h left part here back → All Fits part
 gave_fit h [] part here back g = subst (All Fits) (sym g.0) (All-nil Fits)
-gave_fit h (item ∷ later) part here back g = front_fit (client_says.replies h (client_calls.got item)) part g.rest g.whole (client_fits.replies-fit h (client_calls.got item))
+gave_fit h (item ∷ later) part here back g = front_fit (client_says.replies h (client_calls.got item)) part g.rest g.whole
+    (client_fits.replies-fit h (client_calls.got item))
 
-pub breaks_fit : (h : client_calls.History) (old : client.End) (piece before after seen now stream : List ℕ) (had : List Item) → client.LeadsTo h old → LeadsTo stream had old.decoder → (x : client.StopsWithin old piece before after seen now) → All Fits (x.said ++ x.part)
+pub breaks_fit : (h : client_calls.History) (old : client.End) (piece before after seen now stream : List ℕ) (had : List Item) → client.LeadsTo h old
+    → LeadsTo stream had old.decoder → (x : client.StopsWithin old piece before after seen now) → All Fits (x.said ++ x.part)
 breaks_fit h old piece before after seen now stream had s r x =
     All-append Fits x.said x.part
-    (later_fit (client_says.items_said (client_calls.gets h x.done)) (client_says.items_said h) x.said (x.sends h s) (client_fits.sent-fits (client_calls.gets h x.done)))
+    (later_fit (client_says.items_said (client_calls.gets h x.done)) (client_says.items_said h) x.said (x.sends h s)
+    (client_fits.sent-fits (client_calls.gets h x.done)))
     (gave_fit (client_calls.gets h x.done) x.left x.part x.here x.back (x.cause h stream had s r))
 
 -- WHO IS ASKED GOES ON
@@ -93,7 +107,8 @@ pub call_goes_on : (end : client.End) → client.call_fault end ≡ None → end
 call_goes_on end e = by_test end.failed refl
   where
     by_test : (b : Bool) → end.failed ≡ b → end.failed ≡ false
-    by_test true is = absurd (let f : (if true then Some client_faults.Failed else None) ≡ None = ap (λ (b : Bool). if b then Some client_faults.Failed else None) (sym is) ∙ e in cc)
+    by_test true is = absurd (let f : (if true then Some client_faults.Failed else None)
+        ≡ None = ap (λ (b : Bool). if b then Some client_faults.Failed else None) (sym is) ∙ e in cc)
     by_test false is = is
 
 pub propose_goes_on : (end : client.End) (e : client_calls.Event) → client_fault end e ≡ None → end.failed ≡ false
@@ -112,27 +127,35 @@ propose_goes_on end (client_calls.sent command) e = call_goes_on end e
 abbrev pub Lead : Options → Options → List (Verb × ℕ) → List (Verb × ℕ) → Type 0
 Lead here there ws vs = TalkTo opening_pair (record { here = here; there = there; to_here = ws; to_there = vs })
 
-leads_on : (here there here2 there2 : Options) (ws vs ws2 vs2 : List (Verb × ℕ)) → Moves (record { here = here; there = there; to_here = ws; to_there = vs }) (record { here = here2; there = there2; to_here = ws2; to_there = vs2 }) → Lead here there ws vs → Lead here2 there2 ws2 vs2
+leads_on : (here there here2 there2 : Options) (ws vs ws2 vs2 : List (Verb × ℕ))
+    → Moves (record { here = here; there = there; to_here = ws; to_there = vs }) (record { here = here2; there = there2; to_here = ws2; to_there = vs2 })
+    → Lead here there ws vs → Lead here2 there2 ws2 vs2
 leads_on here there here2 there2 ws vs ws2 vs2 m l = then-Moves opening_pair _ _ l m
 
 -- more is said to the server, and to the client
-said_there : (here there : Options) (xs said : List Item) (vs : List (Verb × ℕ)) → Lead here there (words_in xs ++ words_in said) vs → Lead here there (words_in (xs ++ said)) vs
+said_there : (here there : Options) (xs said : List Item) (vs : List (Verb × ℕ)) → Lead here there (words_in xs ++ words_in said) vs
+    → Lead here there (words_in (xs ++ said)) vs
 said_there here there xs said vs l = subst (λ (x : List (Verb × ℕ)). Lead here there x vs) (sym (words_in-append xs said)) l
 
-said_back : (here there : Options) (ws : List (Verb × ℕ)) (xs said : List Item) → Lead here there ws (words_in xs ++ words_in said) → Lead here there ws (words_in (xs ++ said))
+said_back : (here there : Options) (ws : List (Verb × ℕ)) (xs said : List Item) → Lead here there ws (words_in xs ++ words_in said)
+    → Lead here there ws (words_in (xs ++ said))
 said_back here there ws xs said l = subst (λ (x : List (Verb × ℕ)). Lead here there ws x) (sym (words_in-append xs said)) l
 
 -- a call that says no word and leaves the options
-wordless : (here there there2 : Options) (xs said : List Item) (vs : List (Verb × ℕ)) → there2 ≡ there → words_in said ≡ [] → Lead here there (words_in xs) vs → Lead here there2 (words_in (xs ++ said)) vs
+wordless : (here there there2 : Options) (xs said : List Item) (vs : List (Verb × ℕ)) → there2 ≡ there → words_in said ≡ [] → Lead here there (words_in xs) vs
+    → Lead here there2 (words_in (xs ++ said)) vs
 wordless here there there2 xs said vs same none l =
     subst (λ (o : Options). Lead here o (words_in (xs ++ said)) vs) (sym same)
-    (subst (λ (x : List (Verb × ℕ)). Lead here there x vs) (sym (words_in-append xs said ∙ ap (λ (t : List (Verb × ℕ)). words_in xs ++ t) none ∙ append-nil (words_in xs))) l)
+    (subst (λ (x : List (Verb × ℕ)). Lead here there x vs) (sym (words_in-append xs said ∙ ap (λ (t : List (Verb × ℕ)). words_in xs ++ t) none
+    ∙ append-nil (words_in xs))) l)
 
 -- what is left of a flight
-split_there : (here there : Options) (all got left : List Item) (vs : List (Verb × ℕ)) → all ≡ got ++ left → Lead here there (words_in all) vs → Lead here there (words_in got ++ words_in left) vs
+split_there : (here there : Options) (all got left : List Item) (vs : List (Verb × ℕ)) → all ≡ got ++ left → Lead here there (words_in all) vs
+    → Lead here there (words_in got ++ words_in left) vs
 split_there here there all got left vs is l = subst (λ (x : List (Verb × ℕ)). Lead here there x vs) (ap words_in is ∙ words_in-append got left) l
 
-split_back : (here there : Options) (ws : List (Verb × ℕ)) (all got left : List Item) → all ≡ got ++ left → Lead here there ws (words_in all) → Lead here there ws (words_in got ++ words_in left)
+split_back : (here there : Options) (ws : List (Verb × ℕ)) (all got left : List Item) → all ≡ got ++ left → Lead here there ws (words_in all)
+    → Lead here there ws (words_in got ++ words_in left)
 split_back here there ws all got left is l = subst (λ (x : List (Verb × ℕ)). Lead here there ws x) (ap words_in is ∙ words_in-append got left) l
 
 -- EACH CALL AND DELIVERY
@@ -146,10 +169,24 @@ pub made : (w : World) (h : server_calls.History) → server.LeadsTo h w.server
     → (here : w.client.failed ≡ false → (items : List Item) × InFlight w.client.decoder w.to_client items)
     → ((a : w.server.failed ≡ false) (b : w.client.failed ≡ false) → TalkTo opening_pair (engines w (there a).0 (here b).0))
     → ((a : w.server.failed ≡ false) → w.client.failed ≡ false → All WishesNothing (there a).0) → HasPast w
-made w h stands of_server of_client limit opened there here words unwished = record { history = h; server = stands; server_course = of_server; client_course = of_client; limit = limit; takes_keys = opened; to_server = there; to_client = here; words = words; unwished = unwished }
+made w h stands of_server of_client limit opened there here words unwished =
+    record {
+      history = h;
+      server = stands;
+      server_course = of_server;
+      client_course = of_client;
+      limit = limit;
+      takes_keys = opened;
+      to_server = there;
+      to_client = here;
+      words = words;
+      unwished = unwished;
+    }
 
 -- a call of the client
-module _ (old new : World) (e : client_calls.Event) (call : client_courses.IsCall e) (g : client.Advances old.client e new.client) (k : client.ReadsNothing old.client new.client) (sends : client.Sends old.client e old.to_server new.to_server) (runs : old.client.failed ≡ false) (s : HasPast old) where
+module _ (old new : World) (e : client_calls.Event) (call : client_courses.IsCall e) (g : client.Advances old.client e new.client)
+    (k : client.ReadsNothing old.client new.client) (sends : client.Sends old.client e old.to_server new.to_server) (runs : old.client.failed ≡ false)
+    (s : HasPast old) where
   told_now : (c : client_courses.Course) × client_courses.CourseLeadsTo c new.client
   told_now = let before = s.client_course runs in (client_courses.called before.0 e, client_on.called_at before.0 old.client new.client e before.1 call g k)
 
@@ -166,22 +203,31 @@ module _ (old new : World) (e : client_calls.Event) (call : client_courses.IsCal
       made (record old { client = new.client; to_server = new.to_server }) s.history s.server s.server_course (λ b. told_now)
       (λ b. told_limit ∙ s.limit runs)
       s.takes_keys
-      (λ a. let f = s.to_server a in (f.0 ++ sends.said, said_behind old.server.decoder old.to_server new.to_server f.0 sends.said sends.appended (sends_fit at.history old.client e old.to_server new.to_server at.leads sends) f.1))
+      (λ a. let f = s.to_server a in (
+        f.0 ++ sends.said,
+        said_behind old.server.decoder old.to_server new.to_server f.0 sends.said sends.appended
+            (sends_fit at.history old.client e old.to_server new.to_server at.leads sends) f.1,
+      ))
       (λ b. let f = s.to_client runs in (f.0, subst (λ d. InFlight d old.to_client f.0) (sym k.decoder) f.1))
       (λ a b. wordless old.server.terms.options old.client.options new.client.options (s.to_server a).0 sends.said (words_in (s.to_client runs).0)
-      (client_words.advances_keeps at.history old.client new.client e call at.leads g) (client_words.sends_none at.history old.client e old.to_server new.to_server call at.leads sends) (s.words a runs))
-      (λ a b. All-append WishesNothing (s.to_server a).0 sends.said (s.unwished a runs) (subst (All WishesNothing) (sends.replies at.history at.leads) (says_no_wish at.history e)))
+      (client_words.advances_keeps at.history old.client new.client e call at.leads g)
+      (client_words.sends_none at.history old.client e old.to_server new.to_server call at.leads sends) (s.words a runs))
+      (λ a b. All-append WishesNothing (s.to_server a).0 sends.said (s.unwished a runs)
+      (subst (All WishesNothing) (sends.replies at.history at.leads) (says_no_wish at.history e)))
 
 -- what no part of the invariant looks at
-pub sound_as : (old new : World) → new.server ≡ old.server → new.client ≡ old.client → new.to_server ≡ old.to_server → new.to_client ≡ old.to_client → HasPast old → HasPast new
+pub sound_as : (old new : World) → new.server ≡ old.server → new.client ≡ old.client → new.to_server ≡ old.to_server → new.to_client ≡ old.to_client
+    → HasPast old → HasPast new
 sound_as old new a b c d s =
     made new s.history (subst (server.LeadsTo s.history) (sym a) s.server)
     (λ r. let x = s.server_course (sym (ap (λ e. e.failed) a) ∙ r) in (x.0, subst (server_courses.CourseLeadsTo x.0) (sym a) x.1))
     (λ r. let x = s.client_course (sym (ap (λ e. e.failed) b) ∙ r) in (x.0, subst (client_courses.CourseLeadsTo x.0) (sym b) x.1))
     (λ r. ap (λ e. e.line.limit) b ∙ s.limit (sym (ap (λ e. e.failed) b) ∙ r) ∙ sym (ap (λ e. e.terminal.line.limit) a))
     (λ r. ap (λ (e : server.End). e.terminal.closed) a ∙ s.takes_keys (sym (ap (λ (e : server.End). e.failed) a) ∙ r))
-    (λ r. let f = s.to_server (sym (ap (λ e. e.failed) a) ∙ r) in (f.0, subst (λ x. InFlight new.server.decoder x f.0) (sym c) (subst (λ e. InFlight e.decoder old.to_server f.0) (sym a) f.1)))
-    (λ r. let f = s.to_client (sym (ap (λ e. e.failed) b) ∙ r) in (f.0, subst (λ x. InFlight new.client.decoder x f.0) (sym d) (subst (λ e. InFlight e.decoder old.to_client f.0) (sym b) f.1)))
+    (λ r. let f = s.to_server (sym (ap (λ e. e.failed) a) ∙ r) in
+    (f.0, subst (λ x. InFlight new.server.decoder x f.0) (sym c) (subst (λ e. InFlight e.decoder old.to_server f.0) (sym a) f.1)))
+    (λ r. let f = s.to_client (sym (ap (λ e. e.failed) b) ∙ r) in
+    (f.0, subst (λ x. InFlight new.client.decoder x f.0) (sym d) (subst (λ e. InFlight e.decoder old.to_client f.0) (sym b) f.1)))
     (λ p q.
     let p2 = sym (ap (λ e. e.failed) a) ∙ p in
     let q2 = sym (ap (λ e. e.failed) b) ∙ q in
@@ -195,7 +241,8 @@ pub sound_types : (old new : World) (key : ℕ) → TypesKey old key new → Has
 sound_types old new key t s =
     let runs = propose_goes_on old.client (client_calls.typed key) t.accepted in
     subst (λ w. HasPast w) (sym t.rest)
-    (sound_as (record old { client = new.client; to_server = new.to_server }) (record old { client = new.client; to_server = new.to_server; echoed = new.echoed; typed = old.typed ++ key ∷ [] }) refl refl refl refl
+    (sound_as (record old { client = new.client; to_server = new.to_server })
+    (record old { client = new.client; to_server = new.to_server; echoed = new.echoed; typed = old.typed ++ key ∷ [] }) refl refl refl refl
     (told_sound old new (client_calls.typed key) tt t.goes t.keeps t.sends runs s))
 
 pub sound_sends : (old new : World) (command : UserCommand) → SendsCommand old command new → HasPast old → HasPast new
@@ -211,7 +258,8 @@ sound_tells old new e call t s =
     subst (λ w. HasPast w) (sym t.rest) (told_sound old new e call t.goes t.keeps t.sends runs s)
 
 -- a call of the server
-module _ (old new : World) (e : server_calls.Event) (call : server_courses.IsCall e) (g : server.Advances old.server e old.to_client new.to_client new.server) (k : server.ReadsNothing old.server new.server) (s : HasPast old) where
+module _ (old new : World) (e : server_calls.Event) (call : server_courses.IsCall e) (g : server.Advances old.server e old.to_client new.to_client new.server)
+    (k : server.ReadsNothing old.server new.server) (s : HasPast old) where
   asked_limit : new.server.terminal.line.limit ≡ old.server.terminal.line.limit
   asked_limit =
       let after = g.leads s.history s.server in
@@ -221,18 +269,26 @@ module _ (old new : World) (e : server_calls.Event) (call : server_courses.IsCal
   pub asked_sound : HasPast (record old { server = new.server; to_client = new.to_client })
   asked_sound =
       made (record old { server = new.server; to_client = new.to_client }) (server_calls.next s.history e) (g.leads s.history s.server)
-      (λ r. let x = s.server_course (sym k.failed ∙ r) in (server_courses.called x.0 e, server_on.called_on x.0 old.server new.server e old.to_client new.to_client x.1 call g k))
+      (λ r. let x = s.server_course (sym k.failed ∙ r) in (
+        server_courses.called x.0 e,
+        server_on.called_on x.0 old.server new.server e old.to_client new.to_client x.1 call g k,
+      ))
       s.client_course
       (λ b. s.limit b ∙ sym asked_limit)
       (λ a. g.closed ∙ s.takes_keys (sym k.failed ∙ a))
       (λ a. let f = s.to_server (sym k.failed ∙ a) in (f.0, subst (λ d. InFlight d old.to_server f.0) (sym k.decoder) f.1))
-      (λ b. let f = s.to_client b in (f.0 ++ g.said, said_behind old.client.decoder old.to_client new.to_client f.0 g.said g.appended (goes_fit s.history old.server new.server e old.to_client new.to_client s.server g) f.1))
+      (λ b. let f = s.to_client b in (
+        f.0 ++ g.said,
+        said_behind old.client.decoder old.to_client new.to_client f.0 g.said g.appended
+            (goes_fit s.history old.server new.server e old.to_client new.to_client s.server g) f.1,
+      ))
       (λ a b.
       let ws = words_in (s.to_server (sym k.failed ∙ a)).0 in
       let y = (s.to_client b).0 in
       said_back new.server.terms.options old.client.options ws y g.said
       (leads_on old.server.terms.options old.client.options new.server.terms.options old.client.options ws (words_in y) ws (words_in y ++ words_in g.said)
-      (server_words.advances_moves s.history old.server new.server e old.to_client new.to_client old.client.options ws (words_in y) call s.server g) (s.words (sym k.failed ∙ a) b)))
+      (server_words.advances_moves s.history old.server new.server e old.to_client new.to_client old.client.options ws (words_in y) call s.server g)
+      (s.words (sym k.failed ∙ a) b)))
       (λ a b. s.unwished (sym k.failed ∙ a) b)
 
 pub sound_asks : (old new : World) (e : server_calls.Event) → server_courses.IsCall e → CallsServer old e new → HasPast old → HasPast new
@@ -253,18 +309,26 @@ sound_reaches old new n t s =
     let runs : new.server.failed ≡ false → old.server.failed ≡ false = λ r. sym f.failed ∙ r in
     subst (λ w. HasPast w) (sym t.rest)
     (made (record old { server = new.server; to_server = drop n old.to_server; to_client = new.to_client }) (server_calls.gets s.history f.items) after
-    (λ r. let x = s.server_course (runs r) in (server_courses.fed x.0 piece, server_on.fed_on x.0 old.server new.server piece old.to_client new.to_client x.1 f))
+    (λ r. let x = s.server_course (runs r) in (
+      server_courses.fed x.0 piece,
+      server_on.fed_on x.0 old.server new.server piece old.to_client new.to_client x.1 f,
+    ))
     s.client_course
     (λ b. s.limit b ∙ before.limit ∙ sym (limit-gets s.history f.items) ∙ sym after.limit)
     (λ a. f.closed ∙ s.takes_keys (runs a))
     (λ a. let x = s.to_server (runs a) in let d = cut_at old.server.decoder new.server.decoder n old.to_server x.0 f.items x.1 f.reads in (d.left, d.flight))
-    (λ b. let x = s.to_client b in (x.0 ++ f.said, said_behind old.client.decoder old.to_client new.to_client x.0 f.said f.appended (feeds_fit s.history old.server new.server piece old.to_client new.to_client s.server f) x.1))
+    (λ b. let x = s.to_client b in (
+      x.0 ++ f.said,
+      said_behind old.client.decoder old.to_client new.to_client x.0 f.said f.appended
+          (feeds_fit s.history old.server new.server piece old.to_client new.to_client s.server f) x.1,
+    ))
     (λ a b.
     let x = s.to_server (runs a) in
     let y = (s.to_client b).0 in
     let d = cut_at old.server.decoder new.server.decoder n old.to_server x.0 f.items x.1 f.reads in
     said_back new.server.terms.options old.client.options (words_in d.left) y f.said
-    (leads_on old.server.terms.options old.client.options new.server.terms.options old.client.options (words_in f.items ++ words_in d.left) (words_in y) (words_in d.left) (words_in y ++ words_in f.said)
+    (leads_on old.server.terms.options old.client.options new.server.terms.options old.client.options (words_in f.items ++ words_in d.left) (words_in y)
+    (words_in d.left) (words_in y ++ words_in f.said)
     (server_words.feeds_moves s.history old.server new.server piece old.to_client new.to_client old.client.options (words_in d.left) (words_in y) s.server f)
     (split_there old.server.terms.options old.client.options x.0 f.items d.left (words_in y) d.all (s.words (runs a) b))))
     (λ a b.
@@ -288,23 +352,34 @@ sound_returns old new n t s =
     subst (λ w. HasPast w) (sym t.rest)
     (made (record old { client = new.client; to_client = drop n old.to_client; to_server = new.to_server; shown = new.shown }) s.history s.server
     s.server_course
-    (λ r. let x = s.client_course runs in (client_courses.fed x.0 piece, client_on.fed_at x.0 old.client new.client piece old.to_server new.to_server old.shown new.shown x.1 f))
+    (λ r. let x = s.client_course runs in (
+      client_courses.fed x.0 piece,
+      client_on.fed_at x.0 old.client new.client piece old.to_server new.to_server old.shown new.shown x.1 f,
+    ))
     (λ b. after.limit ∙ line_limit-gets at.history f.items ∙ sym before.limit ∙ s.limit runs)
     s.takes_keys
-    (λ a. let x = s.to_server a in (x.0 ++ f.said, said_behind old.server.decoder old.to_server new.to_server x.0 f.said f.appended (came_fit at.history old.client new.client piece old.to_server new.to_server old.shown new.shown at.leads f) x.1))
+    (λ a. let x = s.to_server a in (
+      x.0 ++ f.said,
+      said_behind old.server.decoder old.to_server new.to_server x.0 f.said f.appended
+          (came_fit at.history old.client new.client piece old.to_server new.to_server old.shown new.shown at.leads f) x.1,
+    ))
     (λ b. let x = s.to_client runs in let d = cut_at old.client.decoder new.client.decoder n old.to_client x.0 f.items x.1 f.reads in (d.left, d.flight))
     (λ a b.
     let x = (s.to_server a).0 in
     let y = s.to_client runs in
     let d = cut_at old.client.decoder new.client.decoder n old.to_client y.0 f.items y.1 f.reads in
     said_there old.server.terms.options new.client.options x f.said (words_in d.left)
-    (leads_on old.server.terms.options old.client.options old.server.terms.options new.client.options (words_in x) (words_in f.items ++ words_in d.left) (words_in x ++ words_in f.said) (words_in d.left)
-    (client_words.feeds_moves at.history old.client new.client piece old.to_server new.to_server old.shown new.shown old.server.terms.options (words_in x) (words_in d.left) at.leads f)
+    (leads_on old.server.terms.options old.client.options old.server.terms.options new.client.options (words_in x) (words_in f.items ++ words_in d.left)
+    (words_in x ++ words_in f.said) (words_in d.left)
+    (client_words.feeds_moves at.history old.client new.client piece old.to_server new.to_server old.shown new.shown old.server.terms.options (words_in x)
+    (words_in d.left) at.leads f)
     (split_back old.server.terms.options old.client.options (words_in x) y.0 f.items d.left d.all (s.words a runs))))
     (λ a b. All-append WishesNothing (s.to_server a).0 f.said (s.unwished a runs)
-    (all_parts WishesNothing (client_says.items_said at.history) f.said (subst (All WishesNothing) (f.sends at.history at.leads) (said_no_wish (client_calls.gets at.history f.items)))).1))
+    (all_parts WishesNothing (client_says.items_said at.history) f.said
+    (subst (All WishesNothing) (f.sends at.history at.leads) (said_no_wish (client_calls.gets at.history f.items)))).1))
 
-unless : (stopped : Bool) (old new : World) (happens : Type 0) → (happens → HasPast old → HasPast new) → UnlessStopped stopped old new happens → HasPast old → HasPast new
+unless : (stopped : Bool) (old new : World) (happens : Type 0) → (happens → HasPast old → HasPast new) → UnlessStopped stopped old new happens → HasPast old
+    → HasPast new
 unless true old new happens done is s = subst (λ w. HasPast w) (sym is) s
 unless false old new happens done is s = done is s
 
@@ -313,25 +388,31 @@ sound_does old new (Key key) d s = unless old.client_stopped old new (TypesKey o
 sound_does old new (Send command) d s = unless old.client_stopped old new (SendsCommand old command new) (sound_sends old new command) d s
 sound_does old new (ToServer n) d s = unless old.server_stopped old new (DeliversToServer old n new) (sound_reaches old new n) d s
 sound_does old new (ToClient n) d s = unless old.client_stopped old new (DeliversToClient old n new) (sound_returns old new n) d s
-sound_does old new (Write bytes) d s = unless old.server_stopped old new (CallsServer old (server_calls.wrote bytes) new) (sound_asks old new (server_calls.wrote bytes) tt) d s
+sound_does old new (Write bytes) d s = unless old.server_stopped old new (CallsServer old (server_calls.wrote bytes) new)
+    (sound_asks old new (server_calls.wrote bytes) tt) d s
 sound_does old new (Pull n) d s =
     unless old.server_stopped old new (Pulls old n new) (λ p. sound_asks old new (server_calls.pulled p.count) tt p.asks) d s
 sound_does old new Take d s = sound_takes old new d s
-sound_does old new (Wish editing) d s = unless old.server_stopped old new (CallsServer old (server_calls.wished editing) new) (sound_asks old new (server_calls.wished editing) tt) d s
+sound_does old new (Wish editing) d s = unless old.server_stopped old new (CallsServer old (server_calls.wished editing) new)
+    (sound_asks old new (server_calls.wished editing) tt) d s
 sound_does old new (Resize width height) d s =
     unless old.client_stopped old new (CallsClient old (client_calls.resized width height) new) (sound_tells old new (client_calls.resized width height) tt) d s
 sound_does old new (SetChar func value) d s =
     unless old.server_stopped old new (CallsServer old (server_calls.char_set func value) new) (sound_asks old new (server_calls.char_set func value) tt) d s
 sound_does old new (Propose func value) d s =
     unless old.client_stopped old new (CallsClient old (client_calls.proposed func value) new) (sound_tells old new (client_calls.proposed func value) tt) d s
-sound_does old new (Echo on) d s = unless old.server_stopped old new (CallsServer old (server_calls.echo_set on) new) (sound_asks old new (server_calls.echo_set on) tt) d s
-sound_does old new (Mask mask) d s = unless old.server_stopped old new (CallsServer old (server_calls.mask_set mask) new) (sound_asks old new (server_calls.mask_set mask) tt) d s
+sound_does old new (Echo on) d s = unless old.server_stopped old new (CallsServer old (server_calls.echo_set on) new)
+    (sound_asks old new (server_calls.echo_set on) tt) d s
+sound_does old new (Mask mask) d s = unless old.server_stopped old new (CallsServer old (server_calls.mask_set mask) new)
+    (sound_asks old new (server_calls.mask_set mask) tt) d s
 sound_does old new ServerStops d s = subst (λ w. HasPast w) (sym d) (sound_as old _ refl refl refl refl s)
 sound_does old new ClientStops d s = subst (λ w. HasPast w) (sym d) (sound_as old _ refl refl refl refl s)
 
 -- REFUSALS
 -- the server stood where the items that were done lead, or failed before
-pub stood : (old : server.End) (new : server.End) (piece before after : List ℕ) (fault : ServerFault) (h : server_calls.History) → server.LeadsTo h old → (fault ≡ server_faults.Failed → new ≡ old) → (IsOfItem fault → server.StopsWithin old piece fault before after new) → IsOfPiece fault → (items : List Item) × server.LeadsTo (server_calls.gets h items) new
+pub stood : (old : server.End) (new : server.End) (piece before after : List ℕ) (fault : ServerFault) (h : server_calls.History) → server.LeadsTo h old
+    → (fault ≡ server_faults.Failed → new ≡ old) → (IsOfItem fault → server.StopsWithin old piece fault before after new) → IsOfPiece fault
+    → (items : List Item) × server.LeadsTo (server_calls.gets h items) new
 stood old new piece before after (server_faults.Pty f) h s again halts of = let x = halts tt in (x.done, x.leads h s)
 stood old new piece before after server_faults.Memory h s again halts of = let x = halts tt in (x.done, x.leads h s)
 stood old new piece before after server_faults.Failed h s again halts of = ([], subst (server.LeadsTo h) (sym (again refl)) s)
@@ -344,15 +425,22 @@ pub record SaidOn (before after : List ℕ) : Type 0 where
   pub appended : after ≡ before ++ spells said
   pub fit : All Fits said
 
-pub said_on : (old new : server.End) (piece before after : List ℕ) (fault : ServerFault) (h : server_calls.History) → server.LeadsTo h old → (fault ≡ server_faults.Failed → after ≡ before) → (IsOfItem fault → server.StopsWithin old piece fault before after new) → IsOfPiece fault → SaidOn before after
-said_on old new piece before after (server_faults.Pty f) h s again halts of = let x = halts tt in record { said = x.said ++ x.part; appended = x.appended; fit = halts_fit h old new piece before after (server_faults.Pty f) s x }
-said_on old new piece before after server_faults.Memory h s again halts of = let x = halts tt in record { said = x.said ++ x.part; appended = x.appended; fit = halts_fit h old new piece before after server_faults.Memory s x }
-said_on old new piece before after server_faults.Failed h s again halts of = record { said = []; appended = again refl ∙ sym (append-nil before); fit = All-nil Fits }
+pub said_on : (old new : server.End) (piece before after : List ℕ) (fault : ServerFault) (h : server_calls.History) → server.LeadsTo h old
+    → (fault ≡ server_faults.Failed → after ≡ before) → (IsOfItem fault → server.StopsWithin old piece fault before after new) → IsOfPiece fault
+    → SaidOn before after
+said_on old new piece before after (server_faults.Pty f) h s again halts of = let x =
+    halts tt in record { said = x.said ++ x.part; appended = x.appended; fit = halts_fit h old new piece before after (server_faults.Pty f) s x }
+said_on old new piece before after server_faults.Memory h s again halts of = let x =
+    halts tt in record { said = x.said ++ x.part; appended = x.appended; fit = halts_fit h old new piece before after server_faults.Memory s x }
+said_on old new piece before after server_faults.Failed h s again halts of =
+    record { said = []; appended = again refl ∙ sym (append-nil before); fit = All-nil Fits }
 said_on old new piece before after (server_faults.Char f) h s again halts of = absurd of
 said_on old new piece before after server_faults.NotOn h s again halts of = absurd of
 
 -- the server failed, at a piece or before
-pub halts_sound : (old : World) (end : server.End) (piece left later : List ℕ) (fault : ServerFault) → (fault ≡ server_faults.Failed → end ≡ old.server) → (fault ≡ server_faults.Failed → later ≡ old.to_client) → (IsOfItem fault → server.StopsWithin old.server piece fault old.to_client later end) → IsOfPiece fault → end.failed ≡ true → HasPast old → HasPast (record old { server = end; to_server = left; to_client = later })
+pub halts_sound : (old : World) (end : server.End) (piece left later : List ℕ) (fault : ServerFault) → (fault ≡ server_faults.Failed → end ≡ old.server)
+    → (fault ≡ server_faults.Failed → later ≡ old.to_client) → (IsOfItem fault → server.StopsWithin old.server piece fault old.to_client later end)
+    → IsOfPiece fault → end.failed ≡ true → HasPast old → HasPast (record old { server = end; to_server = left; to_client = later })
 halts_sound old end piece left later fault again none halts of failed s =
     let at = stood old.server end piece old.to_client later fault s.history s.server again halts of in
     let more = said_on old.server end piece old.to_client later fault s.history s.server none halts of in
@@ -368,7 +456,9 @@ halts_sound old end piece left later fault again none halts of failed s =
     (λ a b. opposite end.failed _ failed a)
 
 -- the client failed
-pub breaks_sound : (old : World) (end : client.End) (piece left later seen : List ℕ) → old.client.failed ≡ false → client.StopsWithin old.client piece old.to_server later old.shown seen → end.failed ≡ true → HasPast old → HasPast (record old { client = end; to_client = left; to_server = later; shown = seen })
+pub breaks_sound : (old : World) (end : client.End) (piece left later seen : List ℕ) → old.client.failed ≡ false
+    → client.StopsWithin old.client piece old.to_server later old.shown seen → end.failed ≡ true → HasPast old
+    → HasPast (record old { client = end; to_client = left; to_server = later; shown = seen })
 breaks_sound old end piece left later seen runs x failed s =
     let at = s.client_course runs in
     let here = at.1 in
@@ -377,7 +467,8 @@ breaks_sound old end piece left later seen runs x failed s =
     (λ a. let f = s.to_server a in (
       f.0 ++ (x.said ++ x.part),
       said_behind old.server.decoder old.to_server later f.0 (x.said ++ x.part) x.appended
-          (breaks_fit here.history old.client piece old.to_server later old.shown seen (client_courses.stream at.0) (client_calls.items here.history) here.leads here.reads x) f.1,
+          (breaks_fit here.history old.client piece old.to_server later old.shown seen (client_courses.stream at.0)
+          (client_calls.items here.history) here.leads here.reads x) f.1,
     ))
     (λ r. opposite end.failed _ failed r)
     (λ a b. opposite end.failed _ failed b)
@@ -386,7 +477,8 @@ breaks_sound old end piece left later seen runs x failed s =
 -- the client had failed before
 pub again_sound : (old : World) (left : List ℕ) → old.client.failed ≡ true → HasPast old → HasPast (record old { to_client = left })
 again_sound old left failed s =
-    made (record old { to_client = left }) s.history s.server s.server_course s.client_course s.limit s.takes_keys s.to_server (λ r. opposite old.client.failed _ failed r) (λ a b. opposite old.client.failed _ failed b) (λ a b. opposite old.client.failed _ failed b)
+    made (record old { to_client = left }) s.history s.server s.server_course s.client_course s.limit s.takes_keys s.to_server
+    (λ r. opposite old.client.failed _ failed r) (λ a b. opposite old.client.failed _ failed b) (λ a b. opposite old.client.failed _ failed b)
 
 -- A refusal changed nothing, or it was of a delivery.
 pub data Refusal (old : World) (e : Event) (new : World) : Type 0 where

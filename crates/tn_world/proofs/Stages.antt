@@ -6,7 +6,8 @@ use Rattle.std.specs.Prelude.{option_to_list}
 use Rattle.std.proofs.lemmas.List.{map-append}
 use Rattle.tn_codes.specs.declared.codes.Verb.{Verb}
 use Rattle.tn_codes.specs.declared.codes.Verb.TheVariants.{Will, Wont, DoIt, DontIt}
-use Rattle.tn_option.specs.EnginePair.{EnginePair, engine_step, asked_word, ask_here, got_here, got_there, Talk, wishes_echo, server_hears, client_hears, step_of, talk_steps, TalkTo}
+use Rattle.tn_option.specs.EnginePair.{EnginePair, engine_step, asked_word, ask_here, got_here, got_there, Talk, wishes_echo, server_hears, client_hears}
+use Rattle.tn_option.specs.EnginePair.{step_of, talk_steps, TalkTo}
 use Rattle.tn_option.specs.Options.{Options, options_after_word, reply_to, options_after_wish, answer_to, new_options}
 use Rattle.tn_option.specs.QMethod.{cell}
 use Rattle.tn_option.specs.declared.negotiation.Place.{Place}
@@ -150,7 +151,8 @@ same_question p q e = cc
 pub not_done : (q : Question) → done ≡ before q → ⊥
 not_done q e = cc
 
-opens : (q : Question) (b : Bool) (going : List Question) (heard : Progress) (said : List (Verb × ℕ)) → Lead (before q) going heard → said ≡ map asks (left heard) → IsAtStage (record (opening_at q b going heard) { to_there = said })
+opens : (q : Question) (b : Bool) (going : List Question) (heard : Progress) (said : List (Verb × ℕ)) → Lead (before q) going heard
+    → said ≡ map asks (left heard) → IsAtStage (record (opening_at q b going heard) { to_there = said })
 opens q b going heard said lead is =
     inl (record {
       waits = q;
@@ -169,7 +171,8 @@ last_by_queue true = inr (asked_off false, refl)
 last_read : (b : Bool) (heard : Progress) → done ≡ heard → IsAtStage (engine_step got_here (opening_at echo b (echo ∷ []) heard))
 last_read b heard is = subst (λ (p : Progress). IsAtStage (engine_step got_here (opening_at echo b (echo ∷ []) p))) is (last_by_queue b)
 
-reads : (q : Question) (b : Bool) (going : List Question) (heard : Progress) → Lead (next q) going heard → IsAtStage (engine_step got_here (opening_at q b (q ∷ going) heard))
+reads : (q : Question) (b : Bool) (going : List Question) (heard : Progress) → Lead (next q) going heard
+    → IsAtStage (engine_step got_here (opening_at q b (q ∷ going) heard))
 unfolding options_after_word reply_to cell
 reads linemode b going heard lead = opens naws b going heard _ lead (append-nil (map asks (left heard)))
 reads naws b going heard lead = opens ours b going heard _ lead (append-nil (map asks (left heard)))
@@ -178,7 +181,8 @@ reads theirs b going heard lead = opens echo b going heard _ lead (append-nil (m
 reads echo b [] heard lead = last_read b heard lead
 reads echo b (q ∷ going) heard lead = absurd (not_done q lead.0)
 
-server_step : (q : Question) (b : Bool) (going : List Question) (heard : Progress) → Lead (before q) going heard → IsAtStage (engine_step got_here (opening_at q b going heard))
+server_step : (q : Question) (b : Bool) (going : List Question) (heard : Progress) → Lead (before q) going heard
+    → IsAtStage (engine_step got_here (opening_at q b going heard))
 server_step q b [] heard lead = inl (record { waits = q; queued = b; going = []; heard = heard; lead = lead; is = refl })
 server_step q b (p ∷ going) heard lead =
     let same : p ≡ q = sym (same_question q p lead.0) in
@@ -190,7 +194,8 @@ lead_on : (p : Progress) (going : List Question) (q : Question) → Lead p going
 lead_on p [] q lead = (lead, refl)
 lead_on p (r ∷ going) q lead = (lead.0, lead_on (next r) going q lead.1)
 
-granted : (p q : Question) (b : Bool) (going : List Question) → engine_step got_there (opening_at q b going (before p)) ≡ record (opening_at q b going (next p)) { to_here = map grants going ++ grants p ∷ [] }
+granted : (p q : Question) (b : Bool) (going : List Question) → engine_step got_there (opening_at q b going (before p))
+    ≡ record (opening_at q b going (next p)) { to_here = map grants going ++ grants p ∷ [] }
 unfolding options_after_word reply_to cell
 granted linemode q b going = refl
 granted naws q b going = refl
@@ -198,7 +203,8 @@ granted ours q b going = refl
 granted theirs q b going = refl
 granted echo q b going = refl
 
-client_step : (q : Question) (b : Bool) (going : List Question) (heard : Progress) → Lead (before q) going heard → IsAtStage (engine_step got_there (opening_at q b going heard))
+client_step : (q : Question) (b : Bool) (going : List Question) (heard : Progress) → Lead (before q) going heard
+    → IsAtStage (engine_step got_there (opening_at q b going heard))
 client_step q b going done lead = inl (record { waits = q; queued = b; going = going; heard = done; lead = lead; is = refl })
 client_step q b going (before p) lead =
     inl (record {
@@ -239,14 +245,16 @@ silent_at ours b on = wish_silent Yes Yes WantYesEmpty WantYesEmpty b on
 silent_at theirs b on = wish_silent Yes Yes Yes WantYesEmpty b on
 silent_at echo b on = wish_silent Yes Yes Yes Yes b on
 
-pub wish_step : (q : Question) (b on : Bool) (e : EnginePair) → e.here ≡ server_at q b → engine_step (ask_here Us 1 on) e ≡ record e { here = server_at q (not on) }
+pub wish_step : (q : Question) (b on : Bool) (e : EnginePair) → e.here ≡ server_at q b
+    → engine_step (ask_here Us 1 on) e ≡ record e { here = server_at q (not on) }
 wish_step q b on e is =
     ap (λ (o : Options). record e { here = options_after_wish o Us 1 on; to_there = e.to_there ++ option_to_list (asked_word (answer_to o Us 1 on)) }) is
     ∙ ap (λ (o : Options). record e { here = o; to_there = e.to_there ++ option_to_list (asked_word (answer_to (server_at q b) Us 1 on)) }) (queued_at q b on)
     ∙ ap (λ (w : Option (Verb × ℕ)). record e { here = server_at q (not on); to_there = e.to_there ++ option_to_list w }) (silent_at q b on)
     ∙ ap (λ (x : List (Verb × ℕ)). record e { here = server_at q (not on); to_there = x }) (append-nil e.to_there)
 
-opening_steps : (t : Talk) (q : Question) (b : Bool) (going : List Question) (heard : Progress) → Lead (before q) going heard → IsAtStage (engine_step (step_of t) (opening_at q b going heard))
+opening_steps : (t : Talk) (q : Question) (b : Bool) (going : List Question) (heard : Progress) → Lead (before q) going heard
+    → IsAtStage (engine_step (step_of t) (opening_at q b going heard))
 opening_steps server_hears q b going heard lead = server_step q b going heard lead
 opening_steps client_hears q b going heard lead = client_step q b going heard lead
 opening_steps (wishes_echo on) q b going heard lead =

@@ -16,7 +16,8 @@ use Rattle.tn_server.proofs.lemmas.Stopping.{has_read, many_wait}
 use Rattle.tn_world.specs.Past.{HasPast}
 use Rattle.tn_world.specs.Worlds.{World, ServerRefusesDelivery, Refuses, StopsWithin, ShowsCause}
 use Rattle.tn_world.specs.declared.events.Event.{Event}
-use Rattle.tn_world.specs.declared.events.Event.TheVariants.{Key, Send, ToServer, ToClient, Write, Pull, Take, Wish, Resize, SetChar, Propose, Echo, Mask, ServerStops, ClientStops}
+use Rattle.tn_world.specs.declared.events.Event.TheVariants.{Key, Send, ToServer, ToClient, Write, Pull, Take, Wish, Resize, SetChar, Propose, Echo, Mask}
+use Rattle.tn_world.specs.declared.events.Event.TheVariants.{ServerStops, ClientStops}
 use Rattle.tn_world.specs.declared.faults.Cause.{Cause}
 use Rattle.tn_world.specs.declared.faults.Cause.TheVariants as cause
 use Rattle.tn_world.proofs.Showing.{runs_sound}
@@ -70,10 +71,12 @@ far_at old new (Pull n) s r = absurd (never_none r.0.1.cause)
 far_at old new Take s r = absurd (never_none r.0.cause)
 far_at old new (Wish editing) s r = absurd (never_unless old.server.failed None never_none r.0.1.cause)
 far_at old new (Resize width height) s r = absurd r.0
-far_at old new (SetChar func value) s r = absurd (never_unless old.server.failed (option_map Char (char_fault old.server.table func value)) (never_char (char_fault old.server.table func value)) r.0.1.cause)
+far_at old new (SetChar func value) s r = absurd (never_unless old.server.failed (option_map Char (char_fault old.server.table func value))
+    (never_char (char_fault old.server.table func value)) r.0.1.cause)
 far_at old new (Propose func value) s r = absurd r.0
 far_at old new (Echo on) s r = absurd (never_unless old.server.failed None never_none r.0.1.cause)
-far_at old new (Mask mask) s r = absurd (never_unless old.server.failed (if linemode old.server.terms.options then None else Some NotOn) (never_mask (linemode old.server.terms.options)) r.0.1.cause)
+far_at old new (Mask mask) s r = absurd (never_unless old.server.failed (if linemode old.server.terms.options then None else Some NotOn)
+    (never_mask (linemode old.server.terms.options)) r.0.1.cause)
 far_at old new ServerStops s r = absurd r.0
 far_at old new ClientStops s r = absurd r.0
 
@@ -113,10 +116,12 @@ shut_at old new (Pull n) s r = shut_none r.0.1.cause
 shut_at old new Take s r = shut_none r.0.cause
 shut_at old new (Wish editing) s r = shut_unless old.server.failed None shut_none r.0.1.cause
 shut_at old new (Resize width height) s r = r.0
-shut_at old new (SetChar func value) s r = shut_unless old.server.failed (option_map Char (char_fault old.server.table func value)) (shut_char (char_fault old.server.table func value)) r.0.1.cause
+shut_at old new (SetChar func value) s r = shut_unless old.server.failed (option_map Char (char_fault old.server.table func value))
+    (shut_char (char_fault old.server.table func value)) r.0.1.cause
 shut_at old new (Propose func value) s r = r.0
 shut_at old new (Echo on) s r = shut_unless old.server.failed None shut_none r.0.1.cause
-shut_at old new (Mask mask) s r = shut_unless old.server.failed (if linemode old.server.terms.options then None else Some NotOn) (shut_mask (linemode old.server.terms.options)) r.0.1.cause
+shut_at old new (Mask mask) s r = shut_unless old.server.failed (if linemode old.server.terms.options then None else Some NotOn)
+    (shut_mask (linemode old.server.terms.options)) r.0.1.cause
 shut_at old new ServerStops s r = r.0
 shut_at old new ClientStops s r = r.0
 

@@ -1,5 +1,6 @@
 -- What a key with EDIT does to the half line at both ends.
-use Rattle.std.proofs.Common.{◌≡◌, ◌≤◌, ◌<◌, ℕ, ◌+◌, ◌-◌, ◌==◌, nat_lt, Bool, true, false, Option, Some, None, List, [], ◌∷◌, ◌++◌, length, take, refl, sym, ap, ◌∙◌, if◌then◌else◌, arith, append-nil, append_assoc, length-append, length-take}
+use Rattle.std.proofs.Common.{◌≡◌, ◌≤◌, ◌<◌, ℕ, ◌+◌, ◌-◌, ◌==◌, nat_lt, Bool, true, false, Option, Some, None, List, [], ◌∷◌, ◌++◌, length, take, refl, sym, ap}
+use Rattle.std.proofs.Common.{◌∙◌, if◌then◌else◌, arith, append-nil, append_assoc, length-append, length-take}
 use Rattle.std.proofs.Math.Seq.{take-append-add}
 use Rattle.tn_discipline.specs.declared.reads.Entry.{Entry}
 use Rattle.tn_discipline.specs.Canon.{Canon}
@@ -40,12 +41,15 @@ by_signal chars b false sig h = h
 abbrev as_it_is : ℕ → Bool → Bool → Bool → Role
 as_it_is b t u x = if t then role.Nl else (if u then role.Eol b else (if x then role.Eol2 b else role.Ordinary b))
 
-as_tested : (chars : Characters) (b : ℕ) (t u x : Bool) → (b == 10) ≡ t → is_set_to chars.eol b ≡ u → is_set_to chars.eol2 b ≡ x → literal_role chars b ≡ as_it_is b t u x
+as_tested : (chars : Characters) (b : ℕ) (t u x : Bool) → (b == 10) ≡ t → is_set_to chars.eol b ≡ u → is_set_to chars.eol2 b ≡ x
+    → literal_role chars b ≡ as_it_is b t u x
 as_tested chars b t u x p q r =
     ap (λ (t : Bool). as_it_is b t (is_set_to chars.eol b) (is_set_to chars.eol2 b)) p
     ∙ ap (λ (u : Bool). as_it_is b t u (is_set_to chars.eol2 b)) q ∙ ap (as_it_is b t u) r
 
-by_tests : (chars : Characters) (b : ℕ) (isig : Bool) (sig : Option Sig) (t u x v w k : Bool) → literal_role chars b ≡ as_it_is b t u x → IsLiteral chars (if t then role.Nl else (if u then role.Eol b else (if x then role.Eol2 b else (if v then role.Eof else (if w then role.Erase else (if k then role.Kill else role_by_signal isig sig b))))))
+by_tests : (chars : Characters) (b : ℕ) (isig : Bool) (sig : Option Sig) (t u x v w k : Bool) → literal_role chars b ≡ as_it_is b t u x
+    → IsLiteral chars (if t then role.Nl else (if u then role.Eol b
+    else (if x then role.Eol2 b else (if v then role.Eof else (if w then role.Erase else (if k then role.Kill else role_by_signal isig sig b))))))
 by_tests chars b isig sig true u x v w k is = tt
 by_tests chars b isig sig false true x v w k is = is
 by_tests chars b isig sig false false true v w k is = is
@@ -57,7 +61,8 @@ by_tests chars b isig sig false false false false false false is = by_signal cha
 by_mapped : (s : Settings) (mapped : Option ℕ) → IsLiteral s.chars (role_or_ignored s mapped)
 by_mapped s None = tt
 by_mapped s (Some b) =
-    by_tests s.chars b s.flags.isig (signal_of s.chars b) (b == 10) (is_set_to s.chars.eol b) (is_set_to s.chars.eol2 b) (is_set_to s.chars.eof b) (is_set_to s.chars.erase b) (is_set_to s.chars.kill b)
+    by_tests s.chars b s.flags.isig (signal_of s.chars b) (b == 10) (is_set_to s.chars.eol b) (is_set_to s.chars.eol2 b) (is_set_to s.chars.eof b)
+    (is_set_to s.chars.erase b) (is_set_to s.chars.kill b)
     (as_tested s.chars b (b == 10) (is_set_to s.chars.eol b) (is_set_to s.chars.eol2 b) refl refl refl)
 
 pub literal_key : (s : Settings) (key : ℕ) → IsLiteral s.chars (role_of_key s key)
@@ -81,7 +86,8 @@ empty_of : (xs : List ℕ) → length xs ≡ 0 → xs ≡ []
 empty_of [] h = refl
 empty_of (x ∷ xs) h = absurd (omega arith)
 
-full : (limit : ℕ) (h held : List ℕ) (ahead : ℕ) (t : Bool) → length h ≡ ahead → (ahead + length held == max_counted limit) ≡ t → (length (h ++ held) == max_counted limit) ≡ t
+full : (limit : ℕ) (h held : List ℕ) (ahead : ℕ) (t : Bool) → length h ≡ ahead → (ahead + length held == max_counted limit) ≡ t
+    → (length (h ++ held) == max_counted limit) ≡ t
 full limit h held ahead t count test = ap (λ n. n == max_counted limit) (length-append h held ∙ ap (λ n. n + length held) count) ∙ test
 
 below : (most n : ℕ) → n ≤ most → (n == most) ≡ false → n < most
@@ -90,7 +96,9 @@ below most n h e = grind arith
 room : (most : ℕ) (h held : List ℕ) (b : ℕ) → length (h ++ held) ≤ most → (length (h ++ held) == most) ≡ false → length h + length (held ++ b ∷ []) ≤ most
 room most h held b fits test = omega (arith, below most (length (h ++ held)) fits test, length-append h held, length-append held (b ∷ []))
 
-ordinary-follows : (s : Canon) (l : Bool) (h : List ℕ) (w : List Entry) (c : Client) (b : ℕ) (t f : Bool) → (c.ahead + length c.held == max_counted s.limit) ≡ t → literal_role s.settings.chars b ≡ role.Ordinary b → AreOrdinary s.settings.chars c.held → length h ≡ c.ahead → length (h ++ c.held) ≤ max_counted s.limit → Follows s l h w c.held (role.Ordinary b) (ordinary_key t f c b)
+ordinary-follows : (s : Canon) (l : Bool) (h : List ℕ) (w : List Entry) (c : Client) (b : ℕ) (t f : Bool) → (c.ahead + length c.held == max_counted s.limit) ≡ t
+    → literal_role s.settings.chars b ≡ role.Ordinary b → AreOrdinary s.settings.chars c.held → length h ≡ c.ahead → length (h ++ c.held) ≤ max_counted s.limit
+    → Follows s l h w c.held (role.Ordinary b) (ordinary_key t f c b)
 ordinary-follows s l h w c b true f test literal plain count fits =
     let is_full = full s.limit h c.held c.ahead true count test in
     record {
@@ -108,7 +116,8 @@ ordinary-follows s l h w c b false true test literal plain count fits =
       reads =
           read-bytes s l h w (c.held ++ b ∷ []) more (room (max_counted s.limit) h c.held b fits is_full)
           ∙ ap (λ x. server_at l true (h ++ (c.held ++ b ∷ [])) x) (sym (ap (λ (t : Bool). w ++ (if t then [] else [])) is_full ∙ append-nil w));
-      line = ap (λ (t : Bool). if t then h ++ c.held else (h ++ c.held) ++ b ∷ []) is_full ∙ append_assoc h c.held (b ∷ []) ∙ sym (append-nil (h ++ (c.held ++ b ∷ [])));
+      line = ap (λ (t : Bool). if t then h ++ c.held else (h ++ c.held) ++ b ∷ []) is_full ∙ append_assoc h c.held (b ∷ [])
+          ∙ sym (append-nil (h ++ (c.held ++ b ∷ [])));
       ahead = length-append h (c.held ++ b ∷ []) ∙ ap (λ n. n + length (c.held ++ b ∷ [])) count;
       plain = tt;
     }
@@ -133,7 +142,8 @@ some_of n h = grind arith
 none_of : (n : ℕ) → nat_lt 0 n ≡ false → n ≡ 0
 none_of n h = grind arith
 
-erase-follows : (s : Canon) (l : Bool) (h : List ℕ) (w : List Entry) (c : Client) (t f : Bool) → nat_lt 0 (length c.held) ≡ t → nat_lt 0 c.ahead ≡ f → AreOrdinary s.settings.chars c.held → length h ≡ c.ahead → Follows s l h w c.held role.Erase (erase_key t f c)
+erase-follows : (s : Canon) (l : Bool) (h : List ℕ) (w : List Entry) (c : Client) (t f : Bool) → nat_lt 0 (length c.held) ≡ t → nat_lt 0 c.ahead ≡ f
+    → AreOrdinary s.settings.chars c.held → length h ≡ c.ahead → Follows s l h w c.held role.Erase (erase_key t f c)
 erase-follows s l h w c true f some further plain count =
     record {
       half = h;
@@ -163,7 +173,8 @@ erase-follows s l h w c false false none nowhere plain count =
       plain = plain;
     }
 
-kill-follows : (s : Canon) (l : Bool) (h : List ℕ) (w : List Entry) (c : Client) (t : Bool) → nat_lt 0 c.ahead ≡ t → length h ≡ c.ahead → Follows s l h w c.held role.Kill (kill_key t)
+kill-follows : (s : Canon) (l : Bool) (h : List ℕ) (w : List Entry) (c : Client) (t : Bool) → nat_lt 0 c.ahead ≡ t → length h ≡ c.ahead
+    → Follows s l h w c.held role.Kill (kill_key t)
 kill-follows s l h w c true some count = record { half = []; reads = refl; line = refl; ahead = refl; plain = tt }
 kill-follows s l h w c false nowhere count =
     record {
@@ -174,7 +185,8 @@ kill-follows s l h w c false nowhere count =
       plain = tt;
     }
 
-pub key-follows : (s : Canon) (l : Bool) (h : List ℕ) (w : List Entry) (c : Client) (r : Role) → IsLiteral s.settings.chars r → AreOrdinary s.settings.chars c.held → length h ≡ c.ahead → length (h ++ c.held) ≤ max_counted s.limit → Follows s l h w c.held r (edit_key s.limit c r)
+pub key-follows : (s : Canon) (l : Bool) (h : List ℕ) (w : List Entry) (c : Client) (r : Role) → IsLiteral s.settings.chars r
+    → AreOrdinary s.settings.chars c.held → length h ≡ c.ahead → length (h ++ c.held) ≤ max_counted s.limit → Follows s l h w c.held r (edit_key s.limit c r)
 key-follows s l h w c (role.Ordinary b) literal plain count fits =
     ordinary-follows s l h w c b (c.ahead + length c.held == max_counted s.limit) (c.forward b) refl literal plain count fits
 key-follows s l h w c role.Nl literal plain count fits =
@@ -200,9 +212,21 @@ key-follows s l h w c (role.Eol2 b) literal plain count fits =
       plain = tt;
     }
 key-follows s l h w c role.Eof literal plain count fits =
-    record { half = []; reads = read-bytes_then s l h w c.held (command Eof) plain (omega (arith, length-append h c.held)); line = refl; ahead = refl; plain = tt }
+    record {
+      half = [];
+      reads = read-bytes_then s l h w c.held (command Eof) plain (omega (arith, length-append h c.held));
+      line = refl;
+      ahead = refl;
+      plain = tt;
+    }
 key-follows s l h w c (role.Signal sig) literal plain count fits =
-    record { half = h; reads = ap (λ r. server_at l true (half_next s.limit h r) (w ++ gain_next s.limit h r)) (command-role sig); line = refl; ahead = count; plain = plain }
+    record {
+      half = h;
+      reads = ap (λ r. server_at l true (half_next s.limit h r) (w ++ gain_next s.limit h r)) (command-role sig);
+      line = refl;
+      ahead = count;
+      plain = plain;
+    }
 key-follows s l h w c role.Erase literal plain count fits =
     erase-follows s l h w c (nat_lt 0 (length c.held)) (nat_lt 0 c.ahead) refl refl plain count
 key-follows s l h w c role.Kill literal plain count fits = kill-follows s l h w c (nat_lt 0 c.ahead) refl count

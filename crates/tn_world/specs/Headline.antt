@@ -12,7 +12,8 @@ use Rattle.tn_option.specs.Options.{Options, state_of}
 use Rattle.tn_option.specs.declared.q_method.Side.{Side}
 use Rattle.tn_option.specs.declared.q_method.Side.TheVariants.{Us, Them}
 use Rattle.tn_option.specs.declared.q_method.QState.{QState}
-use Rattle.tn_option.specs.declared.q_method.QState.TheVariants.{No, Yes, WantNoEmpty, WantNoOpposite, WantYesEmpty, WantYesOpposite}
+use Rattle.tn_option.specs.declared.q_method.QState.TheVariants.{No, Yes, WantNoEmpty, WantNoOpposite}
+use Rattle.tn_option.specs.declared.q_method.QState.TheVariants.{WantYesEmpty, WantYesOpposite}
 use Rattle.tn_streams.specs.Prefixes.{IsPrefixOf}
 use Rattle.tn_world.specs.Commands.{IsTypeable}
 use Rattle.tn_world.specs.Opened.{IsOpened}
@@ -113,7 +114,8 @@ IsQuietEvent w e = Unit {0}
 
 -- the event is done, and quiet, or it is refused
 abbrev pub RunsQuietly : World → Event → World → Type 0
-RunsQuietly old e new = (IsQuietEvent old e × RunsEvent old e new) ⊎ ((cause : Cause) × Refuses old e cause new)
+RunsQuietly old e new = (IsQuietEvent old e × RunsEvent old e new)
+    ⊎ ((cause : Cause) × Refuses old e cause new)
 
 -- these events, each quiet where it is done, lead from one world to the other
 abbrev pub PassesQuietly : World → List Event → World → Type 0

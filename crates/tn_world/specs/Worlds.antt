@@ -1,5 +1,6 @@
 -- Both ends and the two streams between them, and what an event does to them.
-use Rattle.std.specs.Prelude.{◌≡◌, ◌≢◌, ℕ, ◌<◌, Bool, true, false, min, Option, None, List, [], ◌∷◌, ◌++◌, length, take, drop, MatchOption, option_to_list}
+use Rattle.std.specs.Prelude.{◌≡◌, ◌≢◌, ℕ, ◌<◌, Bool, true, false, min, Option, None, List, [], ◌∷◌, ◌++◌}
+use Rattle.std.specs.Prelude.{length, take, drop, MatchOption, option_to_list}
 use Rattle.tn_discipline.specs.Canon.{Canon}
 use Rattle.tn_discipline.specs.declared.reads.Entry.{Entry}
 use Rattle.tn_pty.specs.Terminal.{max_waiting}
@@ -19,7 +20,9 @@ use Rattle.tn_client.specs.declared.faults.ClientFault.{ClientFault}
 use Rattle.tn_client.specs.declared.faults.ClientFault.TheVariants as client_faults
 use Rattle.tn_world.specs.Commands.{key_for}
 use Rattle.tn_world.specs.declared.events.Event.{Event}
-use Rattle.tn_world.specs.declared.events.Event.TheVariants.{Key, Send, ToServer, ToClient, Write, Pull, Take, Wish, Resize, SetChar, Propose, Echo, Mask, ServerStops, ClientStops}
+use Rattle.tn_world.specs.declared.events.Event.TheVariants.{Key, Send, ToServer, ToClient, Write, Pull, Take}
+use Rattle.tn_world.specs.declared.events.Event.TheVariants.{Wish, Resize, SetChar, Propose, Echo, Mask}
+use Rattle.tn_world.specs.declared.events.Event.TheVariants.{ServerStops, ClientStops}
 use Rattle.tn_world.specs.declared.faults.Cause.{Cause}
 use Rattle.tn_world.specs.declared.faults.Cause.TheVariants as cause
 
@@ -243,8 +246,8 @@ ClientRefusesEvent w (Propose func value) fault =
     (w.client_stopped ≡ false) × ClientRefusesCall w.client (client_calls.proposed func value) fault
 ClientRefusesEvent w e fault = ⊥
 
--- the world needs memory of its own: for a typed key and one that is counted, for the rest of a flight that is cut, for an entry that
--- waits to be taken
+-- the world needs memory of its own: for a typed key and one that is counted, for the rest of a flight that
+-- is cut, for an entry that waits to be taken
 abbrev pub WantsMemory : World → Event → Type 0
 WantsMemory w (Key key) = w.client_stopped ≡ false
 WantsMemory w (Send command) = (w.client_stopped ≡ false) × (key_sent w command ≢ None)

@@ -5,7 +5,9 @@
 ghost use Rattle.std.specs.Prelude.{◌≡◌, ℕ, false, List, []};
 ghost use Rattle.tn_discipline.specs.Canon.{Canon};
 ghost use Rattle.tn_world.specs.Past.{HasPast};
-ghost use Rattle.tn_world.specs.Headline.{local_entries, local_half, IsBeginning, IsQuiet, AreQuietEvents, PassesQuietly, Follows, NoneFailed, NothingInFlight, entries_made, half_made};
+ghost use Rattle.tn_world.specs.Headline.{local_entries, local_half, IsBeginning, IsQuiet, AreQuietEvents};
+ghost use Rattle.tn_world.specs.Headline.{PassesQuietly, Follows, NoneFailed, NothingInFlight, entries_made};
+ghost use Rattle.tn_world.specs.Headline.{half_made};
 ghost use Rattle.tn_streams.specs.Prefixes.{IsPrefixOf};
 ghost use Rattle.tn_world.specs.Output.{IsOutput, OutputGrows};
 ghost use Rattle.tn_world.specs.Settling.{IsRound, HasSettled};

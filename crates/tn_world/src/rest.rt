@@ -2,7 +2,8 @@
 
 ghost use Rattle.std.specs.Prelude.{◌≡◌, ◌↔◌, true, []};
 ghost use Rattle.std.specs.List.{list_all};
-ghost use Rattle.tn_world.specs.Headline.{IsSettled, IsSteady, is_in_order, AgreeOnLinemode, AgreeOnMask, IsIdle, IsAgreed, IsUncounted, IsEmpty};
+ghost use Rattle.tn_world.specs.Headline.{IsSettled, IsSteady, is_in_order, AgreeOnLinemode, AgreeOnMask};
+ghost use Rattle.tn_world.specs.Headline.{IsIdle, IsAgreed, IsUncounted, IsEmpty};
 
 use crate::world::World;
 use tn_option::{ECHO, LINEMODE, NAWS, QState, SUPPRESS_GO_AHEAD, Side};

@@ -19,9 +19,9 @@ use tn_discipline::Text;
 use tn_server::Editing;
 
 impl World {
-    /// Does these events, one after another, up to the first that is refused: by `Server` or `Client` as its end
-    /// refuses the call, or the delivery, whose bytes have left the flight; by `Memory` where the world itself
-    /// grows. Another event that is refused changes nothing.
+    /// Does these events, one after another, up to the first that is refused: by `Server` or `Client` as its
+    /// end refuses the call, or the delivery, whose bytes have left the flight; by `Memory` where the world
+    /// itself grows. Another event that is refused changes nothing.
     pub fn run(&mut self, events: &[Event]) -> Result<(), WorldFault>
         ensures runs { OnOk result (Runs self.old events.now self.new) }
         ensures ends { IfErr result (λ fault. StopsWithin self.old events.now fault.at fault.cause self.new) }

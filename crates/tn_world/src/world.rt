@@ -1,6 +1,7 @@
 //! Both ends and the two streams between them.
 
-ghost use Rattle.std.specs.Prelude.{◌≡◌, ◌↔◌, true, false, [], ◌++◌, IfOk, IfErr, OnOk, OnErr, option_copied, slice_get};
+ghost use Rattle.std.specs.Prelude.{◌≡◌, ◌↔◌, true, false, [], ◌++◌, IfOk, IfErr, OnOk, OnErr, option_copied};
+ghost use Rattle.std.specs.Prelude.{slice_get};
 ghost use Rattle.tn_discipline.specs.Characters.{standard_characters};
 ghost use Rattle.tn_world.specs.Headline.{IsSettled, Follows};
 ghost use Rattle.tn_world.specs.Opened.{IsOpened, IsOpenFault, with_new_lists};

@@ -42,11 +42,13 @@ one_history (fed c piece) h k a b =
 one_history (called c e) h k a b = a.3 ∙ ap (λ (x : History). next x e) (one_history c a.0 b.0 a.1 b.1) ∙ sym b.3
 
 -- one piece more
-leads_fed : (c : Course) (old new : End) (piece before after seen now : List ℕ) → (a : CourseLeadsTo c old) → (f : Feeds old piece before after seen now new) → ReadsAs (fed c piece) (gets a.history f.items)
+leads_fed : (c : Course) (old new : End) (piece before after seen now : List ℕ) → (a : CourseLeadsTo c old) → (f : Feeds old piece before after seen now new)
+    → ReadsAs (fed c piece) (gets a.history f.items)
 leads_fed c old new piece before after seen now a f =
     let read = f.reads (stream c) (items a.history) a.reads in (a.history, f.items, a.reads_as, (read.rest, read.reading), refl)
 
-pub fed_at : (c : Course) (old new : End) (piece before after seen now : List ℕ) → CourseLeadsTo c old → Feeds old piece before after seen now new → CourseLeadsTo (fed c piece) new
+pub fed_at : (c : Course) (old new : End) (piece before after seen now : List ℕ) → CourseLeadsTo c old → Feeds old piece before after seen now new
+    → CourseLeadsTo (fed c piece) new
 fed_at c old new piece before after seen now a f =
     let read = f.reads (stream c) (items a.history) a.reads in
     record {
@@ -56,20 +58,23 @@ fed_at c old new piece before after seen now a f =
       reads = subst (λ (xs : List Item). nvt.LeadsTo (stream c ++ piece) xs new.decoder) (sym (items-gets a.history f.items)) read;
     }
 
-pub fed_said : (c : Course) (old new : End) (piece before after seen now : List ℕ) (h k : History) → CourseLeadsTo c old → (f : Feeds old piece before after seen now new) → ReadsAs c h → ReadsAs (fed c piece) k → items_said k ≡ items_said h ++ f.said
+pub fed_said : (c : Course) (old new : End) (piece before after seen now : List ℕ) (h k : History) → CourseLeadsTo c old
+    → (f : Feeds old piece before after seen now new) → ReadsAs c h → ReadsAs (fed c piece) k → items_said k ≡ items_said h ++ f.said
 fed_said c old new piece before after seen now h k a f l m =
     let there = leads_fed c old new piece before after seen now a f in
     ap items_said (one_history (fed c piece) k (gets a.history f.items) m there) ∙ f.sends a.history a.leads
     ∙ ap (λ (x : History). items_said x ++ f.said) (one_history c a.history h a.reads_as l)
 
-pub fed_shown : (c : Course) (old new : End) (piece before after seen now : List ℕ) (h k : History) → CourseLeadsTo c old → (f : Feeds old piece before after seen now new) → ReadsAs c h → ReadsAs (fed c piece) k → text_shown k ≡ text_shown h ++ f.text
+pub fed_shown : (c : Course) (old new : End) (piece before after seen now : List ℕ) (h k : History) → CourseLeadsTo c old
+    → (f : Feeds old piece before after seen now new) → ReadsAs c h → ReadsAs (fed c piece) k → text_shown k ≡ text_shown h ++ f.text
 fed_shown c old new piece before after seen now h k a f l m =
     let there = leads_fed c old new piece before after seen now a f in
     ap text_shown (one_history (fed c piece) k (gets a.history f.items) m there) ∙ f.shows a.history a.leads
     ∙ ap (λ (x : History). text_shown x ++ f.text) (one_history c a.history h a.reads_as l)
 
 -- one call more
-pub called_at : (c : Course) (old new : End) (e : Event) → CourseLeadsTo c old → IsCall e → Advances old e new → ReadsNothing old new → CourseLeadsTo (called c e) new
+pub called_at : (c : Course) (old new : End) (e : Event) → CourseLeadsTo c old → IsCall e → Advances old e new → ReadsNothing old new
+    → CourseLeadsTo (called c e) new
 called_at c old new e a call goes keeps = record {
   history = next a.history e;
   reads_as = (a.history, a.reads_as, call, refl);
@@ -95,7 +100,8 @@ joined c p q h l =
     )
 
 -- and one is two, where its front has a reading
-pub parted : (c : Course) (p q : List ℕ) (h : History) → (read : List Item) × (rest : List ℕ) × Reading (stream c ++ p) read rest → ReadsAs (fed c (p ++ q)) h → ReadsAs (fed (fed c p) q) h
+pub parted : (c : Course) (p q : List ℕ) (h : History) → (read : List Item) × (rest : List ℕ) × Reading (stream c ++ p) read rest → ReadsAs (fed c (p ++ q)) h
+    → ReadsAs (fed (fed c p) q) h
 parted c p q h r (old, all, leads, reads, is) =
     let t = part_in_two (stream c) p q (items old) all (leads-read c old leads) r reads in (
       gets old t.first,
@@ -122,7 +128,8 @@ never_refused c old before after seen now a b = go b.front b.back b.whole b.read
   where
     go : (front back : List ℕ) → [] ≡ front ++ back
         → ((bytes : List ℕ) (had : List Item) → nvt.LeadsTo bytes had old.decoder → nvt.LeadsTo (bytes ++ front) (had ++ (b.done ++ b.left)) b.here)
-        → ((h : History) (bytes : List ℕ) (had : List Item) → LeadsTo h old → nvt.LeadsTo bytes had old.decoder → IsStopCause (gets h b.done) b.left b.part b.here back) → ⊥
+        → ((h : History) (bytes : List ℕ) (had : List Item) → LeadsTo h old → nvt.LeadsTo bytes had old.decoder
+        → IsStopCause (gets h b.done) b.left b.part b.here back) → ⊥
     go [] [] e reads why =
         let had = items a.history in
         let then : nvt.LeadsTo (stream c) (had ++ (b.done ++ b.left)) b.here =

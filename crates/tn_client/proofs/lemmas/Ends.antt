@@ -13,7 +13,8 @@ drop-front (b ∷ bs) held = drop-front bs held
 pub held_is : (h : History) (end : End) → LeadsTo h end → end.line.held ≡ held_bytes h
 held_is h end s =
     let whole : half_line h ≡ s.line.sent ++ end.line.held = ap (λ (n : ℕ). half_of n (edited_roles h)) (sym s.limit) ∙ s.line.bytes in
-    sym (ap (drop (ahead h)) whole ∙ ap (λ (n : ℕ). drop n (s.line.sent ++ end.line.held)) (sym (s.line.count ∙ s.ahead)) ∙ drop-front s.line.sent end.line.held)
+    sym (ap (drop (ahead h)) whole ∙ ap (λ (n : ℕ). drop n (s.line.sent ++ end.line.held)) (sym (s.line.count ∙ s.ahead))
+    ∙ drop-front s.line.sent end.line.held)
 
 pub line_is : (h : History) (end : End) → LeadsTo h end → end.line ≡ line h
 line_is h end s =

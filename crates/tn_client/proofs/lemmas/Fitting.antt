@@ -21,7 +21,8 @@ use Rattle.tn_option.specs.Options.{Options, reply_to}
 use Rattle.tn_client.specs.Events.{History, Event, typed, got, resized, proposed, sent, begun, next}
 use Rattle.tn_client.specs.Terms.{options, mode, forward, chars, size, linemode, tells_size, options_after, payload_at, mode_at}
 use Rattle.tn_client.specs.Lines.{role_at, sends_ahead, line}
-use Rattle.tn_client.specs.Replies.{byte_items, command_of, command_items, raw_key_items, edited_key_items, sent_ahead_items, key_items, size_items, new_size_items, payload_answers, answer_items, end_of_edit_items, is_same_size, command_sent, replies, items_said}
+use Rattle.tn_client.specs.Replies.{byte_items, command_of, command_items, raw_key_items, edited_key_items, sent_ahead_items, key_items, size_items}
+use Rattle.tn_client.specs.Replies.{new_size_items, payload_answers, answer_items, end_of_edit_items, is_same_size, command_sent, replies, items_said}
 use Rattle.tn_wire.specs.Words.{word_items}
 use Rattle.tn_linemode.proofs.lemmas.Answering.{length-answers_along}
 use Rattle.tn_wire.proofs.lemmas.Fitting.{Fit, none, one, both, unless, word-fits, mode-fits, list-fits}
@@ -79,7 +80,8 @@ payload-fits m c (Some (payload.ForwardOn mask)) h = one (Sub 34 (parameters_of 
 payload-fits m c (Some payload.ForwardOff) h = one (Sub 34 (parameters_of payload.ForwardNo)) (omega arith)
 payload-fits m c (Some payload.ForwardYes) h = none
 payload-fits m c (Some payload.ForwardNo) h = none
-payload-fits m c (Some (payload.Slc triples)) h = list-fits (client_answers c triples) (omega (arith, length-answers_along client_next client_answer c triples, h))
+payload-fits m c (Some (payload.Slc triples)) h = list-fits (client_answers c triples)
+    (omega (arith, length-answers_along client_next client_answer c triples, h))
 
 answer-fits : (o : Options) (m : ℕ) (c : Characters) (z : ℕ × ℕ) (item : Item) → Fit (answer_items o m c z item)
 answer-fits o m c z (Byte b) = none
@@ -99,7 +101,8 @@ ending-fits false after bs = none
 pub replies-fit : (h : History) (e : Event) → All Fits (replies h e)
 replies-fit h (typed key) = key-fits (edits (mode h)) (forward h) (role_at h key) (line h) key
 replies-fit h (got item) =
-    both (end_of_edit_items (edits (mode h)) (edits (mode_at (options h) (mode h) item)) (line h).held) (answer_items (options h) (mode h) (chars h) (size h) item)
+    both (end_of_edit_items (edits (mode h)) (edits (mode_at (options h) (mode h) item)) (line h).held)
+    (answer_items (options h) (mode h) (chars h) (size h) item)
     (ending-fits (edits (mode h)) (edits (mode_at (options h) (mode h) item)) (line h).held) (answer-fits (options h) (mode h) (chars h) (size h) item)
 replies-fit h (resized width height) = unless (tells_size (options h) && not (is_same_size (size h) (width, height))) (size_items (width, height)) (size-fits (width, height))
 replies-fit h (proposed func value) = list-fits (triple_of func value ∷ []) (omega arith)

@@ -1,5 +1,6 @@
 -- What holds of every history.
-use Rattle.std.proofs.Common.{◌≡◌, ◌<◌, ◌≤◌, ℕ, min, ◌==◌, Bool, true, false, not, ◌&&◌, Option, Some, None, List, [], ◌∷◌, ◌++◌, length, take, drop, refl, sym, ap, ◌∙◌, if◌then◌else◌, append-nil, append_assoc, arith}
+use Rattle.std.proofs.Common.{◌≡◌, ◌<◌, ◌≤◌, ℕ, min, ◌==◌, Bool, true, false, not, ◌&&◌, Option, Some, None, List, [], ◌∷◌, ◌++◌, length, take, drop, refl, sym}
+use Rattle.std.proofs.Common.{ap, ◌∙◌, if◌then◌else◌, append-nil, append_assoc, arith}
 use Rattle.std.proofs.lemmas.List.{take-append-drop}
 use Rattle.std.proofs.lemmas.Nat.{and_mask}
 use Rattle.tn_codes.specs.declared.masks.Mask.{Mask}
@@ -16,7 +17,8 @@ use Rattle.tn_option.specs.Options.{Options, options_after_word}
 use Rattle.tn_client.specs.Events.{History, begun, next, typed, got, resized, proposed, sent, items, keys, gets}
 use Rattle.tn_client.specs.Terms.{options, mode, forward, chars, linemode, payload_at, changes, mode_by, mode_at, forward_by}
 use Rattle.tn_wire.specs.Words.{payload_under, differ}
-use Rattle.tn_client.specs.Lines.{settings_by, role_at, role_under, isig_told, roles_under, line_limit, edited_roles, half_line, is_sent_ahead, lengths_with, lengths_kept, lengths_since_sent, least, ahead, held_bytes, count_under, line}
+use Rattle.tn_client.specs.Lines.{settings_by, role_at, role_under, isig_told, roles_under, line_limit, edited_roles, half_line, is_sent_ahead, lengths_with}
+use Rattle.tn_client.specs.Lines.{lengths_kept, lengths_since_sent, least, ahead, held_bytes, count_under, line}
 use Rattle.tn_client.specs.Replies.{replies, items_said}
 use Rattle.tn_client.specs.Screen.{text_shown, shows}
 
@@ -70,7 +72,8 @@ unedited-ahead h e = ap least (unsent h e)
 
 -- THE ROLES OF A HALF LINE, whichever end edits it
 -- with EDIT it is told by which ISIG the keys were typed before
-told_by_test : (a b : Bool) (edit after : Bool) (mask : ℕ) → edit ≡ false → after ≡ true → (if not edit && after then traps mask else a) ≡ (if not edit && after then traps mask else b)
+told_by_test : (a b : Bool) (edit after : Bool) (mask : ℕ) → edit ≡ false → after ≡ true
+    → (if not edit && after then traps mask else a) ≡ (if not edit && after then traps mask else b)
 told_by_test a b true after mask e f = cc
 told_by_test a b false true mask e f = refl
 told_by_test a b false false mask e f = cc
@@ -96,12 +99,14 @@ same_roles a b (next h (typed key)) e =
     ∙ ap (λ (r : Role). roles_under b h ++ roles_from r) (role_same a h key e ∙ sym (role_same b h key e))
 same_roles a b (next h (got item)) e = by_test (edits (mode h)) refl (λ f. same_roles a b h f)
   where
-    by_test : (edit : Bool) → edits (mode h) ≡ edit → (edits (mode h) ≡ true → roles_under a h ≡ roles_under b h) → roles_under a (next h (got item)) ≡ roles_under b (next h (got item))
+    by_test : (edit : Bool) → edits (mode h) ≡ edit → (edits (mode h) ≡ true → roles_under a h ≡ roles_under b h)
+        → roles_under a (next h (got item)) ≡ roles_under b (next h (got item))
     by_test true f before =
         ap (λ (x : Bool). roles_under x h) (told_true a (edits (mode h)) (mode (next h (got item))) f)
         ∙ before f
         ∙ sym (ap (λ (x : Bool). roles_under x h) (told_true b (edits (mode h)) (mode (next h (got item))) f))
-    by_test false f before = ap (λ (x : Bool). roles_under x h) (told_by_test a b (edits (mode h)) (edits (mode (next h (got item)))) (mode (next h (got item))) f e)
+    by_test false f before = ap (λ (x : Bool). roles_under x h) (told_by_test a b (edits (mode h)) (edits (mode (next h (got item))))
+        (mode (next h (got item))) f e)
 same_roles a b (next h (resized width height)) e = same_roles a b h e
 same_roles a b (next h (proposed func value)) e = same_roles a b h e
 same_roles a b (next h (sent command)) e = same_roles a b h e
@@ -117,12 +122,14 @@ edited-typed h key e =
     ∙ ap (λ (rs : List Role). rs ++ roles_from (role_at h key)) (sym (edited-is h e))
 
 -- and without
-pub under-typed : (isig : Bool) (h : History) (key : ℕ) → edits (mode h) ≡ false → roles_under isig (next h (typed key)) ≡ roles_under isig h ++ roles_from (role_of_key (settings_by isig (chars h)) key)
+pub under-typed : (isig : Bool) (h : History) (key : ℕ) → edits (mode h) ≡ false
+    → roles_under isig (next h (typed key)) ≡ roles_under isig h ++ roles_from (role_of_key (settings_by isig (chars h)) key)
 under-typed isig h key e =
     ap (λ (b : Bool). roles_under isig h ++ roles_from (if b then role_at h key else role_of_key (settings_by isig (chars h)) key)) e
 
 -- an item by which EDIT stays, ends, begins, or stays away
-pub edited-stays : (h : History) (item : Item) → edits (mode h) ≡ true → edits (mode (next h (got item))) ≡ true → edited_roles (next h (got item)) ≡ edited_roles h
+pub edited-stays : (h : History) (item : Item) → edits (mode h) ≡ true → edits (mode (next h (got item))) ≡ true
+    → edited_roles (next h (got item)) ≡ edited_roles h
 edited-stays h item e f =
     let isig = traps (mode (next h (got item))) in
     edited-is (next h (got item)) f
@@ -134,14 +141,16 @@ under-ends isig h item e =
     ap (λ (x : Bool). roles_under x h) (told_true isig (edits (mode h)) (mode (next h (got item))) e)
     ∙ same_roles isig (traps (mode h)) h e ∙ sym (edited-is h e)
 
-pub edited-begins : (h : History) (item : Item) → edits (mode h) ≡ false → edits (mode (next h (got item))) ≡ true → edited_roles (next h (got item)) ≡ roles_under (traps (mode (next h (got item)))) h
+pub edited-begins : (h : History) (item : Item) → edits (mode h) ≡ false → edits (mode (next h (got item))) ≡ true
+    → edited_roles (next h (got item)) ≡ roles_under (traps (mode (next h (got item)))) h
 edited-begins h item e f =
     let mask = mode (next h (got item)) in
     edited-is (next h (got item)) f
     ∙ ap (λ (b : Bool). roles_under (isig_told (traps mask) b mask) h) e
     ∙ ap (λ (x : Bool). roles_under x h) (told_on (traps mask) mask f)
 
-pub under-stays : (isig : Bool) (h : History) (item : Item) → edits (mode (next h (got item))) ≡ false → roles_under isig (next h (got item)) ≡ roles_under isig h
+pub under-stays : (isig : Bool) (h : History) (item : Item) → edits (mode (next h (got item))) ≡ false
+    → roles_under isig (next h (got item)) ≡ roles_under isig h
 under-stays isig h item f = ap (λ (x : Bool). roles_under x h) (told_off isig (edits (mode h)) (mode (next h (got item))) f)
 
 -- COUNTS
@@ -161,17 +170,27 @@ some_lengths (next h (typed key)) e =
     ap (λ (b : Bool). if b then lengths_with (is_sent_ahead h key) n (lengths_since_sent h) else []) e in
     by_test (is_sent_ahead h key) n (lengths_since_sent h) is
   where
-    by_test : (b : Bool) (n : ℕ) (ns : List ℕ) → lengths_since_sent (next h (typed key)) ≡ lengths_with b n ns → (m : ℕ) × (ms : List ℕ) × (lengths_since_sent (next h (typed key)) ≡ m ∷ ms)
+    by_test : (b : Bool) (n : ℕ) (ns : List ℕ) → lengths_since_sent (next h (typed key)) ≡ lengths_with b n ns → (m : ℕ) × (ms : List ℕ)
+        × (lengths_since_sent (next h (typed key)) ≡ m ∷ ms)
     by_test true n ns is = (n, [], is)
     by_test false n ns is = (n, ns, is)
 some_lengths (next h (got item)) e = by_test (edits (mode h)) refl (length (half_line (next h (got item)))) (λ f. some_lengths h f)
   where
-    by_test : (edit : Bool) → edits (mode h) ≡ edit → (n : ℕ) → (edits (mode h) ≡ true → (m : ℕ) × (ms : List ℕ) × (lengths_since_sent h ≡ m ∷ ms)) → (m : ℕ) × (ms : List ℕ) × (lengths_kept (edits (mode h)) (edits (mode (next h (got item)))) n (lengths_since_sent h) ≡ m ∷ ms)
+    by_test : (edit : Bool) → edits (mode h) ≡ edit → (n : ℕ) → (edits (mode h) ≡ true → (m : ℕ) × (ms : List ℕ) × (lengths_since_sent h ≡ m ∷ ms)) → (m : ℕ)
+        × (ms : List ℕ) × (lengths_kept (edits (mode h)) (edits (mode (next h (got item)))) n (lengths_since_sent h) ≡ m ∷ ms)
     by_test true f n some =
-        let before = some f in
-        (before.0, before.1, ap (λ (b : Bool). lengths_kept b (edits (mode (next h (got item)))) n (lengths_since_sent h)) f ∙ ap (λ (b : Bool). lengths_kept true b n (lengths_since_sent h)) e ∙ before.2)
-    by_test false f n some =
-        (n, [], ap (λ (b : Bool). lengths_kept b (edits (mode (next h (got item)))) n (lengths_since_sent h)) f ∙ ap (λ (b : Bool). lengths_kept false b n (lengths_since_sent h)) e)
+        let before = some f in (
+          before.0,
+          before.1,
+          ap (λ (b : Bool). lengths_kept b (edits (mode (next h (got item)))) n (lengths_since_sent h)) f
+              ∙ ap (λ (b : Bool). lengths_kept true b n (lengths_since_sent h)) e ∙ before.2,
+        )
+    by_test false f n some = (
+      n,
+      [],
+      ap (λ (b : Bool). lengths_kept b (edits (mode (next h (got item)))) n (lengths_since_sent h)) f
+          ∙ ap (λ (b : Bool). lengths_kept false b n (lengths_since_sent h)) e,
+    )
 some_lengths (next h (resized width height)) e = some_lengths h e
 some_lengths (next h (proposed func value)) e = some_lengths h e
 some_lengths (next h (sent command)) e = some_lengths h e
@@ -182,7 +201,9 @@ least-with true n m ms = refl
 least-with false n m ms = refl
 
 -- after a key with EDIT
-pub ahead-typed : (h : History) (key : ℕ) → edits (mode h) ≡ true → ahead (next h (typed key)) ≡ (if is_sent_ahead h key then length (half_line (next h (typed key))) else min (length (half_line (next h (typed key)))) (ahead h))
+pub ahead-typed : (h : History) (key : ℕ) → edits (mode h) ≡ true
+    → ahead (next h (typed key)) ≡ (if is_sent_ahead h key then length (half_line (next h (typed key)))
+    else min (length (half_line (next h (typed key)))) (ahead h))
 ahead-typed h key e =
     let n = length (half_line (next h (typed key))) in
     let before = some_lengths h e in
@@ -198,7 +219,8 @@ ahead-stays h item e f =
     ap (λ (b : Bool). least (lengths_kept b (edits (mode (next h (got item)))) n (lengths_since_sent h))) e
     ∙ ap (λ (b : Bool). least (lengths_kept true b n (lengths_since_sent h))) f
 
-pub ahead-begins : (h : History) (item : Item) → edits (mode h) ≡ false → edits (mode (next h (got item))) ≡ true → ahead (next h (got item)) ≡ length (half_line (next h (got item)))
+pub ahead-begins : (h : History) (item : Item) → edits (mode h) ≡ false → edits (mode (next h (got item))) ≡ true
+    → ahead (next h (got item)) ≡ length (half_line (next h (got item)))
 ahead-begins h item e f =
     let n = length (half_line (next h (got item))) in
     ap (λ (b : Bool). least (lengths_kept b (edits (mode (next h (got item)))) n (lengths_since_sent h))) e
@@ -218,9 +240,11 @@ ahead-within (begun width height limit) = omega arith
 ahead-within (next h (typed key)) = typed-within (edits (mode h)) (is_sent_ahead h key) (length (half_line (next h (typed key)))) (lengths_since_sent h)
 ahead-within (next h (got item)) = by_test (edits (mode h)) (edits (mode (next h (got item)))) refl refl (ahead-within h)
   where
-    by_test : (edit after : Bool) → edits (mode h) ≡ edit → edits (mode (next h (got item))) ≡ after → ahead h ≤ length (half_line h) → ahead (next h (got item)) ≤ length (half_line (next h (got item)))
+    by_test : (edit after : Bool) → edits (mode h) ≡ edit → edits (mode (next h (got item))) ≡ after → ahead h ≤ length (half_line h)
+        → ahead (next h (got item)) ≤ length (half_line (next h (got item)))
     by_test true true e f before =
-        let same : length (half_line (next h (got item))) ≡ length (half_line h) = ap (λ (rs : List Role). length (half_of (line_limit h) rs)) (edited-stays h item e f) in
+        let same : length (half_line (next h (got item))) ≡ length (half_line h) =
+        ap (λ (rs : List Role). length (half_of (line_limit h) rs)) (edited-stays h item e f) in
         omega (arith, before, same, ahead-stays h item e f)
     by_test false true e f before = omega (arith, ahead-begins h item e f)
     by_test edit false e f before = omega (arith, unedited-ahead (next h (got item)) f)
@@ -287,7 +311,8 @@ unedited-held h e = ap (λ (bytes : List ℕ). drop (ahead h) bytes) (unedited_h
 
 pub unedited-line : (h : History) → edits (mode h) ≡ false → line h ≡ empty_line (line_limit h)
 unedited-line h e =
-    ap (λ (bytes : List ℕ). record { held = bytes; ahead = ahead h; limit = line_limit h }) (unedited-held h e) ∙ ap (λ (n : ℕ). record { held = []; ahead = n; limit = line_limit h }) (unedited-ahead h e)
+    ap (λ (bytes : List ℕ). record { held = bytes; ahead = ahead h; limit = line_limit h }) (unedited-held h e)
+    ∙ ap (λ (n : ℕ). record { held = []; ahead = n; limit = line_limit h }) (unedited-ahead h e)
 
 -- MASKS
 -- a mask in force has no bits but EDIT and TRAPSIG

@@ -16,18 +16,42 @@ use Rattle.tn_client.proofs.Standings.{stands_typed, stands_got}
 
 -- an end that stands there
 abbrev pub end_at : History → End
-end_at h = record { decoder = failed; options = options h; mode = mode h; forward = forward h; table = chars h; line = line h; trapped = count_under true h; plain = count_under false h; width = (size h).0; height = (size h).1; failed = false }
+end_at h = record {
+  decoder = failed;
+  options = options h;
+  mode = mode h;
+  forward = forward h;
+  table = chars h;
+  line = line h;
+  trapped = count_under true h;
+  plain = count_under false h;
+  width = (size h).0;
+  height = (size h).1;
+  failed = false;
+}
 
 leaves-line : (h : History) → discipline.LeadsTo (edited_roles h) (line h)
 leaves-line h = record { sent = take (ahead h) (half_line h); count = length-take-le (ahead h) (half_line h) (ahead-within h); bytes = parts-whole h }
 
 stands_there : (h : History) → LeadsTo h (end_at h)
-stands_there h = record { options = refl; mode = refl; forward = refl; table = refl; line = leaves-line h; ahead = refl; limit = refl; trapped = refl; plain = refl; size = refl }
+stands_there h = record {
+  options = refl;
+  mode = refl;
+  forward = refl;
+  table = refl;
+  line = leaves-line h;
+  ahead = refl;
+  limit = refl;
+  trapped = refl;
+  plain = refl;
+  size = refl;
+}
 
 line-next : (h : History) (key : ℕ) → line (next h (typed key)) ≡ line_typed (edits (mode h)) (forward h) (line h) (role_at h key)
 line-next h key = sym (line_is (next h (typed key)) (end_after_key (end_at h) key) (stands_typed h (end_at h) key (stands_there h)))
 
-pub line-came : (h : History) (item : Item) → line (next h (got item)) ≡ line_left (edits (mode h)) (edits (mode (next h (got item)))) (count_told (mode (next h (got item))) (count_under true h) (count_under false h)) (line h)
+pub line-came : (h : History) (item : Item) → line (next h (got item))
+    ≡ line_left (edits (mode h)) (edits (mode (next h (got item)))) (count_told (mode (next h (got item))) (count_under true h) (count_under false h)) (line h)
 line-came h item = sym (line_is (next h (got item)) (end_after_item (end_at h) item) (stands_got h (end_at h) item (stands_there h)))
 
 -- A KEY with EDIT
@@ -46,8 +70,10 @@ pub plain-next : (h : History) (key : ℕ) → count_under false (next h (typed 
 plain-next h key = let s = stands_typed h (end_at h) key (stands_there h) in sym s.plain
 
 -- AN ITEM: the line and the counts after it, by EDIT before and after
-pub trapped-came : (h : History) (item : Item) → count_under true (next h (got item)) ≡ count_left (edits (mode h)) (edits (mode (next h (got item)))) (line h) (count_under true h)
+pub trapped-came : (h : History) (item : Item) → count_under true (next h (got item))
+    ≡ count_left (edits (mode h)) (edits (mode (next h (got item)))) (line h) (count_under true h)
 trapped-came h item = let s = stands_got h (end_at h) item (stands_there h) in sym s.trapped
 
-pub plain-came : (h : History) (item : Item) → count_under false (next h (got item)) ≡ count_left (edits (mode h)) (edits (mode (next h (got item)))) (line h) (count_under false h)
+pub plain-came : (h : History) (item : Item) → count_under false (next h (got item))
+    ≡ count_left (edits (mode h)) (edits (mode (next h (got item)))) (line h) (count_under false h)
 plain-came h item = let s = stands_got h (end_at h) item (stands_there h) in sym s.plain

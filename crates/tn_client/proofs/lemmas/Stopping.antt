@@ -14,7 +14,8 @@ use Rattle.tn_client.proofs.lemmas.Courses.{one_history}
 use Rattle.tn_client.proofs.lemmas.Histories.{gets-append, sent-gets, shown-gets}
 
 -- a prefix of the first reply is a prefix of all that the items make the client say
-pub front_said : (h : History) (left more part : List Item) (here : DecoderState) (back : List ℕ) → IsStopCause h left part here back → (unsaid : List Item) × (items_said (gets h (left ++ more)) ≡ items_said h ++ (part ++ unsaid))
+pub front_said : (h : History) (left more part : List Item) (here : DecoderState) (back : List ℕ) → IsStopCause h left part here back → (unsaid : List Item)
+    × (items_said (gets h (left ++ more)) ≡ items_said h ++ (part ++ unsaid))
 front_said h [] more part here back why =
     let m = sent-gets h more in
     (m.0, m.1 ∙ ap (λ (xs : List Item). items_said h ++ (xs ++ m.0)) (sym why.0))
@@ -22,15 +23,18 @@ front_said h (item ∷ left) more part here back why =
     let m = sent-gets (next h (got item)) (left ++ more) in
     (why.rest ++ m.0, front_on (replies h (got item)) part why.rest m.0 (items_said h) _ m.1 why.whole)
 
-pub stopped : (c : Course) (old : End) (piece before after seen now : List ℕ) (h whole : History) → CourseLeadsTo c old → StopsWithin old piece before after seen now → ReadsAs c h → ReadsAs (fed c piece) whole → StopsBetween h whole before after seen now
+pub stopped : (c : Course) (old : End) (piece before after seen now : List ℕ) (h whole : History) → CourseLeadsTo c old
+    → StopsWithin old piece before after seen now → ReadsAs c h → ReadsAs (fed c piece) whole → StopsBetween h whole before after seen now
 stopped c old piece before after seen now h whole a s leads also =
-    subst (λ (x : History). StopsBetween x whole before after seen now) (one_history c a.history h a.reads_as leads) (go (one_history c also.0 a.history also.2 a.reads_as))
+    subst (λ (x : History). StopsBetween x whole before after seen now) (one_history c a.history h a.reads_as leads)
+    (go (one_history c also.0 a.history also.2 a.reads_as))
   where
     go : also.0 ≡ a.history → StopsBetween a.history whole before after seen now
     go same =
         let k = a.history in
         let here = s.reads (stream c) (items k) a.reads in
-        let others = stopped_in items gets gets-append also.0 k whole (stream c) piece s.front s.back also.1 s.done s.left same s.whole (a.reads.rest, a.reads.reading) (here.rest, here.reading) also.3 also.4 in
+        let others = stopped_in items gets gets-append also.0 k whole (stream c) piece s.front s.back also.1 s.done s.left same s.whole
+        (a.reads.rest, a.reads.reading) (here.rest, here.reading) also.3 also.4 in
         let u = front_said (gets k s.done) s.left others.0 s.part s.here s.back (s.cause k (stream c) (items k) a.leads a.reads) in
         let v = shown-gets (gets k s.done) (s.left ++ others.0) in
         record {

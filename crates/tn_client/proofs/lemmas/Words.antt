@@ -1,5 +1,6 @@
 -- The option words of a client end are those of its option engine, which starts none itself.
-use Rattle.std.proofs.Common.{◌≡◌, ℕ, Bool, true, false, not, ◌&&◌, Option, None, Some, List, [], ◌∷◌, ◌++◌, refl, sym, ap, ◌∙◌, if◌then◌else◌, append-nil, append_assoc}
+use Rattle.std.proofs.Common.{◌≡◌, ℕ, Bool, true, false, not, ◌&&◌, Option, None, Some, List, [], ◌∷◌, ◌++◌, refl, sym, ap, ◌∙◌, if◌then◌else◌, append-nil}
+use Rattle.std.proofs.Common.{append_assoc}
 use Rattle.std.proofs.lemmas.List.{append_cancel_left}
 use Rattle.tn_codes.specs.declared.codes.Command.{Command}
 use Rattle.tn_codes.specs.declared.codes.Verb.{Verb}
@@ -25,7 +26,8 @@ use Rattle.tn_client.specs.Calls.{End, LeadsTo, Advances, Sends, Feeds}
 use Rattle.tn_client.specs.Course.{IsCall}
 use Rattle.tn_client.specs.Events.{Event, History, next, typed, got, resized, proposed, sent, gets}
 use Rattle.tn_client.specs.Lines.{role_at, sends_ahead, line}
-use Rattle.tn_client.specs.Replies.{byte_items, command_of, command_items, raw_key_items, edited_key_items, sent_ahead_items, key_items, size_items, new_size_items, payload_answers, answer_items, end_of_edit_items, is_same_size, replies, items_said}
+use Rattle.tn_client.specs.Replies.{byte_items, command_of, command_items, raw_key_items, edited_key_items, sent_ahead_items, key_items, size_items}
+use Rattle.tn_client.specs.Replies.{new_size_items, payload_answers, answer_items, end_of_edit_items, is_same_size, replies, items_said}
 use Rattle.tn_client.specs.Terms.{options, mode, forward, chars, size, tells_size, payload_at, options_after, mode_at}
 
 -- the options of a server and of its client, and the words that are on their way to each
@@ -102,27 +104,34 @@ ending_none true true bytes = refl
 ending_none false after bytes = refl
 
 -- AN ITEM: an option word is answered
-answer_moves : (here o : Options) (m : ℕ) (c : Characters) (z : ℕ × ℕ) (item : Item) (ws vs : List (Verb × ℕ)) → Moves (pair here o ws (words_in (item ∷ []) ++ vs)) (pair here (options_after o item) (ws ++ words_in (answer_items o m c z item)) vs)
+answer_moves : (here o : Options) (m : ℕ) (c : Characters) (z : ℕ × ℕ) (item : Item) (ws vs : List (Verb × ℕ))
+    → Moves (pair here o ws (words_in (item ∷ []) ++ vs)) (pair here (options_after o item) (ws ++ words_in (answer_items o m c z item)) vs)
 answer_moves here o m c z (Neg verb option) ws vs = (
   client_hears ∷ [],
   ap (λ (x : List (Verb × ℕ)). pair here (options_after_word o verb option) (ws ++ x) vs)
-      (sym (none_last (word_items (reply_to o verb option)) (new_size_items (tells_size o) (tells_size (options_after o (Neg verb option))) z) (if_none (tells_size (options_after o (Neg verb option)) && not (tells_size o)) (size_items z) (size_none z)) ∙ words_in-word (reply_to o verb option))),
+      (sym (none_last (word_items (reply_to o verb option)) (new_size_items (tells_size o) (tells_size (options_after o (Neg verb option))) z)
+      (if_none (tells_size (options_after o (Neg verb option)) && not (tells_size o)) (size_items z) (size_none z))
+      ∙ words_in-word (reply_to o verb option))),
 )
 answer_moves here o m c z (Sub option params) ws vs = (
   [],
-  ap (λ (x : List (Verb × ℕ)). pair here o x vs) (sym (append-nil ws) ∙ ap (λ (x : List (Verb × ℕ)). ws ++ x) (sym (payload_none m c (payload_at o (Sub option params))))),
+  ap (λ (x : List (Verb × ℕ)). pair here o x vs) (sym (append-nil ws)
+      ∙ ap (λ (x : List (Verb × ℕ)). ws ++ x) (sym (payload_none m c (payload_at o (Sub option params))))),
 )
 answer_moves here o m c z (Byte b) ws vs = ([], ap (λ (x : List (Verb × ℕ)). pair here o x vs) (sym (append-nil ws)))
 answer_moves here o m c z Newline ws vs = ([], ap (λ (x : List (Verb × ℕ)). pair here o x vs) (sym (append-nil ws)))
 answer_moves here o m c z (Cmd command) ws vs = ([], ap (λ (x : List (Verb × ℕ)). pair here o x vs) (sym (append-nil ws)))
 
-got_moves : (h : History) (item : Item) (here : Options) (ws vs : List (Verb × ℕ)) → Moves (pair here (options h) ws (words_in (item ∷ []) ++ vs)) (pair here (options (next h (got item))) (ws ++ words_in (replies h (got item))) vs)
+got_moves : (h : History) (item : Item) (here : Options) (ws vs : List (Verb × ℕ))
+    → Moves (pair here (options h) ws (words_in (item ∷ []) ++ vs)) (pair here (options (next h (got item))) (ws ++ words_in (replies h (got item))) vs)
 got_moves h item here ws vs =
     let m = answer_moves here (options h) (mode h) (chars h) (size h) item ws vs in (
       m.0,
       m.1
           ∙ ap (λ (x : List (Verb × ℕ)). pair here (options (next h (got item))) (ws ++ x) vs)
-          (sym (none_first (end_of_edit_items (edits (mode h)) (edits (mode_at (options h) (mode h) item)) (line h).held) (answer_items (options h) (mode h) (chars h) (size h) item) (ending_none (edits (mode h)) (edits (mode_at (options h) (mode h) item)) (line h).held))),
+          (sym (none_first (end_of_edit_items (edits (mode h)) (edits (mode_at (options h) (mode h) item)) (line h).held)
+          (answer_items (options h) (mode h) (chars h) (size h) item)
+          (ending_none (edits (mode h)) (edits (mode_at (options h) (mode h) item)) (line h).held))),
     )
 
 cons_words : (item : Item) (items : List Item) (ws : List (Verb × ℕ)) → words_in (item ∷ items) ++ ws ≡ words_in (item ∷ []) ++ (words_in items ++ ws)
@@ -137,14 +146,17 @@ gets_moves h (item ∷ items) here ws vs =
     let said = replies h (got item) in
     let first = got_moves h item here ws (words_in items ++ vs) in
     let later = gets_moves (next h (got item)) items here (ws ++ words_in said) vs in
-    let all = then-Moves (pair here (options h) ws (words_in (item ∷ []) ++ (words_in items ++ vs))) (pair here (options (next h (got item))) (ws ++ words_in said) (words_in items ++ vs)) (pair here (options (gets h (item ∷ items))) ((ws ++ words_in said) ++ words_in later.0) vs) first later.2 in (
+    let all = then-Moves (pair here (options h) ws (words_in (item ∷ []) ++ (words_in items ++ vs)))
+    (pair here (options (next h (got item))) (ws ++ words_in said) (words_in items ++ vs))
+    (pair here (options (gets h (item ∷ items))) ((ws ++ words_in said) ++ words_in later.0) vs) first later.2 in (
       said ++ later.0,
       later.1 ∙ append_assoc (items_said h) said later.0,
       (
         all.0,
         ap (λ (x : List (Verb × ℕ)). talk_steps all.0 (pair here (options h) ws x)) (cons_words item items vs)
             ∙ all.1
-            ∙ ap (λ (x : List (Verb × ℕ)). pair here (options (gets h (item ∷ items))) x vs) (append_assoc ws (words_in said) (words_in later.0) ∙ ap (λ (x : List (Verb × ℕ)). ws ++ x) (sym (words_in-append said later.0))),
+            ∙ ap (λ (x : List (Verb × ℕ)). pair here (options (gets h (item ∷ items))) x vs)
+            (append_assoc ws (words_in said) (words_in later.0) ∙ ap (λ (x : List (Verb × ℕ)). ws ++ x) (sym (words_in-append said later.0))),
       ),
     )
 
@@ -164,13 +176,16 @@ call_keeps h (proposed func value) is = refl
 call_keeps h (sent command) is = refl
 
 -- AN END, after a piece and after a call
-pub feeds_moves : (h : History) (old new : End) (piece before after seen now : List ℕ) (here : Options) (ws vs : List (Verb × ℕ)) → LeadsTo h old → (f : Feeds old piece before after seen now new) → Moves (pair here old.options ws (words_in f.items ++ vs)) (pair here new.options (ws ++ words_in f.said) vs)
+pub feeds_moves : (h : History) (old new : End) (piece before after seen now : List ℕ) (here : Options) (ws vs : List (Verb × ℕ)) → LeadsTo h old
+    → (f : Feeds old piece before after seen now new) → Moves (pair here old.options ws (words_in f.items ++ vs))
+    (pair here new.options (ws ++ words_in f.said) vs)
 feeds_moves h old new piece before after seen now here ws vs s f =
     let all = gets_moves h f.items here ws vs in
     let same : all.0 ≡ f.said = append_cancel_left (items_said h) all.0 f.said (sym all.1 ∙ f.sends h s) in
     rw (s.options, (f.leads h s).options, sym same) all.2
 
-pub sends_none : (h : History) (old : End) (e : Event) (before after : List ℕ) → IsCall e → LeadsTo h old → (g : Sends old e before after) → words_in g.said ≡ []
+pub sends_none : (h : History) (old : End) (e : Event) (before after : List ℕ) → IsCall e → LeadsTo h old → (g : Sends old e before after)
+    → words_in g.said ≡ []
 sends_none h old e before after call s g = ap words_in (sym (g.replies h s)) ∙ call_none h e call
 
 pub advances_keeps : (h : History) (old new : End) (e : Event) → IsCall e → LeadsTo h old → Advances old e new → new.options ≡ old.options

@@ -5,7 +5,11 @@ use Rattle.std.proofs.lemmas.Bool.Decides.{eqb_tells}
 use Rattle.tn_codes.specs.Masks.{before, trimmed_octets}
 
 length-before : (b : ℕ) (xs : List ℕ) → length (before b xs) ≤ length xs + 1
-length-before b [] = elim (eqb_tells b 0) [ inl e ↦ let is : b ≡ 0 = e.1 in rw is (omega arith) | inr e ↦ let differs : b ≢ 0 = e.1 in rw (ne_eqb b 0 differs) (omega arith) ]
+length-before b [] = elim (eqb_tells b 0) [
+  | inl e ↦ let is : b ≡ 0 = e.1 in rw is (omega arith)
+  | inr e ↦ let differs : b ≢ 0 = e.1
+      in rw (ne_eqb b 0 differs) (omega arith)
+]
 length-before b (x ∷ xs) = omega arith
 
 pub length-trimmed : (xs : List ℕ) → length (trimmed_octets xs) ≤ length xs

@@ -1,5 +1,6 @@
 -- What a printer takes, some and then more.
-use Rattle.std.proofs.Common.{◌≡◌, ◌≢◌, ℕ, ◌+◌, ◌<◌, ◌≤◌, List, [], ◌∷◌, ◌++◌, map, length, take, drop, refl, sym, ap, ◌∙◌, subst, arith, append-nil, append_assoc, length-append, Result, Ok, Err, OnOk, IsOk}
+use Rattle.std.proofs.Common.{◌≡◌, ◌≢◌, ℕ, ◌+◌, ◌<◌, ◌≤◌, List, [], ◌∷◌, ◌++◌, map, length, take, drop, refl, sym, ap, ◌∙◌, subst, arith, append-nil}
+use Rattle.std.proofs.Common.{append_assoc, length-append, Result, Ok, Err, OnOk, IsOk}
 use Rattle.std.proofs.Math.Seq.{take-add}
 use Rattle.std.proofs.lemmas.List.{map-append, take-append-drop, length-take-le}
 use Rattle.tn_nvt.specs.declared.items.Item.{Item}
@@ -42,7 +43,8 @@ takes_both old middle new xs ys a b = record {
 }
 
 -- data that do not fill the line are held
-pub takes_short : (old new : Printing) (bytes : List ℕ) → new.prefix ≡ old.prefix → new.text ≡ old.text → new.held ≡ old.held ++ bytes → length new.held < max_data → Takes old (map Byte bytes) new
+pub takes_short : (old new : Printing) (bytes : List ℕ) → new.prefix ≡ old.prefix → new.text ≡ old.text → new.held ≡ old.held ++ bytes
+    → length new.held < max_data → Takes old (map Byte bytes) new
 takes_short old new bytes prefix text held short = record {
   prefix = prefix;
   front = [];
@@ -60,7 +62,8 @@ takes_full old new bytes prefix full text none =
     record {
       prefix = prefix;
       front = map Byte (old.held ++ bytes);
-      whole = sym (map-append Byte old.held bytes) ∙ sym (append-nil (map Byte (old.held ++ bytes))) ∙ ap (λ (xs : List ℕ). map Byte (old.held ++ bytes) ++ map Byte xs) (sym none);
+      whole = sym (map-append Byte old.held bytes) ∙ sym (append-nil (map Byte (old.held ++ bytes)))
+          ∙ ap (λ (xs : List ℕ). map Byte (old.held ++ bytes) ++ map Byte xs) (sym none);
       ends = full_ends (old.held ++ bytes) full;
       printed = text ∙ ap (λ (xs : List ℕ). old.text ++ xs) (sym printed);
       short = λ few. omega (arith, ap length none);
@@ -76,7 +79,8 @@ takes_full old new bytes prefix full text none =
 
 -- an item that is no data is printed behind the data that were held
 pub takes_single : (old new : Printing) (item : Item) → IsSingle item → new.prefix ≡ old.prefix
-    → new.text ≡ old.text ++ (decoded (prefix_text old.prefix) (map Byte old.held) ++ whole_line (prefix_text old.prefix) (item_text item)) → new.held ≡ [] → Takes old (item ∷ []) new
+    → new.text ≡ old.text ++ (decoded (prefix_text old.prefix) (map Byte old.held) ++ whole_line (prefix_text old.prefix) (item_text item)) → new.held ≡ []
+    → Takes old (item ∷ []) new
 takes_single old new item is prefix text none = record {
   prefix = prefix;
   front = map Byte old.held ++ item ∷ [];
@@ -90,7 +94,8 @@ takes_single old new item is prefix text none = record {
 pub takes_front : (old middle new : Printing) (bytes : List ℕ) (n m : ℕ) → Takes old (map Byte (take n bytes)) middle
     → Takes middle (map Byte (take m (drop n bytes))) new → Takes old (map Byte (take (n + m) bytes)) new
 takes_front old middle new bytes n m a b =
-    let both : map Byte (take (n + m) bytes) ≡ map Byte (take n bytes) ++ map Byte (take m (drop n bytes)) = ap (map Byte) (take-add n m bytes) ∙ map-append Byte (take n bytes) (take m (drop n bytes)) in
+    let both : map Byte (take (n + m) bytes) ≡ map Byte (take n bytes) ++ map Byte (take m (drop n bytes)) =
+    ap (map Byte) (take-add n m bytes) ∙ map-append Byte (take n bytes) (take m (drop n bytes)) in
     subst (λ (xs : List Item). Takes old xs new) (sym both) (takes_both old middle new (map Byte (take n bytes)) (map Byte (take m (drop n bytes))) a b)
 
 -- all that was held and came is printed or held
@@ -104,13 +109,15 @@ taken_whole old new items text held t =
     ∙ ap (decoded p) (sym whole)
 
 -- at a run: the bytes that were taken, and those that fill a line
-pub some_of_run : (old here : Printing) (bytes : List ℕ) (n : ℕ) → Takes old (map Byte (take n bytes)) here → max_data ≤ length here.held + length (drop n bytes) → TakesSome old (map Byte bytes) here
+pub some_of_run : (old here : Printing) (bytes : List ℕ) (n : ℕ) → Takes old (map Byte (take n bytes)) here
+    → max_data ≤ length here.held + length (drop n bytes) → TakesSome old (map Byte bytes) here
 some_of_run old here bytes n taken fills = record {
   done = map Byte (take n bytes);
   left = map Byte (drop n bytes);
   all = ap (map Byte) (sym (take-append-drop n bytes)) ∙ map-append Byte (take n bytes) (drop n bytes);
   taken = taken;
-  fills = subst FillsLine (map-append Byte here.held (drop n bytes)) (filled (here.held ++ drop n bytes) (omega (arith, length-append here.held (drop n bytes))));
+  fills = subst FillsLine (map-append Byte here.held (drop n bytes))
+      (filled (here.held ++ drop n bytes) (omega (arith, length-append here.held (drop n bytes))));
 }
   where
     first_fills : (xs : List ℕ) → length xs ≡ max_data → (map Byte xs ≢ []) × EndsLine (map Byte xs)
@@ -169,7 +176,8 @@ decoded_empty prefix held none = ap (λ (xs : List ℕ). decoded prefix (map Byt
 -- the line of data that are held
 pub held_line : (prefix held : List ℕ) → length held ≢ 0 → length held < max_data → whole_line prefix (data_text (held ++ [])) ≡ decoded prefix (map Byte held)
 held_line prefix [] some short = absurd (some refl)
-held_line prefix (b ∷ bs) some short = ap (λ (xs : List ℕ). whole_line prefix (data_text xs)) (append-nil (b ∷ bs)) ∙ sym (decoded_data prefix b bs (omega arith))
+held_line prefix (b ∷ bs) some short = ap (λ (xs : List ℕ). whole_line prefix (data_text xs)) (append-nil (b ∷ bs))
+    ∙ sym (decoded_data prefix b bs (omega arith))
 
 -- no data are held
 pub ends_nothing : (here : Printing) → length here.held ≡ 0 → EndsData here here

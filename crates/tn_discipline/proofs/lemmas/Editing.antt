@@ -1,5 +1,6 @@
 -- Keys that edit a line and make no entry, and keys that close it.
-use Rattle.std.proofs.Common.{◌≡◌, ◌<◌, ◌≤◌, ℕ, zero, suc, ◌+◌, Bool, true, false, All, List, [], ◌∷◌, ◌++◌, length, take, get_or, refl, sym, ap, subst, ◌∙◌, if◌then◌else◌, arith}
+use Rattle.std.proofs.Common.{◌≡◌, ◌<◌, ◌≤◌, ℕ, zero, suc, ◌+◌, Bool, true, false, All, List, [], ◌∷◌, ◌++◌, length, take, get_or, refl, sym, ap, subst, ◌∙◌}
+use Rattle.std.proofs.Common.{if◌then◌else◌, arith}
 use Rattle.std.proofs.lemmas.List.{take_more, map-append}
 use Rattle.tn_discipline.specs.declared.keys.Role.{Role}
 use Rattle.tn_discipline.specs.declared.keys.Role.TheVariants as role
@@ -15,7 +16,9 @@ use Rattle.tn_discipline.specs.Advancing.{Advances}
 use Rattle.tn_discipline.proofs.lemmas.Runs.{line_after_all-append, ordinary_gains, keys_advance}
 
 -- a step of a loop over keys
-pub edited_more : (settings : Settings) (start line new : HalfLine) (keys : List ℕ) (i : ℕ) (r : Role) → i < length keys → r ≡ role_of_key settings (get_or keys i 0) → line ≡ line_after_all start (each_role settings (take i keys)) → new ≡ line_after line r → new ≡ line_after_all start (each_role settings (take (i + 1) keys))
+pub edited_more : (settings : Settings) (start line new : HalfLine) (keys : List ℕ) (i : ℕ) (r : Role) → i < length keys
+    → r ≡ role_of_key settings (get_or keys i 0) → line ≡ line_after_all start (each_role settings (take i keys)) → new ≡ line_after line r
+    → new ≡ line_after_all start (each_role settings (take (i + 1) keys))
 edited_more settings start line new keys i r within is before after =
     let key = get_or keys i 0 in
     let typed : each_role settings (take (i + 1) keys) ≡ each_role settings (take i keys) ++ role_of_key settings key ∷ [] =
@@ -54,9 +57,11 @@ quiet_gains settings (key ∷ keys) line quiet =
     ∙ quiet_gains settings keys (line_after line r) rest
 
 -- what they do is what the whole lists of keys say
-pub quiet_advance : (settings : Settings) (keys : List ℕ) (old new : HalfLine) → All (IsQuiet settings) keys → new ≡ line_after_all old (each_role settings keys) → Advances old (roles_of settings keys) [] new
+pub quiet_advance : (settings : Settings) (keys : List ℕ) (old new : HalfLine) → All (IsQuiet settings) keys
+    → new ≡ line_after_all old (each_role settings keys) → Advances old (roles_of settings keys) [] new
 quiet_advance settings keys old new quiet is =
-    rw is (subst (λ gain. Advances old (roles_of settings keys) gain (line_after_all old (each_role settings keys))) (quiet_gains settings keys old quiet) (keys_advance settings keys old))
+    rw is (subst (λ gain. Advances old (roles_of settings keys) gain (line_after_all old (each_role settings keys))) (quiet_gains settings keys old quiet)
+    (keys_advance settings keys old))
 
 -- keys that join the line as they are make none
 pub plain_quiet : (settings : Settings) (keys : List ℕ) → All (IsPlain settings) keys → All (IsQuiet settings) keys

@@ -1,5 +1,6 @@
 -- The functions that have a special character, and tables of characters by these.
-use Rattle.std.proofs.Common.{◌≡◌, ◌≢◌, ℕ, Bool, true, false, not, ◌&&◌, ◌||◌, ◌==◌, Option, Some, None, List, [], ◌∷◌, ◌⊎◌, inl, inr, refl, sym, ap, ◌∙◌, if◌then◌else◌, arith}
+use Rattle.std.proofs.Common.{◌≡◌, ◌≢◌, ℕ, Bool, true, false, not, ◌&&◌, ◌||◌, ◌==◌, Option, Some, None, List, [], ◌∷◌, ◌⊎◌, inl, inr, refl, sym, ap, ◌∙◌}
+use Rattle.std.proofs.Common.{if◌then◌else◌, arith}
 use Rattle.std.specs.Prelude.{find}
 use Rattle.std.specs.List.{list_any}
 use Rattle.tn_codes.specs.Codes.{func_code}
@@ -97,7 +98,8 @@ found p f (g ∷ gs) h = by_test (p g) refl h (found p f gs)
     or_right true b e = refl
     or_right false b e = e
 
-    by_test : (test : Bool) → p g ≡ test → (if test then Some g else find p gs) ≡ Some f → (find p gs ≡ Some f → (p f ≡ true) × (is_among f gs ≡ true)) → (p f ≡ true) × (is_among f (g ∷ gs) ≡ true)
+    by_test : (test : Bool) → p g ≡ test → (if test then Some g else find p gs) ≡ Some f → (find p gs ≡ Some f → (p f ≡ true) × (is_among f gs ≡ true))
+        → (p f ≡ true) × (is_among f (g ∷ gs) ≡ true)
     by_test true e h later =
         let same : g ≡ f = cc in (ap p (sym same) ∙ e, or_left (is_same g f) (is_among f gs) (ap (is_same g) (sym same) ∙ is_same-refl g))
     by_test false e h later = let rest = later h in (rest.0, or_right (is_same g f) (is_among f gs) rest.1)
@@ -134,7 +136,8 @@ slot-with_slot-other c _ func.Abort value h = cc
 slot-with_slot-other c _ _ value h = cc
 
 -- a character that is set after a change is the changed one, or was set before
-pub held_by : (c : Characters) (k f : Func) (value : Option ℕ) (byte : ℕ) → is_settable k ≡ true → slot (with_slot c k value) f ≡ Some byte → ((f ≡ k) × (value ≡ Some byte)) ⊎ (slot c f ≡ Some byte)
+pub held_by : (c : Characters) (k f : Func) (value : Option ℕ) (byte : ℕ) → is_settable k ≡ true → slot (with_slot c k value) f ≡ Some byte
+    → ((f ≡ k) × (value ≡ Some byte)) ⊎ (slot c f ≡ Some byte)
 held_by c k f value byte settable h = by_test (is_same f k) refl
   where
     by_test : (test : Bool) → is_same f k ≡ test → ((f ≡ k) × (value ≡ Some byte)) ⊎ (slot c f ≡ Some byte)
@@ -157,4 +160,5 @@ same_fields a b c d e f g h a' b' c' d' e' f' g' h' p q r s t u v w = rw (p, q, 
 pub same_slots : (c d : Characters) → ((f : Func) → is_settable f ≡ true → slot c f ≡ slot d f) → c ≡ d
 same_slots c d same =
     same_fields c.intr c.quit c.eof c.susp c.erase c.kill c.eol c.eol2 d.intr d.quit d.eof d.susp d.erase d.kill d.eol d.eol2
-    (same func.Ip refl) (same func.Abort refl) (same func.Eof refl) (same func.Susp refl) (same func.Ec refl) (same func.El refl) (same func.Forw1 refl) (same func.Forw2 refl)
+    (same func.Ip refl) (same func.Abort refl) (same func.Eof refl) (same func.Susp refl) (same func.Ec refl) (same func.El refl) (same func.Forw1 refl)
+    (same func.Forw2 refl)

@@ -1,5 +1,6 @@
 -- One more key: what it does to the entries and to the half line of any keys before it.
-use Rattle.std.proofs.Common.{◌≡◌, ◌≤◌, ℕ, zero, suc, ◌-◌, Bool, true, false, Option, Some, None, List, [], ◌∷◌, ◌++◌, length, reverse, refl, sym, ap, ◌∙◌, if◌then◌else◌, subst, arith, append-nil, append_assoc, length-append, length-take}
+use Rattle.std.proofs.Common.{◌≡◌, ◌≤◌, ℕ, zero, suc, ◌-◌, Bool, true, false, Option, Some, None, List, [], ◌∷◌, ◌++◌, length, reverse, refl, sym, ap, ◌∙◌}
+use Rattle.std.proofs.Common.{if◌then◌else◌, subst, arith, append-nil, append_assoc, length-append, length-take}
 use Rattle.std.specs.List.{flat_map}
 use Rattle.std.proofs.lemmas.List.{reverse-append, reverse-reverse, take_at}
 use Rattle.std.proofs.lemmas.Grind.{flat_map-append}
@@ -20,12 +21,14 @@ with_last p r = record { closed = p.closed; last = p.last ++ r ∷ [] }
 abbrev with_closed : Pieces → List ℕ → Pieces
 with_closed p bytes = record { closed = p.closed ++ record { keys = p.last; closing = bytes } ∷ []; last = [] }
 
-before_last : (o : Option (List ℕ)) (x r : Role) (ps : List Piece) (l : List Role) → cut_before o x (with_last (record { closed = ps; last = l }) r) ≡ with_last (cut_before o x (record { closed = ps; last = l })) r
+before_last : (o : Option (List ℕ)) (x r : Role) (ps : List Piece) (l : List Role)
+    → cut_before o x (with_last (record { closed = ps; last = l }) r) ≡ with_last (cut_before o x (record { closed = ps; last = l })) r
 before_last None x r [] l = refl
 before_last None x r (p ∷ ps) l = refl
 before_last (Some bytes) x r ps l = refl
 
-before_closed : (o : Option (List ℕ)) (x : Role) (bytes : List ℕ) (ps : List Piece) (l : List Role) → cut_before o x (with_closed (record { closed = ps; last = l }) bytes) ≡ with_closed (cut_before o x (record { closed = ps; last = l })) bytes
+before_closed : (o : Option (List ℕ)) (x : Role) (bytes : List ℕ) (ps : List Piece) (l : List Role)
+    → cut_before o x (with_closed (record { closed = ps; last = l }) bytes) ≡ with_closed (cut_before o x (record { closed = ps; last = l })) bytes
 before_closed None x bytes [] l = refl
 before_closed None x bytes (p ∷ ps) l = refl
 before_closed (Some b) x bytes ps l = refl
@@ -38,7 +41,8 @@ cut-open (x ∷ xs) r h = ap (cut_before (closing_bytes x) x) (cut-open xs r h) 
 -- a closing key makes the last piece a closed one
 cut-close : (xs : List Role) (r : Role) (bytes : List ℕ) → closing_bytes r ≡ Some bytes → pieces_of (xs ++ r ∷ []) ≡ with_closed (pieces_of xs) bytes
 cut-close [] r bytes h = ap (λ o. cut_before o r (record { closed = []; last = [] })) h
-cut-close (x ∷ xs) r bytes h = ap (cut_before (closing_bytes x) x) (cut-close xs r bytes h) ∙ before_closed (closing_bytes x) x bytes (pieces_of xs).closed (pieces_of xs).last
+cut-close (x ∷ xs) r bytes h = ap (cut_before (closing_bytes x) x) (cut-close xs r bytes h)
+    ∙ before_closed (closing_bytes x) x bytes (pieces_of xs).closed (pieces_of xs).last
 
 signals-append : (xs ys : List Role) → signals (xs ++ ys) ≡ signals xs ++ signals ys
 signals-append [] ys = refl
@@ -76,7 +80,8 @@ entries-open a r h =
     ∙ ap (λ s. flat_map piece_entries (pieces_of a).closed ++ s) (signals-append (pieces_of a).last (r ∷ []))
     ∙ sym (append_assoc (flat_map piece_entries (pieces_of a).closed) (signals (pieces_of a).last) (signals (r ∷ [])))
 
-entries-close : (a : List Role) (r : Role) (bytes : List ℕ) → closing_bytes r ≡ Some bytes → entries_in (pieces_of (a ++ r ∷ [])) ≡ entries_in (pieces_of a) ++ line_of (kept_bytes (pieces_of a).last ++ bytes) ∷ []
+entries-close : (a : List Role) (r : Role) (bytes : List ℕ) → closing_bytes r ≡ Some bytes
+    → entries_in (pieces_of (a ++ r ∷ [])) ≡ entries_in (pieces_of a) ++ line_of (kept_bytes (pieces_of a).last ++ bytes) ∷ []
 entries-close a r bytes h =
     ap entries_in (cut-close a r bytes h)
     ∙ simp (append-nil, flat_map-append, append_assoc)
@@ -106,11 +111,13 @@ entries-admitted a role.Eof =
     entries-close a role.Eof [] refl ∙ ap (λ bytes. entries_in (pieces_of a) ++ line_of bytes ∷ []) (append-nil (kept_bytes (pieces_of a).last))
 
 -- a key after any keys, by whether the count drops it
-half_by_test : (b : Bool) (a : List Role) (r : Role) → kept_bytes (pieces_of (a ++ (if b then [] else r ∷ []))).last ≡ (if b then kept_bytes (pieces_of a).last else half_after (kept_bytes (pieces_of a).last) r)
+half_by_test : (b : Bool) (a : List Role) (r : Role) → kept_bytes (pieces_of (a ++ (if b then [] else r ∷ []))).last
+    ≡ (if b then kept_bytes (pieces_of a).last else half_after (kept_bytes (pieces_of a).last) r)
 half_by_test true a r = ap (λ x. kept_bytes (pieces_of x).last) (append-nil a)
 half_by_test false a r = half-admitted a r
 
-entries_by_test : (b : Bool) (a : List Role) (r : Role) → entries_in (pieces_of (a ++ (if b then [] else r ∷ []))) ≡ entries_in (pieces_of a) ++ (if b then [] else gain_after (kept_bytes (pieces_of a).last) r)
+entries_by_test : (b : Bool) (a : List Role) (r : Role) → entries_in (pieces_of (a ++ (if b then [] else r ∷ []))) ≡ entries_in (pieces_of a)
+    ++ (if b then [] else gain_after (kept_bytes (pieces_of a).last) r)
 entries_by_test true a r = ap (λ x. entries_in (pieces_of x)) (append-nil a) ∙ sym (append-nil (entries_in (pieces_of a)))
 entries_by_test false a r = entries-admitted a r
 
@@ -120,22 +127,32 @@ length-half_after held (role.Ordinary byte) = length-append held (byte ∷ [])
 length-half_after held role.Erase = omega (arith, length-take (length held - 1) held)
 length-half_after held _ = refl
 
-pub length_by_test : (b : Bool) (held : List ℕ) (n : ℕ) (r : Role) → length held ≡ n → length (if b then held else half_after held r) ≡ (if b then n else next_count n r)
+pub length_by_test : (b : Bool) (held : List ℕ) (n : ℕ) (r : Role) → length held ≡ n
+    → length (if b then held else half_after held r) ≡ (if b then n else next_count n r)
 length_by_test true held n r h = h
 length_by_test false held n r h = length-half_after held r ∙ ap (λ m. next_count m r) h
 
 module _ (limit : ℕ) where
-  admitted_by_test : (b : Bool) (x : Role) (n m : ℕ) (xs ys : List Role) → admitted_after limit n (xs ++ ys) ≡ admitted_after limit n xs ++ admitted_after limit (count_after limit n xs) ys → admitted_after limit m (xs ++ ys) ≡ admitted_after limit m xs ++ admitted_after limit (count_after limit m xs) ys → (if b then admitted_after limit n (xs ++ ys) else x ∷ admitted_after limit m (xs ++ ys)) ≡ (if b then admitted_after limit n xs else x ∷ admitted_after limit m xs) ++ admitted_after limit (if b then count_after limit n xs else count_after limit m xs) ys
+  admitted_by_test : (b : Bool) (x : Role) (n m : ℕ) (xs ys : List Role)
+      → admitted_after limit n (xs ++ ys) ≡ admitted_after limit n xs ++ admitted_after limit (count_after limit n xs) ys
+      → admitted_after limit m (xs ++ ys) ≡ admitted_after limit m xs ++ admitted_after limit (count_after limit m xs) ys
+      → (if b then admitted_after limit n (xs ++ ys) else x ∷ admitted_after limit m (xs ++ ys))
+      ≡ (if b then admitted_after limit n xs else x ∷ admitted_after limit m xs)
+      ++ admitted_after limit (if b then count_after limit n xs else count_after limit m xs) ys
   admitted_by_test true x n m xs ys dropped kept_bytes = dropped
   admitted_by_test false x n m xs ys dropped kept_bytes = ap (λ rs. x ∷ rs) kept_bytes
 
   -- the keys admitted of a list are those of its front, and those of its rest after the front's count
-  pub admitted_after-append : (n : ℕ) (xs ys : List Role) → admitted_after limit n (xs ++ ys) ≡ admitted_after limit n xs ++ admitted_after limit (count_after limit n xs) ys
+  pub admitted_after-append : (n : ℕ) (xs ys : List Role) → admitted_after limit n (xs ++ ys) ≡ admitted_after limit n xs
+      ++ admitted_after limit (count_after limit n xs) ys
   admitted_after-append n [] ys = refl
   admitted_after-append n (x ∷ xs) ys =
       admitted_by_test (is_dropped limit n x) x n (next_count n x) xs ys (admitted_after-append n xs ys) (admitted_after-append (next_count n x) xs ys)
 
-  count_by_test : (b : Bool) (n m : ℕ) (xs ys : List Role) → count_after limit n (xs ++ ys) ≡ count_after limit (count_after limit n xs) ys → count_after limit m (xs ++ ys) ≡ count_after limit (count_after limit m xs) ys → (if b then count_after limit n (xs ++ ys) else count_after limit m (xs ++ ys)) ≡ count_after limit (if b then count_after limit n xs else count_after limit m xs) ys
+  count_by_test : (b : Bool) (n m : ℕ) (xs ys : List Role) → count_after limit n (xs ++ ys) ≡ count_after limit (count_after limit n xs) ys
+      → count_after limit m (xs ++ ys) ≡ count_after limit (count_after limit m xs) ys
+      → (if b then count_after limit n (xs ++ ys) else count_after limit m (xs ++ ys))
+      ≡ count_after limit (if b then count_after limit n xs else count_after limit m xs) ys
   count_by_test true n m xs ys dropped kept_bytes = dropped
   count_by_test false n m xs ys dropped kept_bytes = kept_bytes
 
@@ -144,11 +161,15 @@ module _ (limit : ℕ) where
   count_after-append n (x ∷ xs) ys =
       count_by_test (is_dropped limit n x) n (next_count n x) xs ys (count_after-append n xs ys) (count_after-append (next_count n x) xs ys)
 
-  pub half-one_more : (h : List Role) (r : Role) → half_of limit (h ++ r ∷ []) ≡ (if is_dropped limit (count_of limit h) r then half_of limit h else half_after (half_of limit h) r)
-  half-one_more h r = ap (λ x. kept_bytes (pieces_of x).last) (admitted_after-append 0 h (r ∷ [])) ∙ half_by_test (is_dropped limit (count_of limit h) r) (admitted_roles limit h) r
+  pub half-one_more : (h : List Role) (r : Role) → half_of limit (h ++ r ∷ [])
+      ≡ (if is_dropped limit (count_of limit h) r then half_of limit h else half_after (half_of limit h) r)
+  half-one_more h r = ap (λ x. kept_bytes (pieces_of x).last) (admitted_after-append 0 h (r ∷ []))
+      ∙ half_by_test (is_dropped limit (count_of limit h) r) (admitted_roles limit h) r
 
-  pub entries-one_more : (h : List Role) (r : Role) → entries_of limit (h ++ r ∷ []) ≡ entries_of limit h ++ (if is_dropped limit (count_of limit h) r then [] else gain_after (half_of limit h) r)
-  entries-one_more h r = ap (λ x. entries_in (pieces_of x)) (admitted_after-append 0 h (r ∷ [])) ∙ entries_by_test (is_dropped limit (count_of limit h) r) (admitted_roles limit h) r
+  pub entries-one_more : (h : List Role) (r : Role) → entries_of limit (h ++ r ∷ []) ≡ entries_of limit h
+      ++ (if is_dropped limit (count_of limit h) r then [] else gain_after (half_of limit h) r)
+  entries-one_more h r = ap (λ x. entries_in (pieces_of x)) (admitted_after-append 0 h (r ∷ []))
+      ∙ entries_by_test (is_dropped limit (count_of limit h) r) (admitted_roles limit h) r
 
   -- The count is the length of the half line: said of the keys from the last to the first.
   length_backwards : (back : List Role) → length (half_of limit (reverse back)) ≡ count_of limit (reverse back)
@@ -157,7 +178,8 @@ module _ (limit : ℕ) where
       let more : reverse (r ∷ back) ≡ reverse back ++ r ∷ [] = reverse-append (r ∷ []) back in
       ap (λ h. length (half_of limit h)) more
       ∙ ap length (half-one_more (reverse back) r)
-      ∙ length_by_test (is_dropped limit (count_of limit (reverse back)) r) (half_of limit (reverse back)) (count_of limit (reverse back)) r (length_backwards back)
+      ∙ length_by_test (is_dropped limit (count_of limit (reverse back)) r) (half_of limit (reverse back)) (count_of limit (reverse back)) r
+      (length_backwards back)
       ∙ sym (count_after-append 0 (reverse back) (r ∷ []))
       ∙ ap (count_after limit 0) (sym more)
 
@@ -170,7 +192,8 @@ module _ (limit : ℕ) where
   half-next h r = half-one_more h r ∙ ap (λ n. if is_dropped limit n r then half_of limit h else half_after (half_of limit h) r) (sym (length-half_of h))
 
   pub entries-next : (h : List Role) (r : Role) → entries_of limit (h ++ r ∷ []) ≡ entries_of limit h ++ gain_next limit (half_of limit h) r
-  entries-next h r = entries-one_more h r ∙ ap (λ n. entries_of limit h ++ (if is_dropped limit n r then [] else gain_after (half_of limit h) r)) (sym (length-half_of h))
+  entries-next h r = entries-one_more h r ∙ ap (λ n. entries_of limit h ++ (if is_dropped limit n r then [] else gain_after (half_of limit h) r))
+      (sym (length-half_of h))
 
   -- a half line fits
   fits_by_test : (b : Bool) (n : ℕ) (r : Role) → (is_dropped limit n r ≡ b) → n ≤ max_counted limit → (if b then n else next_count n r) ≤ max_counted limit
@@ -178,7 +201,9 @@ module _ (limit : ℕ) where
   fits_by_test false n (role.Ordinary byte) e h = grind arith
   fits_by_test false n _ e h = omega arith
 
-  fits_both : (b : Bool) (n : ℕ) (r : Role) (h : List Role) → (is_dropped limit n r ≡ b) → count_after limit n h ≤ max_counted limit → (next_count n r ≤ max_counted limit → count_after limit (next_count n r) h ≤ max_counted limit) → n ≤ max_counted limit → (if b then count_after limit n h else count_after limit (next_count n r) h) ≤ max_counted limit
+  fits_both : (b : Bool) (n : ℕ) (r : Role) (h : List Role) → (is_dropped limit n r ≡ b) → count_after limit n h ≤ max_counted limit
+      → (next_count n r ≤ max_counted limit → count_after limit (next_count n r) h ≤ max_counted limit) → n ≤ max_counted limit
+      → (if b then count_after limit n h else count_after limit (next_count n r) h) ≤ max_counted limit
   fits_both true n r h e same more small = same
   fits_both false n r h e same more small = more (fits_by_test false n r e small)
 

@@ -53,7 +53,8 @@ roles_of-append settings xs ys =
     ∙ map-append (role_of_mapped settings) (filter_map (mapped_key settings.flags) xs) (filter_map (mapped_key settings.flags) ys)
 
 -- the roles of one more key
-pub roles_of-push : (settings : Settings) (keys : List ℕ) (key : ℕ) → roles_of settings (keys ++ key ∷ []) ≡ roles_of settings keys ++ roles_from (role_of_key settings key)
+pub roles_of-push : (settings : Settings) (keys : List ℕ) (key : ℕ)
+    → roles_of settings (keys ++ key ∷ []) ≡ roles_of settings keys ++ roles_from (role_of_key settings key)
 roles_of-push settings keys key =
     roles_of-append settings keys (key ∷ []) ∙ ap (λ roles. roles_of settings keys ++ roles) (sym (roles_of-one settings key))
 

@@ -1,5 +1,6 @@
 -- What each role does to a line, whatever keys led to it.
-use Rattle.std.proofs.Common.{◌≡◌, ◌<◌, ◌≤◌, ℕ, ◌+◌, ◌-◌, min, Bool, true, false, List, [], ◌∷◌, ◌++◌, length, take, refl, sym, ap, subst, ◌∙◌, if◌then◌else◌, arith, append-nil, append_assoc, length-append, length-take}
+use Rattle.std.proofs.Common.{◌≡◌, ◌<◌, ◌≤◌, ℕ, ◌+◌, ◌-◌, min, Bool, true, false, List, [], ◌∷◌, ◌++◌, length, take, refl, sym, ap, subst, ◌∙◌, if◌then◌else◌}
+use Rattle.std.proofs.Common.{arith, append-nil, append_assoc, length-append, length-take}
 use Rattle.std.proofs.Math.Seq.{take-append-add}
 use borrow.Author.Tests.{ltb-true, ltb-false}
 use Rattle.std.proofs.lemmas.Bool.{lt-ltb}
@@ -13,7 +14,8 @@ use Rattle.tn_discipline.specs.Admitted.{is_dropped, admitted_roles, count_after
 use Rattle.tn_discipline.specs.Entries.{line_of, entries_of, half_of}
 use Rattle.tn_discipline.specs.Steps.{front, half_after, gain_after}
 use Rattle.tn_discipline.specs.Keys.{roles_from}
-use Rattle.tn_discipline.specs.HalfLine.{HalfLine, empty_line, line_length, line_released, line_resumed, line_erased, is_full, has_held, has_ahead, effect_of, line_after, effect_entries}
+use Rattle.tn_discipline.specs.HalfLine.{HalfLine, empty_line, line_length, line_released, line_resumed, line_erased, is_full, has_held, has_ahead, effect_of}
+use Rattle.tn_discipline.specs.HalfLine.{line_after, effect_entries}
 use Rattle.tn_discipline.specs.Advancing.{LeadsTo, Advances, DropsExactly, KeepsHalf, LeadsWhereLong}
 use Rattle.tn_discipline.proofs.lemmas.Histories.{half-one_more, entries-one_more, length-half_of, admitted_after-append, count_after-append}
 
@@ -33,7 +35,8 @@ half_at : (history : List Role) (line : HalfLine) → LeadsTo history line → l
 half_at history line leads none = leads.bytes ∙ ap (λ sent. sent ++ line.held) (empty_of leads.sent (leads.count ∙ none))
 
 -- whether a key is dropped is seen at the line
-dropped_at : (history : List Role) (line : HalfLine) (r : Role) (b : Bool) → LeadsTo history line → is_dropped line.limit (line_length line) r ≡ b → is_dropped line.limit (count_of line.limit history) r ≡ b
+dropped_at : (history : List Role) (line : HalfLine) (r : Role) (b : Bool) → LeadsTo history line → is_dropped line.limit (line_length line) r ≡ b
+    → is_dropped line.limit (count_of line.limit history) r ≡ b
 dropped_at history line r b leads test = ap (λ n. is_dropped line.limit n r) (count_at history line leads) ∙ test
 
 -- these bytes are as many as are ahead, and then those that are held
@@ -41,7 +44,9 @@ abbrev Parts : List ℕ → HalfLine → Type 0
 Parts whole line = (sent : List ℕ) × (length sent ≡ line.ahead) × (whole ≡ sent ++ line.held)
 
 -- an admitted key
-advances_by : (old new : HalfLine) (r : Role) (gain : List Entry) → is_dropped old.limit (line_length old) r ≡ false → ((sent : List ℕ) → length sent ≡ old.ahead → Parts (half_after (sent ++ old.held) r) new) → gain ≡ gain_after old.held r → new.ahead ≤ old.ahead → new.limit ≡ old.limit → Advances old (r ∷ []) gain new
+advances_by : (old new : HalfLine) (r : Role) (gain : List Entry) → is_dropped old.limit (line_length old) r ≡ false
+    → ((sent : List ℕ) → length sent ≡ old.ahead → Parts (half_after (sent ++ old.held) r) new) → gain ≡ gain_after old.held r → new.ahead ≤ old.ahead
+    → new.limit ≡ old.limit → Advances old (r ∷ []) gain new
 advances_by old new r gain test step gives fewer same =
     record {
       half = λ history leads.
@@ -52,13 +57,15 @@ advances_by old new r gain test step gives fewer same =
             bytes =
                 ap (λ n. half_of n (history ++ r ∷ [])) same
                 ∙ half-one_more old.limit history r
-                ∙ ap (λ (b : Bool). if b then half_of old.limit history else half_after (half_of old.limit history) r) (dropped_at history old r false leads test)
+                ∙ ap (λ (b : Bool). if b then half_of old.limit history else half_after (half_of old.limit history) r)
+                (dropped_at history old r false leads test)
                 ∙ ap (λ half. half_after half r) leads.bytes
                 ∙ parts.2;
           };
       entries = λ history leads none.
           entries-one_more old.limit history r
-          ∙ ap (λ (b : Bool). entries_of old.limit history ++ (if b then [] else gain_after (half_of old.limit history) r)) (dropped_at history old r false leads test)
+          ∙ ap (λ (b : Bool). entries_of old.limit history ++ (if b then [] else gain_after (half_of old.limit history) r))
+          (dropped_at history old r false leads test)
           ∙ ap (λ held. entries_of old.limit history ++ gain_after held r) (half_at history old leads none)
           ∙ ap (λ es. entries_of old.limit history ++ es) (sym gives);
       ahead = fewer;
@@ -79,7 +86,8 @@ advances_none old r test =
       };
       entries = λ history leads none.
           entries-one_more old.limit history r
-          ∙ ap (λ (b : Bool). entries_of old.limit history ++ (if b then [] else gain_after (half_of old.limit history) r)) (dropped_at history old r true leads test);
+          ∙ ap (λ (b : Bool). entries_of old.limit history ++ (if b then [] else gain_after (half_of old.limit history) r))
+          (dropped_at history old r true leads test);
       ahead = omega arith;
       limit = refl;
     }
@@ -95,11 +103,14 @@ advances_nothing old =
     }
 
 -- a key that leaves nothing
-advances_empty : (old : HalfLine) (r : Role) (gain : List Entry) → is_dropped old.limit (line_length old) r ≡ false → ((half : List ℕ) → half_after half r ≡ []) → gain ≡ gain_after old.held r → Advances old (r ∷ []) gain (empty_line old.limit)
+advances_empty : (old : HalfLine) (r : Role) (gain : List Entry) → is_dropped old.limit (line_length old) r ≡ false → ((half : List ℕ) → half_after half r ≡ [])
+    → gain ≡ gain_after old.held r → Advances old (r ∷ []) gain (empty_line old.limit)
 advances_empty old r gain test empties gives =
     advances_by old (empty_line old.limit) r gain test (λ sent count. ([], refl, empties (sent ++ old.held))) gives (omega arith) refl
 
-ordinary_by : (old : HalfLine) (byte : ℕ) (full : Bool) → is_full old ≡ full → Advances old (role.Ordinary byte ∷ []) (effect_entries (if full then effect.Dropped else effect.Kept)) (if full then old else record old { held = old.held ++ byte ∷ [] })
+ordinary_by : (old : HalfLine) (byte : ℕ) (full : Bool) → is_full old ≡ full
+    → Advances old (role.Ordinary byte ∷ []) (effect_entries (if full then effect.Dropped else effect.Kept))
+    (if full then old else record old { held = old.held ++ byte ∷ [] })
 ordinary_by old byte true test = advances_none old (role.Ordinary byte) test
 ordinary_by old byte false test =
     advances_by old (record old { held = old.held ++ byte ∷ [] }) (role.Ordinary byte) [] test
@@ -111,7 +122,8 @@ front_of sent held some =
     let count : length (sent ++ held) - 1 ≡ length sent + (length held - 1) = omega (arith, length-append sent held) in
     ap (λ n. take n (sent ++ held)) count ∙ take-append-add sent held (length held - 1)
 
-erase_by : (old : HalfLine) (some : Bool) → has_held old ≡ some → Advances old (role.Erase ∷ []) [] (if some then record old { held = front old.held } else record old { held = []; ahead = old.ahead - 1 })
+erase_by : (old : HalfLine) (some : Bool) → has_held old ≡ some →
+    Advances old (role.Erase ∷ []) [] (if some then record old { held = front old.held } else record old { held = []; ahead = old.ahead - 1 })
 erase_by old true test =
     advances_by old (record old { held = front old.held }) role.Erase [] refl
     (λ sent count. (sent, count, front_of sent old.held (ltb-true 0 (length old.held) test))) refl (omega arith) refl
@@ -152,11 +164,14 @@ longer : (xs : List Role) (r : Role) → xs ++ r ∷ [] ≡ xs → ⊥
 longer xs r e = omega (arith, ap length e, length-append xs (r ∷ []))
 
 -- what is admitted after one more key, by whether it is dropped
-admitted_at : (line : HalfLine) (r : Role) (b : Bool) (history : List Role) → is_dropped line.limit (line_length line) r ≡ b → LeadsTo history line → admitted_roles line.limit (history ++ r ∷ []) ≡ admitted_roles line.limit history ++ (if b then [] else r ∷ [])
+admitted_at : (line : HalfLine) (r : Role) (b : Bool) (history : List Role) → is_dropped line.limit (line_length line) r ≡ b → LeadsTo history line
+    → admitted_roles line.limit (history ++ r ∷ []) ≡ admitted_roles line.limit history ++ (if b then [] else r ∷ [])
 admitted_at line r b history test leads =
-    admitted_after-append line.limit 0 history (r ∷ []) ∙ ap (λ (b : Bool). admitted_roles line.limit history ++ (if b then [] else r ∷ [])) (dropped_at history line r b leads test)
+    admitted_after-append line.limit 0 history (r ∷ []) ∙ ap (λ (b : Bool). admitted_roles line.limit history ++ (if b then [] else r ∷ []))
+    (dropped_at history line r b leads test)
 
-drops_never : (line : HalfLine) (r : Role) (e : Effect) → is_dropped line.limit (line_length line) r ≡ false → (e ≡ effect.Dropped → ⊥) → DropsExactly line (r ∷ []) e
+drops_never : (line : HalfLine) (r : Role) (e : Effect) → is_dropped line.limit (line_length line) r ≡ false → (e ≡ effect.Dropped → ⊥)
+    → DropsExactly line (r ∷ []) e
 drops_never line r e test other history leads = (
   λ same. absurd (other same),
   λ p. absurd (longer (admitted_roles line.limit history) r (sym (admitted_at line r false history test leads) ∙ p.1)),
@@ -165,7 +180,8 @@ drops_never line r e test other history leads = (
 drops_nothing : (line : HalfLine) (e : Effect) → (e ≡ effect.Dropped → ⊥) → DropsExactly line [] e
 drops_nothing line e other history leads = (λ same. absurd (other same), λ p. absurd (omega (arith, p.0)))
 
-drops_by : (line : HalfLine) (byte : ℕ) (full : Bool) → is_full line ≡ full → DropsExactly line (role.Ordinary byte ∷ []) (if full then effect.Dropped else effect.Kept)
+drops_by : (line : HalfLine) (byte : ℕ) (full : Bool) → is_full line ≡ full
+    → DropsExactly line (role.Ordinary byte ∷ []) (if full then effect.Dropped else effect.Kept)
 drops_by line byte true test history leads = (
   λ same. (omega arith, admitted_at line (role.Ordinary byte) true history test leads ∙ append-nil (admitted_roles line.limit history)),
   λ p. refl,
@@ -203,17 +219,21 @@ pub resumed_leads : (limit ahead : ℕ) → LeadsWhereLong limit ahead (line_res
 resumed_leads limit ahead history long = record { sent = half_of limit history; count = long; bytes = sym (append-nil (half_of limit history)) }
 
 -- the plain count after one more key
-pub count_more : (limit : ℕ) (history : List Role) (r : Role) → length (half_of limit (history ++ roles_from r)) ≡ count_after limit (length (half_of limit history)) (roles_from r)
+pub count_more : (limit : ℕ) (history : List Role) (r : Role) → length (half_of limit (history ++ roles_from r))
+    ≡ count_after limit (length (half_of limit history)) (roles_from r)
 count_more limit history r =
     length-half_of limit (history ++ roles_from r) ∙ count_after-append limit 0 history (roles_from r)
     ∙ ap (λ n. count_after limit n (roles_from r)) (sym (length-half_of limit history))
 
 -- what a key leaves ahead is what was, but no more than it leaves of the line
-kept_least : (line : HalfLine) (byte : ℕ) (full : Bool) → (if full then line else record line { held = line.held ++ byte ∷ [] }).ahead ≡ min (line_length (if full then line else record line { held = line.held ++ byte ∷ [] })) line.ahead
+kept_least : (line : HalfLine) (byte : ℕ) (full : Bool) → (if full then line else record line { held = line.held ++ byte ∷ [] }).ahead
+    ≡ min (line_length (if full then line else record line { held = line.held ++ byte ∷ [] })) line.ahead
 kept_least line byte true = omega arith
 kept_least line byte false = omega arith
 
-erased_least : (line : HalfLine) (some : Bool) → (if some then record line { held = front line.held } else record line { held = []; ahead = line.ahead - 1 }).ahead ≡ min (line_length (if some then record line { held = front line.held } else record line { held = []; ahead = line.ahead - 1 })) line.ahead
+erased_least : (line : HalfLine) (some : Bool) → (if some then record line { held = front line.held }
+    else record line { held = []; ahead = line.ahead - 1 }).ahead
+    ≡ min (line_length (if some then record line { held = front line.held } else record line { held = []; ahead = line.ahead - 1 })) line.ahead
 erased_least line true = omega arith
 erased_least line false = omega arith
 
@@ -231,7 +251,8 @@ after_least line role.Kill = omega arith
 -- an erasure takes back the byte that was kept last
 pub kept_erased : (line : HalfLine) (byte : ℕ) → line_erased (record line { held = line.held ++ byte ∷ [] }) ≡ line
 kept_erased line byte =
-    let some : has_held (record line { held = line.held ++ byte ∷ [] }) ≡ true = lt-ltb 0 (length (line.held ++ byte ∷ [])) (omega (arith, length-append line.held (byte ∷ []))) in
+    let some : has_held (record line { held = line.held ++ byte ∷ [] }) ≡ true =
+    lt-ltb 0 (length (line.held ++ byte ∷ [])) (omega (arith, length-append line.held (byte ∷ []))) in
     let last : front (line.held ++ byte ∷ []) ≡ line.held = front_of line.held (byte ∷ []) (omega arith) ∙ append-nil line.held in
     ap (λ (t : Bool). if t then record line { held = front (line.held ++ byte ∷ []) } else record line { held = []; ahead = line.ahead - 1 }) some
     ∙ ap (λ (held : List ℕ). record line { held = held }) last

@@ -1,5 +1,6 @@
 -- Each half line that fits a line is left by some keys.
-use Rattle.std.proofs.Common.{◌≡◌, ℕ, ◌+◌, ◌<◌, ◌==◌, Bool, false, List, [], ◌∷◌, ◌++◌, length, map, reverse, refl, sym, ap, subst, ◌∙◌, if◌then◌else◌, arith, length-append}
+use Rattle.std.proofs.Common.{◌≡◌, ℕ, ◌+◌, ◌<◌, ◌==◌, Bool, false, List, [], ◌∷◌, ◌++◌, length, map, reverse, refl, sym, ap, subst, ◌∙◌, if◌then◌else◌, arith}
+use Rattle.std.proofs.Common.{length-append}
 use Rattle.std.specs.Prelude.{replicate}
 use Rattle.std.proofs.lemmas.List.{reverse-append, reverse-reverse, length-reverse, length-replicate, map-append}
 use Rattle.tn_discipline.specs.HalfLine.{HalfLine, line_length}
@@ -18,10 +19,12 @@ typed bytes = map (λ b. role.Ordinary b) bytes
 not_full : (n limit : ℕ) → n + 1 < limit → (n == max_counted limit) ≡ false
 not_full n limit h = grind arith
 
-one_more : (limit : ℕ) (history : List Role) (bytes : List ℕ) (b : ℕ) → half_of limit history ≡ bytes → length bytes + 1 < limit → half_of limit (history ++ role.Ordinary b ∷ []) ≡ bytes ++ b ∷ []
+one_more : (limit : ℕ) (history : List Role) (bytes : List ℕ) (b : ℕ) → half_of limit history ≡ bytes → length bytes + 1 < limit
+    → half_of limit (history ++ role.Ordinary b ∷ []) ≡ bytes ++ b ∷ []
 one_more limit history bytes b leads fits =
     half-one_more limit history (role.Ordinary b)
-    ∙ ap (λ (t : Bool). if t then half_of limit history else half_of limit history ++ b ∷ []) (not_full (count_of limit history) limit (omega (arith, length-half_of limit history, ap length leads)))
+    ∙ ap (λ (t : Bool). if t then half_of limit history else half_of limit history ++ b ∷ [])
+    (not_full (count_of limit history) limit (omega (arith, length-half_of limit history, ap length leads)))
     ∙ ap (λ half. half ++ b ∷ []) leads
 
 backwards : (limit : ℕ) (back : List ℕ) → length back < limit → half_of limit (typed (reverse back)) ≡ reverse back
@@ -34,7 +37,8 @@ backwards limit (b ∷ back) fits =
     ∙ sym more
 
 pub forwards : (limit : ℕ) (bytes : List ℕ) → length bytes < limit → half_of limit (typed bytes) ≡ bytes
-forwards limit bytes fits = subst (λ xs. half_of limit (typed xs) ≡ xs) (reverse-reverse bytes) (backwards limit (reverse bytes) (omega (arith, length-reverse bytes)))
+forwards limit bytes fits = subst (λ xs. half_of limit (typed xs) ≡ xs) (reverse-reverse bytes)
+    (backwards limit (reverse bytes) (omega (arith, length-reverse bytes)))
 
 pub every_line_is_left : (line : HalfLine) → line_length line < line.limit → (history : List Role) × LeadsTo history line
 every_line_is_left line fits =

@@ -1,5 +1,6 @@
 -- Keys, one after another.
-use Rattle.std.proofs.Common.{◌≡◌, ◌<◌, ◌≤◌, ℕ, ◌+◌, ◌-◌, min, Bool, true, false, List, [], ◌∷◌, ◌++◌, length, take, drop, refl, sym, ap, subst, ◌∙◌, if◌then◌else◌, arith, append-nil, append_assoc, length-append, length-take}
+use Rattle.std.proofs.Common.{◌≡◌, ◌<◌, ◌≤◌, ℕ, ◌+◌, ◌-◌, min, Bool, true, false, List, [], ◌∷◌, ◌++◌, length, take, drop, refl, sym, ap, subst, ◌∙◌}
+use Rattle.std.proofs.Common.{if◌then◌else◌, arith, append-nil, append_assoc, length-append, length-take}
 use Rattle.std.proofs.lemmas.List.{map-append, take-append-drop}
 use Rattle.tn_discipline.specs.declared.keys.Role.{Role}
 use Rattle.tn_discipline.specs.declared.keys.Role.TheVariants as role
@@ -16,7 +17,8 @@ use Rattle.tn_discipline.proofs.lemmas.KeyRoles.{roles_of-append, roles_of-one}
 use Rattle.tn_discipline.proofs.lemmas.Lines.{advances, advances_nothing}
 
 -- two steps are one
-pub advances_both : (old mid new : HalfLine) (xs ys : List Role) (gain more : List Entry) → Advances old xs gain mid → Advances mid ys more new → Advances old (xs ++ ys) (gain ++ more) new
+pub advances_both : (old mid new : HalfLine) (xs ys : List Role) (gain more : List Entry) → Advances old xs gain mid → Advances mid ys more new
+    → Advances old (xs ++ ys) (gain ++ more) new
 advances_both old mid new xs ys gain more a b =
     record {
       half = λ history leads. subst (λ h. LeadsTo h new) (append_assoc history xs ys) (b.half (history ++ xs) (a.half history leads));
@@ -33,7 +35,8 @@ advances_both old mid new xs ys gain more a b =
     }
 
 -- what typed keys do, one after another, is what the whole lists of keys say
-pub keys_advance : (settings : Settings) (keys : List ℕ) (line : HalfLine) → Advances line (roles_of settings keys) (gains_from line (each_role settings keys)) (line_after_all line (each_role settings keys))
+pub keys_advance : (settings : Settings) (keys : List ℕ) (line : HalfLine)
+    → Advances line (roles_of settings keys) (gains_from line (each_role settings keys)) (line_after_all line (each_role settings keys))
 keys_advance settings [] line = advances_nothing line
 keys_advance settings (key ∷ keys) line =
     let r = role_of_key settings key in
@@ -61,8 +64,10 @@ pub ordinary_advance : (bytes : List ℕ) (line : HalfLine) → Advances line (o
 ordinary_advance [] line = advances_nothing line
 ordinary_advance (byte ∷ bytes) line =
     let next = line_after line (role.Ordinary byte) in
-    let one : Advances line (role.Ordinary byte ∷ []) [] next = subst (λ gain. Advances line (role.Ordinary byte ∷ []) gain next) (ordinary_gains line byte) (advances line (role.Ordinary byte)) in
-    advances_both line next (line_after_all next (ordinary_roles bytes)) (role.Ordinary byte ∷ []) (ordinary_roles bytes) [] [] one (ordinary_advance bytes next)
+    let one : Advances line (role.Ordinary byte ∷ []) [] next = subst (λ gain. Advances line (role.Ordinary byte ∷ []) gain next) (ordinary_gains line byte)
+    (advances line (role.Ordinary byte)) in
+    advances_both line next (line_after_all next (ordinary_roles bytes)) (role.Ordinary byte ∷ []) (ordinary_roles bytes) [] [] one
+    (ordinary_advance bytes next)
 
 -- the line has room
 pub not_full : (line : HalfLine) → line_length line < max_counted line.limit → is_full line ≡ false
@@ -73,11 +78,13 @@ pub is_filled : (line : HalfLine) → line_length line ≡ max_counted line.limi
 is_filled line h = grind arith
 
 -- a byte that fits is kept
-pub one_kept : (line : HalfLine) (byte : ℕ) → line_length line < max_counted line.limit → line_after line (role.Ordinary byte) ≡ record line { held = line.held ++ byte ∷ [] }
+pub one_kept : (line : HalfLine) (byte : ℕ) → line_length line < max_counted line.limit
+    → line_after line (role.Ordinary byte) ≡ record line { held = line.held ++ byte ∷ [] }
 one_kept line byte fits = ap (λ (t : Bool). if t then line else record line { held = line.held ++ byte ∷ [] }) (not_full line fits)
 
 -- bytes that fit are kept
-pub all_kept : (bytes : List ℕ) (line : HalfLine) → line_length line + length bytes ≤ max_counted line.limit → line_after_all line (ordinary_roles bytes) ≡ record line { held = line.held ++ bytes }
+pub all_kept : (bytes : List ℕ) (line : HalfLine) → line_length line + length bytes ≤ max_counted line.limit
+    → line_after_all line (ordinary_roles bytes) ≡ record line { held = line.held ++ bytes }
 all_kept [] line fits = ap (λ (held : List ℕ). record line { held = held }) (sym (append-nil line.held))
 all_kept (byte ∷ bytes) line fits =
     let mid = record line { held = line.held ++ byte ∷ [] } in
@@ -89,19 +96,23 @@ all_kept (byte ∷ bytes) line fits =
 pub all_dropped : (bytes : List ℕ) (line : HalfLine) → line_length line ≡ max_counted line.limit → line_after_all line (ordinary_roles bytes) ≡ line
 all_dropped [] line full = refl
 all_dropped (byte ∷ bytes) line full =
-    ap (λ (l : HalfLine). line_after_all l (ordinary_roles bytes)) (ap (λ (t : Bool). if t then line else record line { held = line.held ++ byte ∷ [] }) (is_filled line full))
+    ap (λ (l : HalfLine). line_after_all l (ordinary_roles bytes))
+    (ap (λ (t : Bool). if t then line else record line { held = line.held ++ byte ∷ [] }) (is_filled line full))
     ∙ all_dropped bytes line full
 
-rest_dropped : (line : HalfLine) (rest : List ℕ) → (0 < length rest → line_length line ≡ max_counted line.limit) → line_after_all line (ordinary_roles rest) ≡ line
+rest_dropped : (line : HalfLine) (rest : List ℕ) → (0 < length rest → line_length line ≡ max_counted line.limit)
+    → line_after_all line (ordinary_roles rest) ≡ line
 rest_dropped line [] full = refl
 rest_dropped line (byte ∷ rest) full = all_dropped (byte ∷ rest) line (full (omega arith))
 
 -- as many as fit are kept, and the others are dropped
-pub front_kept : (line : HalfLine) (bytes : List ℕ) (n : ℕ) → n ≡ min (max_counted line.limit - line_length line) (length bytes) → line_length line ≤ max_counted line.limit → line_after_all line (ordinary_roles bytes) ≡ record line { held = line.held ++ take n bytes }
+pub front_kept : (line : HalfLine) (bytes : List ℕ) (n : ℕ) → n ≡ min (max_counted line.limit - line_length line) (length bytes)
+    → line_length line ≤ max_counted line.limit → line_after_all line (ordinary_roles bytes) ≡ record line { held = line.held ++ take n bytes }
 front_kept line bytes n is fits =
     let mid = record line { held = line.held ++ take n bytes } in
     let front = length-take n bytes in
-    let whole : length bytes ≡ length (take n bytes) + length (drop n bytes) = ap length (sym (take-append-drop n bytes)) ∙ length-append (take n bytes) (drop n bytes) in
+    let whole : length bytes ≡ length (take n bytes) + length (drop n bytes) =
+    ap length (sym (take-append-drop n bytes)) ∙ length-append (take n bytes) (drop n bytes) in
     let long = length-append line.held (take n bytes) in
     ap (λ bs. line_after_all line (ordinary_roles bs)) (sym (take-append-drop n bytes))
     ∙ ap (line_after_all line) (map-append (λ b. role.Ordinary b) (take n bytes) (drop n bytes))

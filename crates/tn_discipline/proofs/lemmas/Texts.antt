@@ -32,7 +32,8 @@ module _ (limit : ℕ) (some : 1 ≤ limit) where
   gain_fits half role.Eof few = alone (line_of half) (line_fits half (omega (arith, few)))
   gain_fits half _ few = All-nil (HasAtMost limit)
 
-  fits_unless : (dropped : Bool) (half : List ℕ) (r : Role) → length half ≤ max_counted limit → All (HasAtMost limit) (if dropped then [] else gain_after half r)
+  fits_unless : (dropped : Bool) (half : List ℕ) (r : Role) → length half ≤ max_counted limit
+      → All (HasAtMost limit) (if dropped then [] else gain_after half r)
   fits_unless true half r few = All-nil (HasAtMost limit)
   fits_unless false half r few = gain_fits half r few
 

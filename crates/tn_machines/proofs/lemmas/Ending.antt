@@ -21,10 +21,14 @@ pub moves_as : (was : Ended) (By : Ended → Type 0) (e d : Ended) → d ≡ e �
 moves_as was By e d is moves = subst (λ (x : Ended). Moves was By x) (sym is) moves
 
 -- after something by which another end would count, had none come
-pub moves_first : (was : Ended) (By : Ended → Type 0) (a e : Ended) (f : SessionFault) → e ≡ first_end a (Fault f) → Moves was By a → By (Fault f) → Moves was By e
-moves_first was By a e f is before why = ⊎_elim (λ s. moves_as was By a e (is ∙ s) before) (λ s. moves_as was By (Fault f) e (is ∙ s) (inr why)) (first_cases a (Fault f))
+pub moves_first : (was : Ended) (By : Ended → Type 0) (a e : Ended) (f : SessionFault) → e ≡ first_end a (Fault f) → Moves was By a → By (Fault f)
+    → Moves was By e
+moves_first was By a e f is before why = ⊎_elim (λ s. moves_as was By a e (is ∙ s) before) (λ s. moves_as was By (Fault f) e (is ∙ s) (inr why))
+    (first_cases a (Fault f))
 
-pub run_moves : {S M : Type 0} (Steps : S → M → S → Type 0) (EndsBy : S → M → Ended → Type 0) (ended_of : S → Ended) → ((c new : S) (m : M) → Steps c m new → Moves (ended_of c) (EndsBy c m) (ended_of new)) → (all : List M) (c new : S) → FoldsTo Steps c all new → Moves (ended_of c) (IsEndedAt Steps EndsBy c all) (ended_of new)
+pub run_moves : {S M : Type 0} (Steps : S → M → S → Type 0) (EndsBy : S → M → Ended → Type 0) (ended_of : S → Ended)
+    → ((c new : S) (m : M) → Steps c m new → Moves (ended_of c) (EndsBy c m) (ended_of new)) → (all : List M) (c new : S) → FoldsTo Steps c all new
+    → Moves (ended_of c) (IsEndedAt Steps EndsBy c all) (ended_of new)
 run_moves Steps EndsBy ended_of one [] c new f = inl (ap ended_of (sym f))
 run_moves {S} {M} Steps EndsBy ended_of one (m ∷ all) c new f =
     ⊎_elim
@@ -49,9 +53,12 @@ run_moves {S} {M} Steps EndsBy ended_of one (m ∷ all) c new f =
     (run_moves Steps EndsBy ended_of one all f.0 new f.2)
 
 -- where none had come, a fault came by one of the messages
-pub fault_came : {S M : Type 0} (Steps : S → M → S → Type 0) (EndsBy : S → M → Ended → Type 0) (ended_of : S → Ended) → ((c new : S) (m : M) → Steps c m new → Moves (ended_of c) (EndsBy c m) (ended_of new)) → (all : List M) (c new : S) (f : SessionFault) → FoldsTo Steps c all new → ended_of c ≡ HangUp → ended_of new ≡ Fault f → IsEndedAt Steps EndsBy c all (Fault f)
+pub fault_came : {S M : Type 0} (Steps : S → M → S → Type 0) (EndsBy : S → M → Ended → Type 0) (ended_of : S → Ended)
+    → ((c new : S) (m : M) → Steps c m new → Moves (ended_of c) (EndsBy c m) (ended_of new)) → (all : List M) (c new : S) (f : SessionFault)
+    → FoldsTo Steps c all new → ended_of c ≡ HangUp → ended_of new ≡ Fault f → IsEndedAt Steps EndsBy c all (Fault f)
 fault_came Steps EndsBy ended_of one all c new f runs none e =
-    ⊎_elim (λ s. absurd (no_fault (sym e ∙ (s ∙ none)))) (λ r. subst (λ (x : Ended). IsEndedAt Steps EndsBy c all x) e r) (run_moves Steps EndsBy ended_of one all c new runs)
+    ⊎_elim (λ s. absurd (no_fault (sym e ∙ (s ∙ none)))) (λ r. subst (λ (x : Ended). IsEndedAt Steps EndsBy c all x) e r)
+    (run_moves Steps EndsBy ended_of one all c new runs)
   where
     no_fault : Fault f ≡ HangUp → ⊥
     no_fault e = cc

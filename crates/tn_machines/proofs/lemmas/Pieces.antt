@@ -13,14 +13,16 @@ use Rattle.tn_nvt.specs.declared.items.Item.{Item}
 use Rattle.tn_wire.specs.Prefixes.{IsRead}
 
 -- the items of the whole piece go on from those of its front
-pub read_on : (stream piece front back : List ℕ) (had done left : List Item) → All (λ b. b < 256) stream → All (λ b. b < 256) piece → piece ≡ front ++ back → IsRead (stream ++ front) (had ++ (done ++ left)) → (more : List Item) × IsRead (stream ++ piece) (had ++ (done ++ (left ++ more)))
+pub read_on : (stream piece front back : List ℕ) (had done left : List Item) → All (λ b. b < 256) stream → All (λ b. b < 256) piece → piece ≡ front ++ back
+    → IsRead (stream ++ front) (had ++ (done ++ left)) → (more : List Item) × IsRead (stream ++ piece) (had ++ (done ++ (left ++ more)))
 read_on stream piece front back had done left known small whole before =
     let all = has_reading (stream ++ piece) (All-append (λ b. b < 256) stream piece known small) in
     let split : stream ++ piece ≡ (stream ++ front) ++ back = ap (λ (bs : List ℕ). stream ++ bs) whole ∙ sym (append_assoc stream front back) in
     let P : List ℕ → Type 0 = λ bs. Reading bs all.0 all.1 in
     let on_from = reads_on (stream ++ front) back before.0 all.1 (had ++ (done ++ left)) all.0 before.1 (subst P split all.2) in
     let more : List Item = on_from.0 in
-    let is_all : all.0 ≡ had ++ (done ++ (left ++ more)) = on_from.1 ∙ append_assoc had (done ++ left) more ∙ ap (λ (ys : List Item). had ++ ys) (append_assoc done left more) in
+    let is_all : all.0 ≡ had ++ (done ++ (left ++ more)) = on_from.1 ∙ append_assoc had (done ++ left) more
+    ∙ ap (λ (ys : List Item). had ++ ys) (append_assoc done left more) in
     let Q : List Item → Type 0 = λ ys. Reading (stream ++ piece) ys all.1 in
     (more, (all.1, subst Q is_all all.2))
 

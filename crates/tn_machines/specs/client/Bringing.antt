@@ -66,8 +66,8 @@ abbrev pub brought : Origin → List Told → List ℕ
 brought side all_told = flat_map (λ told. brought_from side told.from told.message) all_told
 
 -- What was typed is a prefix of what the messages brought of it, keys and commands in their order, and the
--- history's items those of a prefix of the bytes from the network; both are all of it as long as the messages have
--- their effect.
+-- history's items those of a prefix of the bytes from the network; both are all of it as long as the messages
+-- have their effect.
 pub record TakesInOrder (all_told : List Told) (new : Run) : Type 0 where
   pub untyped : List Input
   pub typed : inputs_brought all_told ≡ inputs new.history ++ untyped

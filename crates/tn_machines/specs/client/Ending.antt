@@ -9,7 +9,8 @@ use Rattle.tn_machines.specs.declared.client.messages.Told.{Told}
 use Rattle.tn_machines.specs.Ending as run
 use Rattle.tn_machines.specs.declared.faults.Ended.{Ended}
 use Rattle.tn_machines.specs.declared.faults.Ended.TheVariants.{HangUp, Done, Fault}
-use Rattle.tn_machines.specs.declared.faults.SessionFault.TheVariants.{Read, Write, Server, Client, Memory, Start, Channel}
+use Rattle.tn_machines.specs.declared.faults.SessionFault.TheVariants.{Read, Write, Server, Client, Memory}
+use Rattle.tn_machines.specs.declared.faults.SessionFault.TheVariants.{Start, Channel}
 use Rattle.tn_machines.specs.declared.messages.Message.TheVariants as message
 
 -- this message with this mark is why the run ended so

@@ -7,7 +7,8 @@ use Rattle.tn_machines.specs.server.Run.{Run}
 use Rattle.tn_machines.specs.declared.faults.Ended.{Ended}
 use Rattle.tn_machines.specs.declared.faults.Ended.TheVariants.{HangUp, Done, Fault}
 use Rattle.tn_machines.specs.declared.faults.SessionFault.{SessionFault}
-use Rattle.tn_machines.specs.declared.faults.SessionFault.TheVariants.{Read, Write, Server, Client, Memory, Start, Channel}
+use Rattle.tn_machines.specs.declared.faults.SessionFault.TheVariants.{Read, Write, Server, Client, Memory}
+use Rattle.tn_machines.specs.declared.faults.SessionFault.TheVariants.{Start, Channel}
 use Rattle.tn_machines.specs.declared.server.messages.Mark.{Mark}
 use Rattle.tn_machines.specs.declared.server.messages.Mark.TheVariants as mark
 use Rattle.tn_machines.specs.declared.messages.Message.{Message}

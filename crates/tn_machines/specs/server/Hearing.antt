@@ -1,5 +1,6 @@
 -- What the messages bring from the network, and runs that a hang-up ends.
-use Rattle.std.specs.Prelude.{◌≡◌, ◌≢◌, ℕ, Bool, true, false, Option, Some, None, List, [], ◌∷◌, ◌++◌, map, flat_map}
+use Rattle.std.specs.Prelude.{◌≡◌, ◌≢◌, ℕ, Bool, true, false, Option, Some, None, List, [], ◌∷◌, ◌++◌, map}
+use Rattle.std.specs.Prelude.{flat_map}
 use Rattle.tn_discipline.specs.Canon.{Canon}
 use Rattle.tn_discipline.specs.declared.reads.Entry.{Entry}
 use Rattle.tn_jobs.specs.declared.verdicts.After.TheVariants.{Done}
@@ -47,8 +48,8 @@ AllKeepOn id (m ∷ messages) = KeepsOn id m × AllKeepOn id messages
 abbrev pub entries_by : Canon → Editing → List Item → List Entry
 entries_by canon editing xs = entries (gets (opening canon editing) xs)
 
--- The stream is the first bytes of the pieces, and all of them while messages have their effect; its items are read by
--- the definitions of the stream, and the entries are theirs.
+-- The stream is the first bytes of the pieces, and all of them while messages have their effect; its items
+-- are read by the definitions of the stream, and the entries are theirs.
 pub record Hears (canon : Canon) (editing : Editing) (messages : List Message) (c : Run) : Type 0 where
   pub unheard : List ℕ
   pub stream_first : heard messages ≡ c.stream ++ unheard

@@ -13,7 +13,8 @@ use Rattle.tn_server.specs.declared.faults.ServerFault.TheVariants.{Pty, Memory,
 use Rattle.tn_machines.specs.server.Run.{Run, Reads, verdict, writes}
 use Rattle.tn_machines.specs.Pieces.{WantsMemoryWithin}
 use Rattle.tn_machines.specs.declared.messages.Message.{Message}
-use Rattle.tn_machines.specs.declared.messages.Message.TheVariants.{Piece, HangUp, ReadFailed, Take, Said, Refused, Left, Resized, Asked}
+use Rattle.tn_machines.specs.declared.messages.Message.TheVariants.{Piece, HangUp, ReadFailed, Take, Said}
+use Rattle.tn_machines.specs.declared.messages.Message.TheVariants.{Refused, Left, Resized, Asked}
 
 -- symbols wait to be sent
 abbrev pub SymbolsWait : History → Type 0

@@ -19,7 +19,7 @@ abbrev pub requests_among : List (Message × Mark) → ℕ
 requests_among [] = 0
 requests_among (m ∷ marked) = request_of m.0 + requests_among marked
 
--- What was put for the foreground job, and the request that waits, are no more than it has asked for: so the channel to
--- it never holds more than one entry.
+-- What was put for the foreground job, and the request that waits, are no more than it has asked for: so the
+-- channel to it never holds more than one entry.
 abbrev pub AnswersRequests : ℕ → Run → Type 0
 AnswersRequests requests c = length c.puts + open_requests c.progress.asks ≤ requests

@@ -1,5 +1,6 @@
 -- What the messages do: a fold over those that were handled, over the history of the server end.
-use Rattle.std.specs.Prelude.{◌≡◌, ℕ, ◌≤◌, Bool, true, false, ◌&&◌, Option, Some, None, List, [], ◌∷◌, ◌++◌, length, All}
+use Rattle.std.specs.Prelude.{◌≡◌, ℕ, ◌≤◌, Bool, true, false, ◌&&◌, Option, Some, None, List, [], ◌∷◌, ◌++◌}
+use Rattle.std.specs.Prelude.{length, All}
 use Rattle.std.specs.List.{concat}
 use Rattle.tn_discipline.specs.Canon.{Canon}
 use Rattle.tn_discipline.specs.declared.reads.Entry.{Entry}
@@ -23,7 +24,8 @@ use Rattle.tn_machines.specs.declared.faults.Ended.TheVariants.{Done, Fault}
 use Rattle.tn_machines.specs.declared.faults.SessionFault.{SessionFault}
 use Rattle.tn_machines.specs.declared.faults.SessionFault.TheVariants as fault
 use Rattle.tn_machines.specs.declared.messages.Message.{Message}
-use Rattle.tn_machines.specs.declared.messages.Message.TheVariants.{Piece, HangUp, ReadFailed, Take, Said, Refused, Left, Resized, Asked}
+use Rattle.tn_machines.specs.declared.messages.Message.TheVariants.{Piece, HangUp, ReadFailed, Take, Said}
+use Rattle.tn_machines.specs.declared.messages.Message.TheVariants.{Refused, Left, Resized, Asked}
 use Rattle.tn_machines.specs.declared.server.messages.Put.{Put}
 use Rattle.tn_machines.specs.declared.server.messages.Put.TheVariants as put
 use Rattle.tn_machines.specs.declared.server.progress.Progress.{Progress}

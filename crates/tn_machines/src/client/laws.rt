@@ -10,9 +10,9 @@ ghost use Rattle.tn_machines.specs.declared.client.messages.Told.{Told};
 ghost use Rattle.tn_machines.specs.declared.faults.Ended.TheVariants.{Fault};
 ghost use Rattle.tn_machines.specs.declared.faults.SessionFault.{SessionFault};
 
-/// The keys that were typed with the commands between them, and the bytes from the network whose items came, are
-/// prefixes of what the messages brought, in order, each once, whatever failed; and all of it where nothing ended
-/// the session.
+/// The keys that were typed with the commands between them, and the bytes from the network whose items came,
+/// are prefixes of what the messages brought, in order, each once, whatever failed; and all of it where
+/// nothing ended the session.
 pub fn bytes_go_in_order()
     ensures { (width height limit : ℕ) (marked : List (Told × Mark)) (new : Run) →
         Runs (start width height limit) marked new → TakesInOrder (map (λ m. m.0) marked) new }

@@ -5,7 +5,8 @@ ghost use Rattle.tn_client.specs.Calls as client;
 ghost use Rattle.tn_client.specs.Events.{History};
 ghost use Rattle.tn_machines.specs.client.Counting as counting;
 ghost use Rattle.tn_machines.specs.client.Marks.{no_write_failed, no_show_failed};
-ghost use Rattle.tn_machines.specs.client.Reaching.{LeadsTo, TypesAll, TypesPrefix, DoesWhole, StopsWithin, RefusesFor, IsTurn, sent_bytes};
+ghost use Rattle.tn_machines.specs.client.Reaching.{LeadsTo, TypesAll, TypesPrefix, DoesWhole, StopsWithin};
+ghost use Rattle.tn_machines.specs.client.Reaching.{RefusesFor, IsTurn, sent_bytes};
 ghost use Rattle.tn_machines.specs.client.Refusing.{RefusesAtKey};
 ghost use Rattle.tn_machines.specs.client.Run as run;
 ghost use Rattle.tn_machines.specs.client.Run.{Run};
@@ -270,7 +271,8 @@ impl Core {
 
     /// Who edits and who echoes now, as the user is told; of a session that is over nothing is known.
     pub fn terms(&self) -> Terms
-        ensures { (c : Run) → LeadsTo c self.now → self.now.progress.over ≡ false → result ≡ terms_at c.history }
+        ensures { (c : Run) → LeadsTo c self.now → self.now.progress.over ≡ false
+            → result ≡ terms_at c.history }
     {
         Terms {
             linemode: self.end.option(Side::Us, LINEMODE) == QState::Yes,

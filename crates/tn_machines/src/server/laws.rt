@@ -79,8 +79,8 @@ pub fn welcome_messages_find_room()
         c.progress.ended ≡ too_far_ahead }
 {}
 
-/// What was put for the foreground job, and its request that waits, are no more than it has asked for: no put finds
-/// an entry that was put before and was not asked for.
+/// What was put for the foreground job, and its request that waits, are no more than it has asked for: no put
+/// finds an entry that was put before and was not asked for.
 pub fn puts_answer_requests()
     ensures { (opens : Bool) (canon : Canon) (editing : Editing) (jobs : Jobs)
         (marked : List (Message × Mark)) (new : Run) →

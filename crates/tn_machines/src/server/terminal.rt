@@ -1,6 +1,7 @@
 //! The terminal of a session, which alone uses the server end.
 
-ghost use Rattle.std.specs.Prelude.{◌≡◌, ◌≤◌, ◌<◌, ◌&&◌, ℕ, List, length, true, false, OnOk, OnErr, IfOk, IfErr, IfNone, None, Some, [], ◌∷◌, ◌++◌, All, MatchResult};
+ghost use Rattle.std.specs.Prelude.{◌≡◌, ◌≤◌, ◌<◌, ◌&&◌, ℕ, List, length, true, false, OnOk, OnErr, IfOk};
+ghost use Rattle.std.specs.Prelude.{IfErr, IfNone, None, Some, [], ◌∷◌, ◌++◌, All, MatchResult};
 ghost use Rattle.std.specs.List.{concat};
 ghost use Rattle.tn_discipline.specs.Canon.{Canon};
 ghost use Rattle.tn_jobs.specs.Jobs.{state_at, with_state, is_stopped, is_foreground};
@@ -15,10 +16,13 @@ ghost use Rattle.tn_machines.specs.server.Counting as counting;
 ghost use Rattle.tn_machines.specs.server.Marks.{is_whole, no_write_failed};
 ghost use Rattle.tn_machines.specs.server.Run as run;
 ghost use Rattle.tn_machines.specs.server.Run.{Run};
-ghost use Rattle.tn_machines.specs.server.Reaching.{FollowsPath, AdvancesRun, BreaksOff, Feeds, FeedBreaksOff, HaltsIf, Says, SayBreaksOff, DoesWhole, StopsWithin, RefusesFor, IsTurn, LeadsTo};
+ghost use Rattle.tn_machines.specs.server.Reaching.{FollowsPath, AdvancesRun, BreaksOff, Feeds};
+ghost use Rattle.tn_machines.specs.server.Reaching.{FeedBreaksOff, HaltsIf, Says, SayBreaksOff, DoesWhole};
+ghost use Rattle.tn_machines.specs.server.Reaching.{StopsWithin, RefusesFor, IsTurn, LeadsTo};
 ghost use Rattle.tn_machines.specs.declared.server.messages.Put.TheVariants.{Nothing};
 ghost use Rattle.tn_machines.specs.server.Welcoming.{IsWelcome, IsUnwelcome};
-ghost use Rattle.tn_machines.specs.server.Refusing.{SymbolsWait, SymbolsWaitWithin, WaitsWithText, WaitsWithRequest};
+ghost use Rattle.tn_machines.specs.server.Refusing.{SymbolsWait, SymbolsWaitWithin, WaitsWithText};
+ghost use Rattle.tn_machines.specs.server.Refusing.{WaitsWithRequest};
 
 use crate::faults::{Ended, SessionFault};
 use crate::messages::Message;
@@ -507,7 +511,7 @@ impl Term {
         }
     }
 
-    // Something failed: nothing has any effect from here on. Answers what goes to the foreground job.
+    // Something failed: nothing has any effect from here on. Returns what goes to the foreground job.
     fn fails(&mut self, fault: SessionFault) -> Put
         ensures progress { self.new.progress ≡
             counting.after_halt (counting.after_end (Ended.Fault fault) self.old.progress) }
@@ -518,7 +522,7 @@ impl Term {
         put
     }
 
-    /// Tells that a write failed: nothing has any effect from here on. Answers what goes to the
+    /// Tells that a write failed: nothing has any effect from here on. Returns what goes to the
     /// foreground job.
     pub fn write_failed(&mut self) -> Put
         ensures leads { (c : Run) → LeadsTo c self.old → LeadsTo (run.fail SessionFault.Write c) self.new }

@@ -33,7 +33,8 @@ module _ {S : Type 0} (takes gives_up : S → List Item → S → Type 0) where
       taken_all (λ x _ y. K x y) same (λ x y z xs ys t k. then x y z (one x y xs t) k) a b (calls_of ok.parts) ok.taken
   kept_by_all K same then one stop (Err Refused) old new piece a b ok refused memory failed =
       let r = refused refl in
-      then a r.middle b (taken_all (λ x _ y. K x y) same (λ x y z xs ys t k. then x y z (one x y xs t) k) a r.middle r.done r.taken) (stop r.middle b r.left r.given_up)
+      then a r.middle b (taken_all (λ x _ y. K x y) same (λ x y z xs ys t k. then x y z (one x y xs t) k) a r.middle r.done r.taken)
+      (stop r.middle b r.left r.given_up)
   kept_by_all K same then one stop (Err Memory) old new piece a b ok refused memory failed =
       let w = memory refl in
       taken_all (λ x _ y. K x y) same (λ x y z xs ys t k. then x y z (one x y xs t) k) a b (calls_of w.parts) w.taken

@@ -88,7 +88,8 @@ pub all_read_again : (items more : List Item) (stream rest : List ℕ) → All F
 all_read_again [] more stream rest fit r = r
 all_read_again (item ∷ items) more stream rest fit r =
     subst (λ xs. Reading xs (item ∷ (items ++ more)) rest) (sym (append_assoc (spelling item) (spells items) stream))
-    (read_again item (items ++ more) (spells items ++ stream) rest (All-head Fits item items fit) (all_read_again items more stream rest (All-tail Fits item items fit) r))
+    (read_again item (items ++ more) (spells items ++ stream) rest (All-head Fits item items fit)
+    (all_read_again items more stream rest (All-tail Fits item items fit) r))
 
 pub reads_all_written : (items had : List Item) (stream : List ℕ) → All Fits items → Reading stream had []
     → Reading (stream ++ spells items) (had ++ items) []

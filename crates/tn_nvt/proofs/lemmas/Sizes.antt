@@ -76,7 +76,8 @@ segment_weighs w c h (escaped byte) is = omega arith
 segment_weighs w c h (unread bytes) is = omega arith
 segment_weighs w c h (cut bytes next) is = omega arith
 
-segments_weigh : (w : Item → ℕ) (c : ℕ) → IsWeight w c → (ss : List Segment) (rest stream : List ℕ) → Splits ss rest stream → total w (flat_map gives ss) ≤ c * length stream
+segments_weigh : (w : Item → ℕ) (c : ℕ) → IsWeight w c → (ss : List Segment) (rest stream : List ℕ) → Splits ss rest stream
+    → total w (flat_map gives ss) ≤ c * length stream
 segments_weigh w c h [] rest stream is = omega arith
 segments_weigh w c h (s ∷ ss) rest stream (after, is, e, more) =
     let left : List ℕ = look_ahead s ++ after in
@@ -91,6 +92,7 @@ segments_weigh w c h (s ∷ ss) rest stream (after, is, e, more) =
     )
 
 -- the items of a stream weigh at most so much for each of its bytes
-pub weighs_at_most : (w : Item → ℕ) (c : ℕ) → IsWeight w c → (stream rest : List ℕ) (items : List Item) → Reading stream items rest → total w items ≤ c * length stream
+pub weighs_at_most : (w : Item → ℕ) (c : ℕ) → IsWeight w c → (stream rest : List ℕ) (items : List Item) → Reading stream items rest
+    → total w items ≤ c * length stream
 weighs_at_most w c h stream rest items r =
     omega (arith, ap (total w) r.read, segments_weigh w c h r.segments rest stream r.splits)

@@ -31,7 +31,8 @@ hidden_by flags (role.Eol2 byte) e off quiet = cc
 hidden_by flags role.Eof e off quiet = cc
 hidden_by flags (role.Signal sig) e off quiet = cc
 
-hidden_key : (echo : Bool) (flags : Flags) (r : Role) (e : Effect) → (echo && flags.echo) ≡ false → gives_entry r ≡ false → (if echo then symbols_in (echo_at flags r e) else []) ≡ []
+hidden_key : (echo : Bool) (flags : Flags) (r : Role) (e : Effect) → (echo && flags.echo) ≡ false → gives_entry r ≡ false
+    → (if echo then symbols_in (echo_at flags r e) else []) ≡ []
 hidden_key true flags r e off quiet = hidden_by flags r e off quiet
 hidden_key false flags r e off quiet = refl
 
@@ -44,18 +45,21 @@ Hides Edited settings = Unit {0}
 abbrev pub AreQuiet : Input → Settings → List ℕ → Type 0
 AreQuiet input settings bytes = All (λ byte. gives_entry (role_of_input input settings byte) ≡ false) bytes
 
-hidden : (input : Input) (settings : Settings) (byte : ℕ) (line : HalfLine) → Hides input settings → gives_entry (role_of_input input settings byte) ≡ false → input_symbols input settings byte line ≡ []
+hidden : (input : Input) (settings : Settings) (byte : ℕ) (line : HalfLine) → Hides input settings → gives_entry (role_of_input input settings byte) ≡ false
+    → input_symbols input settings byte line ≡ []
 hidden (Keys echo) settings key line off quiet = let r = role_of_key settings key in hidden_key echo settings.flags r (effect_of line r) off quiet
 hidden Edited settings byte line off quiet = refl
 
 module _ (input : Input) where
-  quiet_first : (settings : Settings) (byte : ℕ) (bytes : List ℕ) → AreQuiet input settings (byte ∷ bytes) → gives_entry (role_of_input input settings byte) ≡ false
+  quiet_first : (settings : Settings) (byte : ℕ) (bytes : List ℕ) → AreQuiet input settings (byte ∷ bytes)
+      → gives_entry (role_of_input input settings byte) ≡ false
   quiet_first settings byte bytes quiet = quiet 0 0 (omega arith)
 
   quiet_rest : (settings : Settings) (byte : ℕ) (bytes : List ℕ) → AreQuiet input settings (byte ∷ bytes) → AreQuiet input settings bytes
   quiet_rest settings byte bytes quiet = λ k d lt. quiet (suc k) d (omega (arith, lt))
 
-  hidden_one : (old : Terminal) (byte : ℕ) → Hides input old.settings → gives_entry (role_of_input input old.settings byte) ≡ false → after_byte input old byte ≡ record old { line = line_after old.line (role_of_input input old.settings byte) }
+  hidden_one : (old : Terminal) (byte : ℕ) → Hides input old.settings → gives_entry (role_of_input input old.settings byte) ≡ false
+      → after_byte input old byte ≡ record old { line = line_after old.line (role_of_input input old.settings byte) }
   hidden_one old byte off quiet =
       let r = role_of_input input old.settings byte in
       same_parts old (line_after old.line r) (line_after old.line r) (old.entries ++ gain_of old.line r) old.entries _ old.queue refl
@@ -63,7 +67,8 @@ module _ (input : Input) where
       (ap (queue_with old.queue) (hidden input old.settings byte old.line off quiet) ∙ queue_still old.queue)
 
   -- such bytes change the line alone
-  pub after_hidden : (bytes : List ℕ) (old : Terminal) → Hides input old.settings → AreQuiet input old.settings bytes → after_all input old bytes ≡ record old { line = line_after_all old.line (map (role_of_input input old.settings) bytes) }
+  pub after_hidden : (bytes : List ℕ) (old : Terminal) → Hides input old.settings → AreQuiet input old.settings bytes
+      → after_all input old bytes ≡ record old { line = line_after_all old.line (map (role_of_input input old.settings) bytes) }
   after_hidden [] old off quiet = refl
   after_hidden (byte ∷ bytes) old off quiet =
       let mid : Terminal = record old { line = line_after old.line (role_of_input input old.settings byte) } in
@@ -90,7 +95,8 @@ pub joining_quiet : (settings : Settings) (bytes : List ℕ) → All (JoinsEdite
 joining_quiet settings bytes joins = λ k d lt. ap gives_entry (joins k d lt)
 
 -- a line that keeps as many of them as fit
-pub after_joining : (old : Terminal) (bytes : List ℕ) (line : HalfLine) → All (JoinsEdited old.settings.chars) bytes → line ≡ line_after_all old.line (ordinary_roles bytes) → let new : Terminal = record old { line = line } in new ≡ after_all Edited old bytes
+pub after_joining : (old : Terminal) (bytes : List ℕ) (line : HalfLine) → All (JoinsEdited old.settings.chars) bytes
+    → line ≡ line_after_all old.line (ordinary_roles bytes) → let new : Terminal = record old { line = line } in new ≡ after_all Edited old bytes
 after_joining old bytes line joins is =
     same_parts old line _ old.entries old.entries old.queue old.queue
     (is ∙ ap (line_after_all old.line) (sym (joining_roles old.settings.chars bytes joins))) refl refl

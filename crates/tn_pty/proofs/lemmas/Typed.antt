@@ -1,5 +1,6 @@
 -- Bytes that come to the master, one after another.
-use Rattle.std.proofs.Common.{◌≡◌, ◌<◌, ◌≤◌, ℕ, suc, ◌+◌, ◌-◌, min, nat_le, Bool, true, false, ◌&&◌, All, List, [], ◌∷◌, ◌++◌, length, map, take, drop, get_or, Result, Ok, Err, OnOk, refl, sym, ap, subst, ◌∙◌, if◌then◌else◌, arith, append-nil, append_assoc, length-append, length-take}
+use Rattle.std.proofs.Common.{◌≡◌, ◌<◌, ◌≤◌, ℕ, suc, ◌+◌, ◌-◌, min, nat_le, Bool, true, false, ◌&&◌, All, List, [], ◌∷◌, ◌++◌, length, map, take, drop, get_or}
+use Rattle.std.proofs.Common.{Result, Ok, Err, OnOk, refl, sym, ap, subst, ◌∙◌, if◌then◌else◌, arith, append-nil, append_assoc, length-append, length-take}
 use Rattle.std.proofs.Math.Seq.{take-add}
 use Rattle.std.proofs.lemmas.List.{take-append-drop, take_all, take_more, drop_more, length-drop}
 use Rattle.std.proofs.lemmas.List.Elements.{All-take, All-drop}
@@ -51,18 +52,21 @@ module _ (input : Input) where
   after-append old [] ys = refl
   after-append old (byte ∷ xs) ys = after-append (after_byte input old byte) xs ys
 
-  pub accepts-append : (old : Terminal) (xs ys : List ℕ) → AcceptsAll input old xs → AcceptsAll input (after_all input old xs) ys → AcceptsAll input old (xs ++ ys)
+  pub accepts-append : (old : Terminal) (xs ys : List ℕ) → AcceptsAll input old xs → AcceptsAll input (after_all input old xs) ys
+      → AcceptsAll input old (xs ++ ys)
   accepts-append old [] ys a b = b
   accepts-append old (byte ∷ xs) ys a b = (a.0, accepts-append (after_byte input old byte) xs ys a.1 b)
 
 -- bytes of an edited line have each one role
-literals_advance : (chars : Characters) (bytes : List ℕ) (line : HalfLine) → let roles = map (literal_role chars) bytes in Advances line roles (gains_from line roles) (line_after_all line roles)
+literals_advance : (chars : Characters) (bytes : List ℕ) (line : HalfLine) → let roles =
+    map (literal_role chars) bytes in Advances line roles (gains_from line roles) (line_after_all line roles)
 literals_advance chars [] line = advances_nothing line
 literals_advance chars (byte ∷ bytes) line =
     let r = literal_role chars byte in
     let rest = map (literal_role chars) bytes in
     let next = line_after line r in
-    let one : Advances line (r ∷ []) (gain_of line r) next = subst (λ roles. Advances line roles (gain_of line r) next) (literal_roles chars byte) (advances line r) in
+    let one : Advances line (r ∷ []) (gain_of line r) next = subst (λ roles. Advances line roles (gain_of line r) next) (literal_roles chars byte)
+    (advances line r) in
     advances_both line next (line_after_all next rest) (r ∷ []) rest (gain_of line r) (gains_from next rest) one (literals_advance chars bytes next)
 
 -- the roles that bytes give to the whole lists: a key that is dropped gives none
@@ -78,17 +82,21 @@ input_advances Edited settings bytes line = literals_advance settings.chars byte
 
 module _ (input : Input) where
   -- what bytes do is what the whole lists of keys say
-  pub run_advance : (old new : Terminal) (bytes : List ℕ) → new ≡ after_all input old bytes → Advances old.line (roles_given input old.settings bytes) (input_gains input old bytes) new.line
+  pub run_advance : (old new : Terminal) (bytes : List ℕ) → new ≡ after_all input old bytes
+      → Advances old.line (roles_given input old.settings bytes) (input_gains input old bytes) new.line
   run_advance old new bytes is =
-      subst (λ (line : HalfLine). Advances old.line (roles_given input old.settings bytes) (input_gains input old bytes) line) (sym (ap (λ (t : Terminal). t.line) is ∙ input-line input old bytes))
+      subst (λ (line : HalfLine). Advances old.line (roles_given input old.settings bytes) (input_gains input old bytes) line)
+      (sym (ap (λ (t : Terminal). t.line) is ∙ input-line input old bytes))
       (input_advances input old.settings bytes old.line)
 
   -- the same of a call that may have been refused
-  pub run_advance_or : {T E : Type 0} (r : Result T E) (old new : Terminal) (bytes : List ℕ) → OnOk r (new ≡ after_all input old bytes) → OnOk r (Advances old.line (roles_given input old.settings bytes) (input_gains input old bytes) new.line)
+  pub run_advance_or : {T E : Type 0} (r : Result T E) (old new : Terminal) (bytes : List ℕ) → OnOk r (new ≡ after_all input old bytes)
+      → OnOk r (Advances old.line (roles_given input old.settings bytes) (input_gains input old bytes) new.line)
   run_advance_or (Ok x) old new bytes is = run_advance old new bytes is
   run_advance_or (Err e) old new bytes is = tt
 
-  pub run_entries_or : {T E : Type 0} (r : Result T E) (old new : Terminal) (bytes : List ℕ) → OnOk r (new ≡ after_all input old bytes) → OnOk r (new.entries ≡ old.entries ++ input_gains input old bytes)
+  pub run_entries_or : {T E : Type 0} (r : Result T E) (old new : Terminal) (bytes : List ℕ) → OnOk r (new ≡ after_all input old bytes)
+      → OnOk r (new.entries ≡ old.entries ++ input_gains input old bytes)
   run_entries_or (Ok x) old new bytes is = ap (λ (t : Terminal). t.entries) is ∙ input-entries input old bytes
   run_entries_or (Err e) old new bytes is = tt
 
@@ -96,7 +104,8 @@ module _ (input : Input) where
 pub left_of : (i : ℕ) (bytes : List ℕ) → take (length bytes - i) (drop i bytes) ≡ drop i bytes
 left_of i bytes = take_all (length bytes - i) (drop i bytes) (omega (arith, length-drop i bytes))
 
-module _ (input : Input) (old mid new : Terminal) (bytes : List ℕ) (i : ℕ) (before : mid ≡ after_all input old (take i bytes)) (accepted : AcceptsAll input old (take i bytes)) where
+module _ (input : Input) (old mid new : Terminal) (bytes : List ℕ) (i : ℕ) (before : mid ≡ after_all input old (take i bytes))
+    (accepted : AcceptsAll input old (take i bytes)) where
   -- bytes that were taken, and some more of those that are left
   pub after_more : (n : ℕ) → new ≡ after_all input mid (take n (take (length bytes - i) (drop i bytes))) → new ≡ after_all input old (take (i + n) bytes)
   after_more n is =
@@ -109,7 +118,8 @@ module _ (input : Input) (old mid new : Terminal) (bytes : List ℕ) (i : ℕ) (
   pub accepts_more : (n : ℕ) → AcceptsAll input mid (take n (take (length bytes - i) (drop i bytes))) → AcceptsAll input old (take (i + n) bytes)
   accepts_more n more =
       let front : AcceptsAll input mid (take n (drop i bytes)) = subst (λ xs. AcceptsAll input mid (take n xs)) (left_of i bytes) more in
-      let there : AcceptsAll input (after_all input old (take i bytes)) (take n (drop i bytes)) = subst (λ (t : Terminal). AcceptsAll input t (take n (drop i bytes))) before front in
+      let there : AcceptsAll input (after_all input old (take i bytes)) (take n (drop i bytes)) =
+      subst (λ (t : Terminal). AcceptsAll input t (take n (drop i bytes))) before front in
       subst (AcceptsAll input old) (sym (take-add i n bytes)) (accepts-append input old (take i bytes) (take n (drop i bytes)) accepted there)
 
   -- and then a byte of those that are left was refused
@@ -143,11 +153,13 @@ module _ (input : Input) (old mid new : Terminal) (bytes : List ℕ) (i : ℕ) (
   pub accepts_next : i < length bytes → Accepts mid (role_of_input input mid.settings (get_or bytes i 0)) → AcceptsAll input old (take (i + 1) bytes)
   accepts_next within accepts =
       let byte = get_or bytes i 0 in
-      let there : Accepts (after_all input old (take i bytes)) (role_of_input input (after_all input old (take i bytes)).settings byte) = subst (λ (t : Terminal). Accepts t (role_of_input input t.settings byte)) before accepts in
+      let there : Accepts (after_all input old (take i bytes)) (role_of_input input (after_all input old (take i bytes)).settings byte) =
+      subst (λ (t : Terminal). Accepts t (role_of_input input t.settings byte)) before accepts in
       subst (AcceptsAll input old) (sym (take_more bytes i 0 within)) (accepts-append input old (take i bytes) (byte ∷ []) accepted (there, tt))
 
   -- or it was refused
-  pub stops_at : (fault : PtyFault) → i < length bytes → Refuses mid (role_of_input input mid.settings (get_or bytes i 0)) fault new → StopsWithin input old bytes fault new
+  pub stops_at : (fault : PtyFault) → i < length bytes → Refuses mid (role_of_input input mid.settings (get_or bytes i 0)) fault new
+      → StopsWithin input old bytes fault new
   stops_at fault within refuses =
       let byte = get_or bytes i 0 in
       let settings : mid.settings ≡ old.settings = ap (λ (t : Terminal). t.settings) before ∙ input-settings input old (take i bytes) in
@@ -157,7 +169,8 @@ module _ (input : Input) (old mid new : Terminal) (bytes : List ℕ) (i : ℕ) (
         left = drop (i + 1) bytes;
         whole = sym (take-append-drop i bytes) ∙ ap (λ xs. take i bytes ++ xs) (drop_more bytes i 0 within);
         accepted = accepted;
-        refused = subst (λ (t : Terminal). Refuses t (role_of_input input old.settings byte) fault new) before (subst (λ s. Refuses mid (role_of_input input s byte) fault new) settings refuses);
+        refused = subst (λ (t : Terminal). Refuses t (role_of_input input old.settings byte) fault new) before
+            (subst (λ s. Refuses mid (role_of_input input s byte) fault new) settings refuses);
       }
 
 -- keys that join the line as they are
@@ -184,7 +197,8 @@ accepts_plain echo old (key ∷ keys) takes plain = (
 abbrev pub queue_shown : Bool → List Symbol → List Symbol → List Symbol
 queue_shown shown queue symbols = if shown then queue_with_each queue symbols else queue
 
-shown_more : (shown : Bool) (queue : List Symbol) (x : Symbol) (xs : List Symbol) → queue_shown shown (queue_shown shown queue (x ∷ [])) xs ≡ queue_shown shown queue (x ∷ xs)
+shown_more : (shown : Bool) (queue : List Symbol) (x : Symbol) (xs : List Symbol)
+    → queue_shown shown (queue_shown shown queue (x ∷ [])) xs ≡ queue_shown shown queue (x ∷ xs)
 shown_more true queue x xs = refl
 shown_more false queue x xs = refl
 
@@ -200,7 +214,9 @@ queue_still queue = none_by (nat_le (length queue + 0) queue_symbols) queue
 abbrev byte_shown : Bool → ℕ → ℕ
 byte_shown full byte = if full then 7 else byte
 
-shown_one : (echo flag full : Bool) (byte : ℕ) (queue : List Symbol) → queue_with queue (if echo then symbols_in (one_shown flag (ordinary_shown byte (if full then effect.Dropped else effect.Kept))) else []) ≡ queue_shown (echo && flag) queue (Byte (byte_shown full byte) ∷ [])
+shown_one : (echo flag full : Bool) (byte : ℕ) (queue : List Symbol)
+    → queue_with queue (if echo then symbols_in (one_shown flag (ordinary_shown byte (if full then effect.Dropped else effect.Kept))) else [])
+    ≡ queue_shown (echo && flag) queue (Byte (byte_shown full byte) ∷ [])
 shown_one true true true byte queue = refl
 shown_one true true false byte queue = refl
 shown_one true false full byte queue = queue_still queue
@@ -208,17 +224,23 @@ shown_one false true full byte queue = queue_still queue
 shown_one false false full byte queue = queue_still queue
 
 pub same_parts : (old : Terminal) (l m : HalfLine) (e f : List Entry) (q r : List Symbol) → l ≡ m → e ≡ f → q ≡ r
-    → let left : Terminal = record old { line = l; entries = e; queue = q } in let right : Terminal = record old { line = m; entries = f; queue = r } in left ≡ right
+    → let left : Terminal = record old { line = l; entries = e; queue = q } in let right : Terminal =
+    record old { line = m; entries = f; queue = r } in left ≡ right
 same_parts old l m e f q r x y z = rw (x, y, z)
 
 -- a key that joins the line as it is, by whether the line is full
-typed_one : (echo : Bool) (old : Terminal) (key : ℕ) (full : Bool) (line : HalfLine) → IsPlain old.settings key → is_full old.line ≡ full → line_after old.line (role.Ordinary key) ≡ line
-    → after_byte (Keys echo) old key ≡ record old { line = line; queue = queue_shown (echo && old.settings.flags.echo) old.queue (Byte (byte_shown full key) ∷ []) }
+typed_one : (echo : Bool) (old : Terminal) (key : ℕ) (full : Bool) (line : HalfLine) → IsPlain old.settings key → is_full old.line ≡ full
+    → line_after old.line (role.Ordinary key) ≡ line
+    → after_byte (Keys echo) old key ≡ record old {
+      line = line;
+      queue = queue_shown (echo && old.settings.flags.echo) old.queue (Byte (byte_shown full key) ∷ []);
+    }
 typed_one echo old key full line plain test after =
     ap (λ r. terminal_after old r (if echo then symbols_in (echo_at old.settings.flags r (effect_of old.line r)) else [])) plain
     ∙ same_parts old _ _ _ _ _ _ after
     (ap (λ gain. old.entries ++ gain) (ordinary_gains old.line key) ∙ append-nil old.entries)
-    (ap (λ (b : Bool). queue_with old.queue (if echo then symbols_in (one_shown old.settings.flags.echo (ordinary_shown key (if b then effect.Dropped else effect.Kept))) else [])) test
+    (ap (λ (b : Bool). queue_with old.queue (if echo then symbols_in
+    (one_shown old.settings.flags.echo (ordinary_shown key (if b then effect.Dropped else effect.Kept))) else [])) test
     ∙ shown_one echo old.settings.flags.echo full key old.queue)
 
 shown_none : (shown : Bool) (queue : List Symbol) → queue ≡ queue_shown shown queue []
@@ -229,7 +251,9 @@ shown_none false queue = refl
 abbrev pub with_kept : Terminal → List ℕ → List Symbol → Terminal
 with_kept old bytes queue = record old { line = record (old.line) { held = old.line.held ++ bytes }; queue = queue }
 
-same_kept : (old : Terminal) (xs ys : List ℕ) (q r : List Symbol) → xs ≡ ys → q ≡ r → let left : Terminal = record old { line = record (old.line) { held = xs }; queue = q } in let right : Terminal = record old { line = record (old.line) { held = ys }; queue = r } in left ≡ right
+same_kept : (old : Terminal) (xs ys : List ℕ) (q r : List Symbol) → xs ≡ ys → q ≡ r → let left : Terminal =
+    record old { line = record (old.line) { held = xs }; queue = q } in let right : Terminal =
+    record old { line = record (old.line) { held = ys }; queue = r } in left ≡ right
 same_kept old xs ys q r x y = rw (x, y)
 
 -- keys that fit
@@ -244,7 +268,8 @@ typed_kept echo (key ∷ keys) old plain fits =
     let mid = with_kept old (key ∷ []) queue in
     let room : line_length old.line < max_counted old.line.limit = omega (arith, fits) in
     ap (λ t. after_all (Keys echo) t keys)
-    (typed_one echo old key false (record (old.line) { held = old.line.held ++ key ∷ [] }) (plain_first old key keys plain) (not_full old.line room) (one_kept old.line key room))
+    (typed_one echo old key false (record (old.line) { held = old.line.held ++ key ∷ [] }) (plain_first old key keys plain) (not_full old.line room)
+    (one_kept old.line key room))
     ∙ typed_kept echo keys mid (plain_rest old key keys plain) (omega (arith, fits, length-append old.line.held (key ∷ [])))
     ∙ same_kept old _ _ _ _ (append_assoc old.line.held (key ∷ []) keys) (shown_more shown old.queue (Byte key) (map (λ b. Byte b) keys))
 
@@ -260,7 +285,8 @@ typed_dropped echo (key ∷ keys) old plain full =
     let mid : Terminal = record old { queue = queue } in
     let filled = is_filled old.line (full (omega arith)) in
     ap (λ t. after_all (Keys echo) t keys)
-    (typed_one echo old key true old.line (plain_first old key keys plain) filled (ap (λ (t : Bool). if t then old.line else record (old.line) { held = old.line.held ++ key ∷ [] }) filled))
+    (typed_one echo old key true old.line (plain_first old key keys plain) filled
+    (ap (λ (t : Bool). if t then old.line else record (old.line) { held = old.line.held ++ key ∷ [] }) filled))
     ∙ typed_dropped echo keys mid (plain_rest old key keys plain) (λ some. full (omega arith))
     ∙ same_kept old old.line.held old.line.held _ _ refl (shown_more shown old.queue (Byte 7) (map (λ b. Byte 7) keys))
 
@@ -268,14 +294,17 @@ plain_front : (old : Terminal) (keys : List ℕ) (n : ℕ) → ArePlain old keys
 plain_front old keys n plain = All-take (IsPlain old.settings) n keys plain
 
 -- keys of which the first fit and the others don't
-pub typed_plain : (echo : Bool) (keys : List ℕ) (old : Terminal) (n : ℕ) → ArePlain old keys → n ≡ min (max_counted old.line.limit - line_length old.line) (length keys) → line_length old.line ≤ max_counted old.line.limit
+pub typed_plain : (echo : Bool) (keys : List ℕ) (old : Terminal) (n : ℕ) → ArePlain old keys
+    → n ≡ min (max_counted old.line.limit - line_length old.line) (length keys) → line_length old.line ≤ max_counted old.line.limit
     → let shown = echo && old.settings.flags.echo in
-    after_all (Keys echo) old keys ≡ with_kept old (take n keys) (queue_shown shown (queue_shown shown old.queue (map (λ b. Byte b) (take n keys))) (map (λ b. Byte 7) (drop n keys)))
+    after_all (Keys echo) old keys ≡ with_kept old (take n keys)
+    (queue_shown shown (queue_shown shown old.queue (map (λ b. Byte b) (take n keys))) (map (λ b. Byte 7) (drop n keys)))
 typed_plain echo keys old n plain is fits =
     let shown = echo && old.settings.flags.echo in
     let mid = with_kept old (take n keys) (queue_shown shown old.queue (map (λ b. Byte b) (take n keys))) in
     let front = length-take n keys in
-    let whole : length keys ≡ length (take n keys) + length (drop n keys) = ap length (sym (take-append-drop n keys)) ∙ length-append (take n keys) (drop n keys) in
+    let whole : length keys ≡ length (take n keys) + length (drop n keys) =
+    ap length (sym (take-append-drop n keys)) ∙ length-append (take n keys) (drop n keys) in
     let long = length-append old.line.held (take n keys) in
     ap (after_all (Keys echo) old) (sym (take-append-drop n keys))
     ∙ after-append (Keys echo) old (take n keys) (drop n keys)
@@ -283,12 +312,14 @@ typed_plain echo keys old n plain is fits =
     ∙ typed_dropped echo (drop n keys) mid (All-drop (IsPlain old.settings) n keys plain) (λ some. omega (arith, is, front, whole, long, some, fits))
 
 -- the same of a line and a queue that are known to be those
-pub typed_shown : (echo shown : Bool) (keys : List ℕ) (old : Terminal) (n : ℕ) (line : HalfLine) (queue : List Symbol) → ArePlain old keys → n ≡ min (max_counted old.line.limit - line_length old.line) (length keys) → line_length old.line < old.line.limit
+pub typed_shown : (echo shown : Bool) (keys : List ℕ) (old : Terminal) (n : ℕ) (line : HalfLine) (queue : List Symbol) → ArePlain old keys
+    → n ≡ min (max_counted old.line.limit - line_length old.line) (length keys) → line_length old.line < old.line.limit
     → line ≡ record (old.line) { held = old.line.held ++ take n keys } → (echo && old.settings.flags.echo) ≡ shown
     → queue ≡ queue_shown shown (queue_shown shown old.queue (map (λ b. Byte b) (take n keys))) (map (λ b. Byte 7) (drop n keys))
     → let new : Terminal = record old { line = line; queue = queue } in new ≡ after_all (Keys echo) old keys
 typed_shown echo shown keys old n line queue plain is fits held test after =
-    let back : queue ≡ queue_shown (echo && old.settings.flags.echo) (queue_shown (echo && old.settings.flags.echo) old.queue (map (λ b. Byte b) (take n keys))) (map (λ b. Byte 7) (drop n keys)) =
+    let back : queue ≡ queue_shown (echo && old.settings.flags.echo) (queue_shown (echo && old.settings.flags.echo) old.queue (map (λ b. Byte b) (take n keys)))
+    (map (λ b. Byte 7) (drop n keys)) =
     after ∙ ap (λ (b : Bool). queue_shown b (queue_shown b old.queue (map (λ b. Byte b) (take n keys))) (map (λ b. Byte 7) (drop n keys))) (sym test) in
     same_parts old line _ old.entries old.entries queue _ held refl back
     ∙ sym (typed_plain echo keys old n plain is (omega (arith, fits)))

@@ -22,15 +22,21 @@ module _ {T : Type 0} where
       empty false l e = sym (is_some _ _ e)
 
   pub puts : (n pass : ℕ) (v : Hand T) (x : T) (l : List T) → v.put ≡ Some l → Pushes (Kept slot InOrder) n pass v x (λ w. w ≡ put_more v x)
-  puts n pass v x l mine items views room kept at = (put_more v x, moves slot InOrder items (items ++ x ∷ []) views pass v (put_more v x) roles weave kept at, refl)
+  puts n pass v x l mine items views room kept at = (
+    put_more v x,
+    moves slot InOrder items (items ++ x ∷ []) views pass v (put_more v x) roles weave kept at,
+    refl,
+  )
     where
       roles : (r : Bool) (k : List T) → slot (put_more v x) r ≡ Some k → (j : List T) × (slot v r ≡ Some j)
       roles true k e = (l, mine)
       roles false k e = (k, e)
 
-      weave : (held : Bool → List T) → ((r : Bool) (k : List T) → slot v r ≡ Some k → k ≡ held r) → InOrder items held → InOrder (items ++ x ∷ []) (λ r. or_held (slot (put_more v x) r) (held r))
+      weave : (held : Bool → List T) → ((r : Bool) (k : List T) → slot v r ≡ Some k → k ≡ held r) → InOrder items held
+          → InOrder (items ++ x ∷ []) (λ r. or_held (slot (put_more v x) r) (held r))
       weave held agrees woven =
-          let new : or_held (more v.put x) (held true) ≡ held true ++ x ∷ [] = ap (λ (o : Option (List T)). or_held (more o x) (held true)) mine ∙ ap (λ (k : List T). k ++ x ∷ []) (agrees true l mine) in
+          let new : or_held (more v.put x) (held true) ≡ held true ++ x ∷ [] =
+          ap (λ (o : Option (List T)). or_held (more o x) (held true)) mine ∙ ap (λ (k : List T). k ++ x ∷ []) (agrees true l mine) in
           let old : or_held v.taken (held false) ≡ held false = same_held v.taken (held false) (agrees false) in
           ap (λ (k : List T). k ++ (items ++ x ∷ [])) old ∙ sym (append_assoc (held false) items (x ∷ [])) ∙ ap (λ (k : List T). k ++ x ∷ []) woven ∙ sym new
 
@@ -41,9 +47,11 @@ module _ {T : Type 0} where
       roles true k e = (k, e)
       roles false k e = (l, mine)
 
-      weave : (held : Bool → List T) → ((r : Bool) (k : List T) → slot v r ≡ Some k → k ≡ held r) → InOrder (x ∷ items) held → InOrder items (λ r. or_held (slot (taken_more v x) r) (held r))
+      weave : (held : Bool → List T) → ((r : Bool) (k : List T) → slot v r ≡ Some k → k ≡ held r) → InOrder (x ∷ items) held
+          → InOrder items (λ r. or_held (slot (taken_more v x) r) (held r))
       weave held agrees woven =
-          let new : or_held (more v.taken x) (held false) ≡ held false ++ x ∷ [] = ap (λ (o : Option (List T)). or_held (more o x) (held false)) mine ∙ ap (λ (k : List T). k ++ x ∷ []) (agrees false l mine) in
+          let new : or_held (more v.taken x) (held false) ≡ held false ++ x ∷ [] =
+          ap (λ (o : Option (List T)). or_held (more o x) (held false)) mine ∙ ap (λ (k : List T). k ++ x ∷ []) (agrees false l mine) in
           let old : or_held v.put (held true) ≡ held true = same_held v.put (held true) (agrees true) in
           ap (λ (k : List T). k ++ items) new ∙ append_assoc (held false) (x ∷ []) items ∙ woven ∙ sym old
 

@@ -33,7 +33,8 @@ one_history (called c e) h k a b = a.3 ∙ ap (λ (x : History). next x e) (one_
 pub begins : (canon : Canon) (end : End) → LeadsTo (begun canon) end → nvt.LeadsTo [] [] end.decoder → CourseLeadsTo (started canon) end
 begins canon end stands reads = record { history = begun canon; reads_as = refl; leads = stands; reads = reads }
 
-pub fed_on : (c : Course) (old new : End) (piece before after : List ℕ) → CourseLeadsTo c old → Feeds old piece before after new → CourseLeadsTo (fed c piece) new
+pub fed_on : (c : Course) (old new : End) (piece before after : List ℕ) → CourseLeadsTo c old → Feeds old piece before after new
+    → CourseLeadsTo (fed c piece) new
 fed_on c old new piece before after a f =
     let read = f.reads (stream c) (items a.history) a.reads in
     record {
@@ -43,19 +44,22 @@ fed_on c old new piece before after a f =
       reads = subst (λ (xs : List Item). nvt.LeadsTo (stream c ++ piece) xs new.decoder) (sym (items-gets a.history f.items)) read;
     }
 
-pub fed_says : (c : Course) (old new : End) (piece before after : List ℕ) (h k : History) → CourseLeadsTo c old → (f : Feeds old piece before after new) → ReadsAs c h → ReadsAs (fed c piece) k → items_said k ≡ items_said h ++ f.said
+pub fed_says : (c : Course) (old new : End) (piece before after : List ℕ) (h k : History) → CourseLeadsTo c old → (f : Feeds old piece before after new)
+    → ReadsAs c h → ReadsAs (fed c piece) k → items_said k ≡ items_said h ++ f.said
 fed_says c old new piece before after h k a f leads also =
     let read = f.reads (stream c) (items a.history) a.reads in
     ap items_said (one_history (fed c piece) k (gets a.history f.items) also (a.history, f.items, a.reads_as, (read.rest, read.reading), refl))
     ∙ f.sends a.history a.leads
     ∙ ap (λ (x : History). items_said x ++ f.said) (one_history c a.history h a.reads_as leads)
 
-pub called_on : (c : Course) (old new : End) (e : Event) (before after : List ℕ) → CourseLeadsTo c old → IsCall e → Advances old e before after new → ReadsNothing old new → CourseLeadsTo (called c e) new
+pub called_on : (c : Course) (old new : End) (e : Event) (before after : List ℕ) → CourseLeadsTo c old → IsCall e → Advances old e before after new
+    → ReadsNothing old new → CourseLeadsTo (called c e) new
 called_on c old new e before after a call g keeps = record {
   history = next a.history e;
   reads_as = (a.history, a.reads_as, call, refl);
   leads = g.leads a.history a.leads;
-  reads = subst (λ d. nvt.LeadsTo (stream c) (items (next a.history e)) d) (sym keeps.decoder) (subst (λ (xs : List Item). nvt.LeadsTo (stream c) xs old.decoder) (sym (calls_read e call)) a.reads);
+  reads = subst (λ d. nvt.LeadsTo (stream c) (items (next a.history e)) d) (sym keeps.decoder)
+      (subst (λ (xs : List Item). nvt.LeadsTo (stream c) xs old.decoder) (sym (calls_read e call)) a.reads);
 }
   where
     calls_read : (e : Event) → IsCall e → items (next a.history e) ≡ items a.history
@@ -95,7 +99,8 @@ joined c p q h (mid, last, (old, more, leads, read, is_mid), reads, is) = (
   (
     reads.0,
     subst (λ xs. Reading xs (items old ++ (more ++ last)) reads.0) (append_assoc (stream c) p q)
-        (subst (λ xs. Reading ((stream c ++ p) ++ q) xs reads.0) (ap (λ xs. xs ++ last) (ap items is_mid ∙ items-gets old more) ∙ append_assoc (items old) more last) reads.1),
+        (subst (λ xs. Reading ((stream c ++ p) ++ q) xs reads.0)
+        (ap (λ xs. xs ++ last) (ap items is_mid ∙ items-gets old more) ∙ append_assoc (items old) more last) reads.1),
   ),
   is ∙ ap (λ (x : History). gets x last) is_mid ∙ sym (gets-append old more last),
 )
@@ -120,7 +125,9 @@ part_waits h part none few =
     ap (λ (q : List Symbol). q ++ output_symbols (settings h).flags (take (fitting_count q part) part)) none
     ∙ ap (output_symbols (settings h).flags) (take_all 4096 part few)
 
-pub parts_say : (h : History) (parts : List (List ℕ)) → queue h ≡ [] → All (λ part. length part ≤ 4096) parts → (items_said (in_parts h parts) ≡ items_said h ++ map data_of (output_symbols (settings h).flags (flat_map (λ part. part) parts))) × (queue (in_parts h parts) ≡ [])
+pub parts_say : (h : History) (parts : List (List ℕ)) → queue h ≡ [] → All (λ part. length part ≤ 4096) parts
+    → (items_said (in_parts h parts) ≡ items_said h ++ map data_of (output_symbols (settings h).flags (flat_map (λ part. part) parts)))
+    × (queue (in_parts h parts) ≡ [])
 parts_say h [] none few = (sym (append-nil (items_said h)), none)
 parts_say h (part ∷ parts) none few =
     let f = (settings h).flags in
@@ -142,6 +149,7 @@ parts_say h (part ∷ parts) none few =
     drop_all [] = refl
     drop_all (x ∷ xs) = drop_all xs
 
-    both_shown : (f : Flags) (xs ys : List ℕ) → map data_of (output_symbols f xs) ++ map data_of (output_symbols f ys) ≡ map data_of (output_symbols f (xs ++ ys))
+    both_shown : (f : Flags) (xs ys : List ℕ) → map data_of (output_symbols f xs) ++ map data_of (output_symbols f ys)
+        ≡ map data_of (output_symbols f (xs ++ ys))
     both_shown f [] ys = refl
     both_shown f (x ∷ xs) ys = ap (λ zs. data_of (output_symbol f x) ∷ zs) (both_shown f xs ys)

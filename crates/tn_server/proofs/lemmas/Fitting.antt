@@ -1,5 +1,6 @@
 -- Each item that a server end sends fits a stream.
-use Rattle.std.proofs.Common.{ℕ, Bool, true, false, not, ◌&&◌, Option, Some, None, Result, Ok, Err, List, [], ◌∷◌, ◌++◌, map, take, if◌then◌else◌, arith, lit≤, length-take}
+use Rattle.std.proofs.Common.{ℕ, Bool, true, false, not, ◌&&◌, Option, Some, None, Result, Ok, Err, List, [], ◌∷◌, ◌++◌, map, take, if◌then◌else◌, arith, lit≤}
+use Rattle.std.proofs.Common.{length-take}
 use Rattle.std.specs.Prelude.{All}
 use Rattle.std.proofs.lemmas.List.Elements.{All-nil, All-cons, All-append}
 use Rattle.tn_codes.specs.declared.codes.Command.TheVariants.{Ga}
@@ -23,9 +24,11 @@ use Rattle.tn_option.specs.Options.{Options, reply_to, answer_to, state_of, is_y
 use Rattle.tn_option.specs.declared.q_method.AskFault.{AskFault}
 use Rattle.tn_option.specs.declared.q_method.Side.TheVariants.{Us, Them}
 use Rattle.tn_server.specs.Events.{History, Event, begun, next, got, took, wrote, pulled, wished, char_set, echo_set, mask_set}
-use Rattle.tn_server.specs.Terms.{Terms, terms, options, flags, chars, linemode, payload_at, options_after, wish_at, is_echo_set, wish_after, mask_told, asks_echo, asked_mask_of, wants_echo, chars_after}
+use Rattle.tn_server.specs.Terms.{Terms, terms, options, flags, chars, linemode, payload_at, options_after, wish_at, is_echo_set, wish_after, mask_told}
+use Rattle.tn_server.specs.Terms.{asks_echo, asked_mask_of, wants_echo, chars_after}
 use Rattle.tn_server.specs.Screen.{queue, sends_ga, none_waits, due}
-use Rattle.tn_server.specs.Replies.{asked_word_items, reply_items, table_items, new_table_items, echo_items, items_by, items_at, list_replies, triple_items, forward_payload, data_of, opening, replies, items_said}
+use Rattle.tn_server.specs.Replies.{asked_word_items, reply_items, table_items, new_table_items, echo_items, items_by, items_at, list_replies, triple_items}
+use Rattle.tn_server.specs.Replies.{forward_payload, data_of, opening, replies, items_said}
 use Rattle.tn_wire.specs.Words.{payload_items, list_items, mode_items}
 use Rattle.tn_server.specs.declared.wishes.Editing.{Editing}
 use Rattle.tn_codes.proofs.lemmas.Masks.{length-trimmed}
@@ -52,7 +55,8 @@ says_by_fits f c t o editing set =
     let echo = echo_items (asks_echo t.options o (mask_told t o wish) set) (wants_echo (asked_mask_of o wish) f) o in
     All-append Fits (new_table_items (linemode t.options) (linemode o) c) (mode_items (mask_told t o wish) ++ echo)
     (table_fits (linemode o && not (linemode t.options)) c)
-    (All-append Fits (mode_items (mask_told t o wish)) echo (mode-fits (mask_told t o wish)) (echo_fits (asks_echo t.options o (mask_told t o wish) set) (wants_echo (asked_mask_of o wish) f) o))
+    (All-append Fits (mode_items (mask_told t o wish)) echo (mode-fits (mask_told t o wish))
+    (echo_fits (asks_echo t.options o (mask_told t o wish) set) (wants_echo (asked_mask_of o wish) f) o))
 
 back_fits : (o : Options) (e : Event) → All Fits (reply_items o e)
 back_fits o (got (Neg v option)) = word-fits (reply_to o v option)
@@ -84,7 +88,8 @@ answered_fits : (c : Characters) (p : Option Payload) → IsShortOrNone p → Al
 unfolding server_answers
 answered_fits c None few = All-nil Fits
 answered_fits c (Some (Slc triples)) few =
-    All-append Fits (list_items (server_answers c triples)) _ (list-fits (server_answers c triples) (omega (arith, length-answers_along server_next server_answer c triples, few)))
+    All-append Fits (list_items (server_answers c triples)) _ (list-fits (server_answers c triples)
+    (omega (arith, length-answers_along server_next server_answer c triples, few)))
     (table_fits _ (chars_after c (Some (Slc triples))))
 answered_fits c (Some (Naws width height)) few = All-nil Fits
 answered_fits c (Some (Mode mask)) few = All-nil Fits

@@ -1,5 +1,6 @@
 -- How many entries a piece of a stream makes at most.
-use Rattle.std.proofs.Common.{◌≡◌, ◌≢◌, inl, inr, ℕ, ◌+◌, ◌≤◌, ◌<◌, Bool, true, false, if◌then◌else◌, List, [], ◌∷◌, ◌++◌, length, drop, refl, sym, ap, ◌∙◌, subst, arith, append_assoc, length-append, length-drop}
+use Rattle.std.proofs.Common.{◌≡◌, ◌≢◌, inl, inr, ℕ, ◌+◌, ◌≤◌, ◌<◌, Bool, true, false, if◌then◌else◌, List, [], ◌∷◌, ◌++◌, length, drop, refl, sym, ap, ◌∙◌}
+use Rattle.std.proofs.Common.{subst, arith, append_assoc, length-append, length-drop}
 use Rattle.std.specs.Prelude.{All, flat_map}
 use Rattle.std.proofs.lemmas.Bool.Decides.{eqb_tells, leb_tells}
 use Rattle.std.proofs.lemmas.List.{append_cancel_left}
@@ -117,7 +118,8 @@ no_whole rest later s bytes partial is e =
     )
 
 -- so the first segment that more bytes complete goes past the rest
-goes_past : (rest more after : List ℕ) (s : Segment) → All (λ b. b < 256) rest → IsPartial rest → IsSegment s → rest ++ more ≡ text s ++ (look_ahead s ++ after) → length rest < length (text s) + length (look_ahead s)
+goes_past : (rest more after : List ℕ) (s : Segment) → All (λ b. b < 256) rest → IsPartial rest → IsSegment s → rest ++ more ≡ text s ++ (look_ahead s ++ after)
+    → length rest < length (text s) + length (look_ahead s)
 goes_past rest more after s bytes partial is e =
     let front : List ℕ = text s ++ look_ahead s in
     let long : length front ≡ length (text s) + length (look_ahead s) = length-append (text s) (look_ahead s) in
@@ -129,7 +131,8 @@ goes_past rest more after s bytes partial is e =
       | inr h ↦ omega (arith, h.1, long)
     ]
 
-few_after : (rest more end : List ℕ) (ss : List Segment) → All (λ b. b < 256) rest → IsPartial rest → IsPartial end → Splits ss end (rest ++ more) → length (flat_map gives ss) ≤ length more + 1
+few_after : (rest more end : List ℕ) (ss : List Segment) → All (λ b. b < 256) rest → IsPartial rest → IsPartial end → Splits ss end (rest ++ more)
+    → length (flat_map gives ss) ≤ length more + 1
 few_after rest more end [] bytes partial last e = omega arith
 few_after rest more end (s ∷ ss) bytes partial last (after, is, e, on) =
     let left : List ℕ = look_ahead s ++ after in
@@ -146,7 +149,8 @@ few_after rest more end (s ∷ ss) bytes partial last (after, is, e, on) =
     )
 
 -- a piece completes at most one item for each byte, and one more
-pub completes_few : (stream piece : List ℕ) (had xs : List Item) → All (λ b. b < 256) stream → IsRead stream had → IsRead (stream ++ piece) (had ++ xs) → length xs ≤ length piece + 1
+pub completes_few : (stream piece : List ℕ) (had xs : List Item) → All (λ b. b < 256) stream → IsRead stream had → IsRead (stream ++ piece) (had ++ xs)
+    → length xs ≤ length piece + 1
 completes_few stream piece had xs bytes start whole =
     let on = reads_on stream piece start.0 whole.0 had (had ++ xs) start.1 whole.1 in
     let same : xs ≡ on.0 = append_cancel_left had xs on.0 on.1 in
@@ -211,7 +215,8 @@ waits_few h (x ∷ xs) = omega (arith, waits_few (next h (got x)) xs, waits_one 
 
 -- A PIECE
 
-pub makes_few : (c : Course) (h whole : History) (piece : List ℕ) → All (λ b. b < 256) (stream c) → ReadsAs c h → ReadsAs (fed c piece) whole → length (waiting whole) ≤ length (waiting h) + (length piece + 1)
+pub makes_few : (c : Course) (h whole : History) (piece : List ℕ) → All (λ b. b < 256) (stream c) → ReadsAs c h → ReadsAs (fed c piece) whole
+    → length (waiting whole) ≤ length (waiting h) + (length piece + 1)
 makes_few c h whole piece bytes leads (old, more, before, read, is) =
     omega (
       arith,
@@ -226,7 +231,8 @@ some_left : (h : History) (left : List Item) (here : DecoderState) (back : List 
 some_left h [] here back why = absurd (let f = why.0 in cc)
 some_left h (item ∷ left) here back why = omega arith
 
-pub finds_room : (c : Course) (h : History) (old new : End) (piece before after : List ℕ) (fault : ServerFault) → All (λ b. b < 256) (stream c) → CourseLeadsTo c old → ReadsAs c h → length piece ≤ 512 → length (waiting h) ≤ 511 → StopsWithin old piece fault before after new → fault ≢ Pty TooFarAhead
+pub finds_room : (c : Course) (h : History) (old new : End) (piece before after : List ℕ) (fault : ServerFault) → All (λ b. b < 256) (stream c)
+    → CourseLeadsTo c old → ReadsAs c h → length piece ≤ 512 → length (waiting h) ≤ 511 → StopsWithin old piece fault before after new → fault ≢ Pty TooFarAhead
 finds_room c h old new piece before after fault bytes a leads short few s = λ is.
     let k = a.history in
     let runs = has_read old.decoder (stream c) (items k) a.reads in

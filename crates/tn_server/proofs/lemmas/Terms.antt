@@ -29,7 +29,8 @@ pub terms_stay : (f : Flags) (t : Terms) (editing : Option Editing) → wish_aft
 terms_stay f t editing e =
     rw (e, told_again (linemode t.options) t.wish, differ_self (linemode t.options)) refl
 
-pub says_nothing : (f : Flags) (c : Characters) (t : Terms) (editing : Option Editing) → wish_after f t.wish editing ≡ t.wish → items_by f c t t.options editing false ≡ []
+pub says_nothing : (f : Flags) (c : Characters) (t : Terms) (editing : Option Editing) → wish_after f t.wish editing ≡ t.wish
+    → items_by f c t t.options editing false ≡ []
 says_nothing f c t editing e =
     rw (e, told_again (linemode t.options) t.wish, differ_self (linemode t.options), table_again (linemode t.options) c) refl
 

@@ -1,5 +1,6 @@
 -- The option words of a server end are those of its option engine, step by step.
-use Rattle.std.proofs.Common.{◌≡◌, ℕ, Bool, true, false, not, ◌&&◌, Option, None, Some, Result, Ok, Err, List, [], ◌∷◌, ◌++◌, map, take, refl, sym, ap, ◌∙◌, if◌then◌else◌, append-nil, append_assoc}
+use Rattle.std.proofs.Common.{◌≡◌, ℕ, Bool, true, false, not, ◌&&◌, Option, None, Some, Result, Ok, Err, List, [], ◌∷◌, ◌++◌, map, take, refl, sym, ap, ◌∙◌}
+use Rattle.std.proofs.Common.{if◌then◌else◌, append-nil, append_assoc}
 use Rattle.std.specs.Prelude.{option_to_list}
 use Rattle.std.proofs.lemmas.List.{append_cancel_left}
 use Rattle.tn_codes.specs.declared.codes.Command.TheVariants.{Ga}
@@ -29,9 +30,11 @@ use Rattle.tn_wire.specs.Words.{payload_items, list_items, mode_items}
 use Rattle.tn_server.specs.Calls.{End, LeadsTo, Advances, Feeds}
 use Rattle.tn_server.specs.Course.{IsCall}
 use Rattle.tn_server.specs.Events.{Event, History, next, got, took, wrote, pulled, wished, char_set, echo_set, mask_set, gets}
-use Rattle.tn_server.specs.Replies.{asked_word_items, reply_items, table_items, new_table_items, echo_items, items_by, items_at, list_replies, triple_items, forward_payload, data_of, opening, replies, items_said}
+use Rattle.tn_server.specs.Replies.{asked_word_items, reply_items, table_items, new_table_items, echo_items, items_by, items_at, list_replies, triple_items}
+use Rattle.tn_server.specs.Replies.{forward_payload, data_of, opening, replies, items_said}
 use Rattle.tn_server.specs.Screen.{queue, sends_ga, none_waits, due}
-use Rattle.tn_server.specs.Terms.{Terms, terms, agreement, opening_options, options, flags, chars, linemode, payload_at, options_after, wish_at, wish_after, mask_told, asks_echo, asked_mask_of, wants_echo, options_with_echo, chars_after}
+use Rattle.tn_server.specs.Terms.{Terms, terms, agreement, opening_options, options, flags, chars, linemode, payload_at, options_after, wish_at, wish_after}
+use Rattle.tn_server.specs.Terms.{mask_told, asks_echo, asked_mask_of, wants_echo, options_with_echo, chars_after}
 use Rattle.tn_server.specs.declared.wishes.Editing.{Editing}
 
 -- a server's options and those of its client, and the words that are on their way to each
@@ -55,7 +58,8 @@ table_none false c = refl
 list_none : (c : Characters) (p : Option Payload) → words_in (list_replies c p) ≡ []
 list_none c None = refl
 list_none c (Some (payload.Slc triples)) =
-    none_in (list_items (server_answers c triples)) (table_items (server_is_asked triples) (chars_after c (Some (payload.Slc triples)))) (words_in-list (server_answers c triples)) (table_none (server_is_asked triples) (chars_after c (Some (payload.Slc triples))))
+    none_in (list_items (server_answers c triples)) (table_items (server_is_asked triples) (chars_after c (Some (payload.Slc triples))))
+    (words_in-list (server_answers c triples)) (table_none (server_is_asked triples) (chars_after c (Some (payload.Slc triples))))
 list_none c (Some p) = refl
 
 triple_none : (told : Bool) (func : Func) (value : Option ℕ) → words_in (triple_items told func value) ≡ []
@@ -76,7 +80,8 @@ pub asked_in : (r : Result (Option (Verb × ℕ)) AskFault) → words_in (asked_
 asked_in (Ok said) = words_in-word said
 asked_in (Err fault) = refl
 
-echo_moves : (due wanted : Bool) (o there : Options) (ws vs : List (Verb × ℕ)) → Moves (pair o there ws vs) (pair (options_with_echo due wanted o) there ws (vs ++ words_in (echo_items due wanted o)))
+echo_moves : (due wanted : Bool) (o there : Options) (ws vs : List (Verb × ℕ))
+    → Moves (pair o there ws vs) (pair (options_with_echo due wanted o) there ws (vs ++ words_in (echo_items due wanted o)))
 echo_moves true wanted o there ws vs = (
   wishes_echo wanted ∷ [],
   ap (λ (x : List (Verb × ℕ)). pair (options_after_wish o Us 1 wanted) there ws (vs ++ x)) (sym (asked_in (answer_to o Us 1 wanted))),
@@ -93,7 +98,8 @@ by_words f c t o ed set =
 -- what is said once the options are new
 by_moves : (f : Flags) (c : Characters) (t : Terms) (o there : Options) (ed : Option Editing) (set : Bool) (ws vs : List (Verb × ℕ))
     → Moves (pair o there ws vs)
-    (pair (options_with_echo (asks_echo t.options o (mask_told t o (wish_after f t.wish ed)) set) (wants_echo (asked_mask_of o (wish_after f t.wish ed)) f) o) there ws (vs ++ words_in (items_by f c t o ed set)))
+    (pair (options_with_echo (asks_echo t.options o (mask_told t o (wish_after f t.wish ed)) set) (wants_echo (asked_mask_of o (wish_after f t.wish ed)) f) o)
+    there ws (vs ++ words_in (items_by f c t o ed set)))
 by_moves f c t o there ed set ws vs =
     let wish = wish_after f t.wish ed in
     let due = asks_echo t.options o (mask_told t o wish) set in
@@ -102,7 +108,8 @@ by_moves f c t o there ed set ws vs =
     (m.0, m.1 ∙ ap (λ (x : List (Verb × ℕ)). pair (options_with_echo due wanted o) there ws (vs ++ x)) (sym (by_words f c t o ed set)))
 
 -- AN ITEM: an option word is answered, and then the rest is said
-reply_moves : (o there : Options) (item : Item) (ws vs : List (Verb × ℕ)) → Moves (pair o there (words_in (item ∷ []) ++ ws) vs) (pair (options_after o (got item)) there ws (vs ++ words_in (reply_items o (got item))))
+reply_moves : (o there : Options) (item : Item) (ws vs : List (Verb × ℕ))
+    → Moves (pair o there (words_in (item ∷ []) ++ ws) vs) (pair (options_after o (got item)) there ws (vs ++ words_in (reply_items o (got item))))
 reply_moves o there (Neg verb option) ws vs = (
   server_hears ∷ [],
   ap (λ (x : List (Verb × ℕ)). pair (options_after_word o verb option) there ws (vs ++ x)) (sym (words_in-word (reply_to o verb option))),
@@ -112,20 +119,25 @@ reply_moves o there Newline ws vs = ([], ap (λ (x : List (Verb × ℕ)). pair o
 reply_moves o there (Cmd command) ws vs = ([], ap (λ (x : List (Verb × ℕ)). pair o there ws x) (sym (append-nil vs)))
 reply_moves o there (Sub option params) ws vs = ([], ap (λ (x : List (Verb × ℕ)). pair o there ws x) (sym (append-nil vs)))
 
-pub got_words : (h : History) (item : Item) → words_in (replies h (got item)) ≡ words_in (reply_items (options h) (got item)) ++ words_in (items_by (flags h) (chars h) (terms h) (options_after (options h) (got item)) (wish_at (options h) (got item)) false)
+pub got_words : (h : History) (item : Item) → words_in (replies h (got item)) ≡ words_in (reply_items (options h) (got item))
+    ++ words_in (items_by (flags h) (chars h) (terms h) (options_after (options h) (got item)) (wish_at (options h) (got item)) false)
 got_words h item =
     none_last (items_at (flags h) (chars h) (terms h) (got item)) _ (list_none (chars h) (payload_at (options h) item))
     ∙ words_in-append (reply_items (options h) (got item)) _
 
-got_moves : (h : History) (item : Item) (there : Options) (ws vs : List (Verb × ℕ)) → Moves (pair (options h) there (words_in (item ∷ []) ++ ws) vs) (pair (options (next h (got item))) there ws (vs ++ words_in (replies h (got item))))
+got_moves : (h : History) (item : Item) (there : Options) (ws vs : List (Verb × ℕ))
+    → Moves (pair (options h) there (words_in (item ∷ []) ++ ws) vs) (pair (options (next h (got item))) there ws (vs ++ words_in (replies h (got item))))
 got_moves h item there ws vs =
     let o = options_after (options h) (got item) in
     let back = words_in (reply_items (options h) (got item)) in
     let later = words_in (items_by (flags h) (chars h) (terms h) o (wish_at (options h) (got item)) false) in
     let m = then-Moves (pair (options h) there (words_in (item ∷ []) ++ ws) vs) (pair o there ws (vs ++ back)) _
     (reply_moves (options h) there item ws vs)
-    (by_moves (flags h) (chars h) (terms h) o there (wish_at (options h) (got item)) false ws (vs ++ back)) in
-    (m.0, m.1 ∙ ap (λ (x : List (Verb × ℕ)). pair (options (next h (got item))) there ws x) (append_assoc vs back later ∙ ap (λ (x : List (Verb × ℕ)). vs ++ x) (sym (got_words h item))))
+    (by_moves (flags h) (chars h) (terms h) o there (wish_at (options h) (got item)) false ws (vs ++ back)) in (
+      m.0,
+      m.1 ∙ ap (λ (x : List (Verb × ℕ)). pair (options (next h (got item))) there ws x)
+          (append_assoc vs back later ∙ ap (λ (x : List (Verb × ℕ)). vs ++ x) (sym (got_words h item))),
+    )
 
 -- the first of some words
 cons_words : (item : Item) (items : List Item) (ws : List (Verb × ℕ)) → words_in (item ∷ items) ++ ws ≡ words_in (item ∷ []) ++ (words_in items ++ ws)
@@ -140,43 +152,58 @@ gets_moves h (item ∷ items) there ws vs =
     let said = replies h (got item) in
     let here = got_moves h item there (words_in items ++ ws) vs in
     let later = gets_moves (next h (got item)) items there ws (vs ++ words_in said) in
-    let all = then-Moves (pair (options h) there (words_in (item ∷ []) ++ (words_in items ++ ws)) vs) (pair (options (next h (got item))) there (words_in items ++ ws) (vs ++ words_in said)) (pair (options (gets h (item ∷ items))) there ws ((vs ++ words_in said) ++ words_in later.0)) here later.2 in (
+    let all = then-Moves (pair (options h) there (words_in (item ∷ []) ++ (words_in items ++ ws)) vs)
+    (pair (options (next h (got item))) there (words_in items ++ ws) (vs ++ words_in said))
+    (pair (options (gets h (item ∷ items))) there ws ((vs ++ words_in said) ++ words_in later.0)) here later.2 in (
       said ++ later.0,
       later.1 ∙ append_assoc (items_said h) said later.0,
       (
         all.0,
         ap (λ (x : List (Verb × ℕ)). talk_steps all.0 (pair (options h) there x vs)) (cons_words item items ws)
             ∙ all.1
-            ∙ ap (λ (x : List (Verb × ℕ)). pair (options (gets h (item ∷ items))) there ws x) (append_assoc vs (words_in said) (words_in later.0) ∙ ap (λ (x : List (Verb × ℕ)). vs ++ x) (sym (words_in-append said later.0))),
+            ∙ ap (λ (x : List (Verb × ℕ)). pair (options (gets h (item ∷ items))) there ws x)
+            (append_assoc vs (words_in said) (words_in later.0) ∙ ap (λ (x : List (Verb × ℕ)). vs ++ x) (sym (words_in-append said later.0))),
       ),
     )
 
 -- THE OWNER'S CALLS
-quiet_call : (o there : Options) (said : List Item) (ws vs : List (Verb × ℕ)) → words_in said ≡ [] → Moves (pair o there ws vs) (pair o there ws (vs ++ words_in said))
-quiet_call o there said ws vs none = ([], ap (λ (x : List (Verb × ℕ)). pair o there ws x) (sym (append-nil vs) ∙ ap (λ (x : List (Verb × ℕ)). vs ++ x) (sym none)))
+quiet_call : (o there : Options) (said : List Item) (ws vs : List (Verb × ℕ)) → words_in said ≡ []
+    → Moves (pair o there ws vs) (pair o there ws (vs ++ words_in said))
+quiet_call o there said ws vs none = (
+  [],
+  ap (λ (x : List (Verb × ℕ)). pair o there ws x)
+      (sym (append-nil vs) ∙ ap (λ (x : List (Verb × ℕ)). vs ++ x) (sym none)),
+)
 
 mask_none : (mask : Option Mask) → words_in (payload_items (forward_payload mask)) ≡ []
 mask_none (Some mask) = refl
 mask_none None = refl
 
-pub call_moves : (h : History) (e : Event) (there : Options) (ws vs : List (Verb × ℕ)) → IsCall e → Moves (pair (options h) there ws vs) (pair (options (next h e)) there ws (vs ++ words_in (replies h e)))
+pub call_moves : (h : History) (e : Event) (there : Options) (ws vs : List (Verb × ℕ)) → IsCall e
+    → Moves (pair (options h) there ws vs) (pair (options (next h e)) there ws (vs ++ words_in (replies h e)))
 call_moves h (got item) there ws vs is = absurd is
 call_moves h took there ws vs is = quiet_call (options h) there (replies h took) ws vs (ga_none (sends_ga (none_waits h) (options h) (due h)))
 call_moves h (wrote bytes) there ws vs is = quiet_call (options h) there [] ws vs refl
 call_moves h (pulled n) there ws vs is = quiet_call (options h) there (replies h (pulled n)) ws vs (data_none (take n (queue h)))
 call_moves h (wished editing) there ws vs is = by_moves (flags h) (chars h) (terms h) (options h) there (Some editing) false ws vs
 call_moves h (char_set func value) there ws vs is =
-    quiet_call (options h) there (replies h (char_set func value)) ws vs (triple_none (linemode (options h) && not (is_same_value (slot (chars h) func) value)) func value)
+    quiet_call (options h) there (replies h (char_set func value)) ws vs
+    (triple_none (linemode (options h) && not (is_same_value (slot (chars h) func) value)) func value)
 call_moves h (echo_set on) there ws vs is = by_moves (flags (next h (echo_set on))) (chars h) (terms h) (options h) there None true ws vs
 call_moves h (mask_set mask) there ws vs is = quiet_call (options h) there (replies h (mask_set mask)) ws vs (mask_none mask)
 
 -- THE OPENING WORDS are five wishes
 pub opening_leads : (there : Agree) → LeadTo agreement there (pair opening_options (new_options there) [] (words_in opening))
 unfolding new_options options_after_wish answer_to cell
-opening_leads there = record { list = ask_here Them 34 true ∷ ask_here Them 31 true ∷ ask_here Us 3 true ∷ ask_here Them 3 true ∷ ask_here Us 1 true ∷ []; is = refl }
+opening_leads there = record {
+  list = ask_here Them 34 true ∷ ask_here Them 31 true ∷ ask_here Us 3 true ∷ ask_here Them 3 true ∷ ask_here Us 1 true ∷ [];
+  is = refl;
+}
 
 -- AN END, after a piece and after a call
-pub feeds_moves : (h : History) (old new : End) (piece before after : List ℕ) (there : Options) (ws vs : List (Verb × ℕ)) → LeadsTo h old → (f : Feeds old piece before after new) → Moves (pair old.terms.options there (words_in f.items ++ ws) vs) (pair new.terms.options there ws (vs ++ words_in f.said))
+pub feeds_moves : (h : History) (old new : End) (piece before after : List ℕ) (there : Options) (ws vs : List (Verb × ℕ)) → LeadsTo h old
+    → (f : Feeds old piece before after new) → Moves (pair old.terms.options there (words_in f.items ++ ws) vs)
+    (pair new.terms.options there ws (vs ++ words_in f.said))
 feeds_moves h old new piece before after there ws vs s f =
     let all = gets_moves h f.items there ws vs in
     let same : all.0 ≡ f.said = append_cancel_left (items_said h) all.0 f.said (sym all.1 ∙ f.sends h s) in
@@ -184,7 +211,8 @@ feeds_moves h old new piece before after there ws vs s f =
     let is = ap (λ (t : Terms). t.options) (f.leads h s).terms in
     rw (was, is, sym same) all.2
 
-pub advances_moves : (h : History) (old new : End) (e : Event) (before after : List ℕ) (there : Options) (ws vs : List (Verb × ℕ)) → IsCall e → LeadsTo h old → (g : Advances old e before after new) → Moves (pair old.terms.options there ws vs) (pair new.terms.options there ws (vs ++ words_in g.said))
+pub advances_moves : (h : History) (old new : End) (e : Event) (before after : List ℕ) (there : Options) (ws vs : List (Verb × ℕ)) → IsCall e → LeadsTo h old
+    → (g : Advances old e before after new) → Moves (pair old.terms.options there ws vs) (pair new.terms.options there ws (vs ++ words_in g.said))
 advances_moves h old new e before after there ws vs call s g =
     let was = ap (λ (t : Terms). t.options) s.terms in
     let is = ap (λ (t : Terms). t.options) (g.leads h s).terms in

@@ -75,35 +75,43 @@ module _ (T : History → Type 0) (said : List Item) (s : ClientKeeps T said) wh
   same_run c new e t = subst (λ (r : Run). ClientAt T r) (sym e) t
 
   -- the history went on
-  went_on : (c new : Run) (later : History) → new.sent ≡ sent_after c.progress.closed c.sent later → new.history ≡ later → new.progress.closed ≡ c.progress.closed → (T c.history → T later) → ClientAt T c → ClientAt T new
+  went_on : (c new : Run) (later : History) → new.sent ≡ sent_after c.progress.closed c.sent later → new.history ≡ later
+      → new.progress.closed ≡ c.progress.closed → (T c.history → T later) → ClientAt T c → ClientAt T new
   went_on c new later e f g step t = record {
     latest = λ o. e ∙ sent_latest c.progress.closed c.sent later (sym g ∙ o) ∙ sym f;
     tied = subst T (sym e) (sent_tied c.progress.closed c.sent c.history later t.latest t.tied step);
   }
 
   -- it did not
-  stood : (c new : Run) → new.sent ≡ c.sent → new.history ≡ c.history → (new.progress.closed ≡ false → c.progress.closed ≡ false) → ClientAt T c → ClientAt T new
+  stood : (c new : Run) → new.sent ≡ c.sent → new.history ≡ c.history → (new.progress.closed ≡ false → c.progress.closed ≡ false) → ClientAt T c
+      → ClientAt T new
   stood c new e f g t = record { latest = λ o. e ∙ t.latest (g o) ∙ sym f; tied = subst T (sym e) t.tied }
 
-  turned : (c new : Run) (from : Origin) (m : Message) → new.sent ≡ c.sent → new.history ≡ c.history → new.progress ≡ after_message from m c.progress → ClientAt T c → ClientAt T new
+  turned : (c new : Run) (from : Origin) (m : Message) → new.sent ≡ c.sent → new.history ≡ c.history → new.progress ≡ after_message from m c.progress
+      → ClientAt T c → ClientAt T new
   turned c new from m e f g t = stood c new e f (λ o. opens from m c.progress (sym (ap (λ (p : Progress). p.closed) g) ∙ o)) t
 
   acts : (c new : Run) (from : Origin) (m : Message) → Acts c from m new → IsPrefixOf (items new.history) said → ClientAt T c → ClientAt T new
   acts c new Keys (Piece piece) a p t =
-      went_on c new (types c.history piece) (ap (λ (r : Run). r.sent) a) (ap (λ (r : Run). r.history) a) (ap (λ (r : Run). r.progress.closed) a) (all_typed c.history piece) t
+      went_on c new (types c.history piece) (ap (λ (r : Run). r.sent) a) (ap (λ (r : Run). r.history) a) (ap (λ (r : Run). r.progress.closed) a)
+      (all_typed c.history piece) t
   acts c new Net (Piece piece) a p t =
       let at = ap (λ (r : Run). r.history) a.2 in
       let first = subst (λ (l : List Item). IsPrefixOf l said) (ap items at ∙ items-gets c.history a.0) p in
       went_on c new (gets c.history a.0) (ap (λ (r : Run). r.sent) a.2) at (ap (λ (r : Run). r.progress.closed) a.2) (all_come c.history a.0 first) t
   acts c new from HangUp a p t = turned c new from HangUp (ap (λ (r : Run). r.sent) a) (ap (λ (r : Run). r.history) a) (ap (λ (r : Run). r.progress) a) t
-  acts c new from ReadFailed a p t = turned c new from ReadFailed (ap (λ (r : Run). r.sent) a) (ap (λ (r : Run). r.history) a) (ap (λ (r : Run). r.progress) a) t
+  acts c new from ReadFailed a p t = turned c new from ReadFailed (ap (λ (r : Run). r.sent) a) (ap (λ (r : Run). r.history) a)
+      (ap (λ (r : Run). r.progress) a) t
   acts c new from Take a p t = turned c new from Take (ap (λ (r : Run). r.sent) a) (ap (λ (r : Run). r.history) a) (ap (λ (r : Run). r.progress) a) t
-  acts c new from (Said job text after) a p t = turned c new from (Said job text after) (ap (λ (r : Run). r.sent) a) (ap (λ (r : Run). r.history) a) (ap (λ (r : Run). r.progress) a) t
+  acts c new from (Said job text after) a p t = turned c new from (Said job text after) (ap (λ (r : Run). r.sent) a) (ap (λ (r : Run). r.history) a)
+      (ap (λ (r : Run). r.progress) a) t
   acts c new from Refused a p t = turned c new from Refused (ap (λ (r : Run). r.sent) a) (ap (λ (r : Run). r.history) a) (ap (λ (r : Run). r.progress) a) t
   acts c new from (Resized size) a p t =
-      went_on c new (next c.history (resized size.width size.height)) (ap (λ (r : Run). r.sent) a) (ap (λ (r : Run). r.history) a) (ap (λ (r : Run). r.progress.closed) a) (s.resizes c.history size.width size.height) t
+      went_on c new (next c.history (resized size.width size.height)) (ap (λ (r : Run). r.sent) a) (ap (λ (r : Run). r.history) a)
+      (ap (λ (r : Run). r.progress.closed) a) (s.resizes c.history size.width size.height) t
   acts c new Keys (Asked control) a p t =
-      went_on c new (next c.history (events.sent (command_of control))) (ap (λ (r : Run). r.sent) a) (ap (λ (r : Run). r.history) a) (ap (λ (r : Run). r.progress.closed) a) (s.sends c.history (command_of control)) t
+      went_on c new (next c.history (events.sent (command_of control))) (ap (λ (r : Run). r.sent) a) (ap (λ (r : Run). r.history) a)
+      (ap (λ (r : Run). r.progress.closed) a) (s.sends c.history (command_of control)) t
   acts c new Net (Asked control) a p t = same_run c new a t
   acts c new from Left a p t = turned c new from Left (ap (λ (r : Run). r.sent) a) (ap (λ (r : Run). r.history) a) (ap (λ (r : Run). r.progress) a) t
 
@@ -111,12 +119,16 @@ module _ (T : History → Type 0) (said : List Item) (s : ClientKeeps T said) wh
   handles true c new x a p t = same_run c new a t
   handles false c new x a p t = acts c new x.from x.message a p t
 
-  failed : (c whole new : Run) (x : Told) → ActsUnless c.progress.over c x whole → new.sent ≡ whole.sent → new.history ≡ whole.history → new.progress.closed ≡ whole.progress.closed → IsPrefixOf (items new.history) said → ClientAt T c → ClientAt T new
+  failed : (c whole new : Run) (x : Told) → ActsUnless c.progress.over c x whole → new.sent ≡ whole.sent → new.history ≡ whole.history
+      → new.progress.closed ≡ whole.progress.closed → IsPrefixOf (items new.history) said → ClientAt T c → ClientAt T new
   failed c whole new x a e f g p t =
       stood whole new e f (λ o. sym g ∙ o) (handles c.progress.over c whole x a (subst (λ (h : History). IsPrefixOf (items h) said) f p) t)
 
   pub client_turns : (c new : Run) (x : Told) (k : Mark) → Turns c (x, k) new → IsPrefixOf (items new.history) said → ClientAt T c → ClientAt T new
   client_turns c new x mark.Whole a p t = handles c.progress.over c new x a p t
-  client_turns c new x mark.WriteFailed a p t = failed c a.1 new x a.2 (ap (λ (r : Run). r.sent) a.3) (ap (λ (r : Run). r.history) a.3) (ap (λ (r : Run). r.progress.closed) a.3) p t
-  client_turns c new x mark.ShowFailed a p t = failed c a.1 new x a.2 (ap (λ (r : Run). r.sent) a.3) (ap (λ (r : Run). r.history) a.3) (ap (λ (r : Run). r.progress.closed) a.3) p t
-  client_turns c new x (mark.Refused f) a p t = failed c a.1 new x a.2 (ap (λ (r : Run). r.sent) a.3) (ap (λ (r : Run). r.history) a.3) (ap (λ (r : Run). r.progress.closed) a.3) p t
+  client_turns c new x mark.WriteFailed a p t = failed c a.1 new x a.2 (ap (λ (r : Run). r.sent) a.3) (ap (λ (r : Run). r.history) a.3)
+      (ap (λ (r : Run). r.progress.closed) a.3) p t
+  client_turns c new x mark.ShowFailed a p t = failed c a.1 new x a.2 (ap (λ (r : Run). r.sent) a.3) (ap (λ (r : Run). r.history) a.3)
+      (ap (λ (r : Run). r.progress.closed) a.3) p t
+  client_turns c new x (mark.Refused f) a p t = failed c a.1 new x a.2 (ap (λ (r : Run). r.sent) a.3) (ap (λ (r : Run). r.history) a.3)
+      (ap (λ (r : Run). r.progress.closed) a.3) p t

@@ -27,23 +27,27 @@ module _ {R M : Type 0} (turns : R → M → R → Type 0) (says : R → List �
   abbrev pub IsUpTo : R → List ℕ → Type 0
   IsUpTo p by_now = IsPrefixOf by_now (says p) × ((by_now ≡ says p) ⊎ (is_over p ≡ true))
 
-  begins : (p r : R) (s : M × List ℕ) (by_now : List ℕ) → IsStep turns says is_over is_whole p s r → IsPrefixOf by_now (says p) → ((by_now ≡ says p) ⊎ (is_over p ≡ true)) → IsPrefixOf (by_now ++ s.1) (says r)
+  begins : (p r : R) (s : M × List ℕ) (by_now : List ℕ) → IsStep turns says is_over is_whole p s r → IsPrefixOf by_now (says p)
+      → ((by_now ≡ says p) ⊎ (is_over p ≡ true)) → IsPrefixOf (by_now ++ s.1) (says r)
   begins p r s by_now step up (inl e) = (step.rest, append_assoc by_now s.1 step.rest ∙ ap (λ (l : List ℕ). l ++ (s.1 ++ step.rest)) e ∙ sym step.said)
   begins p r s by_now step up (inr off) =
       let grows : IsPrefixOf (says p) (says r) = (s.1 ++ step.rest, sym step.said) in
       let P : List ℕ → Type 0 = λ l. IsPrefixOf l (says r) in
       subst P (sym (append-nil by_now) ∙ ap (λ (l : List ℕ). by_now ++ l) (sym (step.idle off))) (prefix_trans by_now (says p) (says r) up grows)
 
-  ends : (p r : R) (s : M × List ℕ) (by_now : List ℕ) → IsStep turns says is_over is_whole p s r → ((by_now ≡ says p) ⊎ (is_over p ≡ true)) → (b : Bool) → is_whole s.0 ≡ b → (by_now ++ s.1 ≡ says r) ⊎ (is_over r ≡ true)
+  ends : (p r : R) (s : M × List ℕ) (by_now : List ℕ) → IsStep turns says is_over is_whole p s r → ((by_now ≡ says p) ⊎ (is_over p ≡ true)) → (b : Bool)
+      → is_whole s.0 ≡ b → (by_now ++ s.1 ≡ says r) ⊎ (is_over r ≡ true)
   ends p r s by_now step (inr off) b e = inr (step.stays off)
   ends p r s by_now step (inl whole) false e = inr (step.over e)
-  ends p r s by_now step (inl whole) true e = inl (ap (λ (l : List ℕ). l ++ s.1) whole ∙ ap (λ (l : List ℕ). says p ++ l) (sym (append-nil s.1) ∙ ap (λ (l : List ℕ). s.1 ++ l) (sym (step.all e))) ∙ sym step.said)
+  ends p r s by_now step (inl whole) true e = inl (ap (λ (l : List ℕ). l ++ s.1) whole
+      ∙ ap (λ (l : List ℕ). says p ++ l) (sym (append-nil s.1) ∙ ap (λ (l : List ℕ). s.1 ++ l) (sym (step.all e))) ∙ sym step.said)
 
   pub steps_on : (p r : R) (s : M × List ℕ) (by_now : List ℕ) → IsStep turns says is_over is_whole p s r → IsUpTo p by_now → IsUpTo r (by_now ++ s.1)
   steps_on p r s by_now step up = (begins p r s by_now step up.0 up.1, ends p r s by_now step up.1 (is_whole s.0) refl)
 
   -- all that was ever written, where nothing has any effect any more
-  pub whole_by : (ss : List (M × List ℕ)) (p q : R) (written by_now : List ℕ) → Steps p ss q → written ≡ by_now ++ total ss → ((by_now ≡ says p) ⊎ (is_over p ≡ true)) → (by_now ≡ says p) ⊎ (by_now ≡ written)
+  pub whole_by : (ss : List (M × List ℕ)) (p q : R) (written by_now : List ℕ) → Steps p ss q → written ≡ by_now ++ total ss
+      → ((by_now ≡ says p) ⊎ (is_over p ≡ true)) → (by_now ≡ says p) ⊎ (by_now ≡ written)
   whole_by ss p q written by_now r is (inl e) = inl e
   whole_by ss p q written by_now r is (inr off) = inr (sym (append-nil by_now) ∙ ap (λ (l : List ℕ). by_now ++ l) (sym (nothing_more ss p q off r)) ∙ sym is)
 
@@ -60,12 +64,19 @@ module _ {R M : Type 0} (turns : R → M → R → Type 0) (says : R → List �
         let next = steps_on p r.0 s by_now r.1 up in
         let later : written ≡ (by_now ++ s.1) ++ total ss = is ∙ sym (append_assoc by_now s.1 (total ss)) in (
           record { run = r.0; wrote = by_now ++ s.1 },
-          record { turn = lift p r.0 s.0 r.1.turn; read = refl; wrote = refl; said = next.0; whole = whole_by ss r.0 q written (by_now ++ s.1) r.2 later next.1 },
+          record {
+            turn = lift p r.0 s.0 r.1.turn;
+            read = refl;
+            wrote = refl;
+            said = next.0;
+            whole = whole_by ss r.0 q written (by_now ++ s.1) r.2 later next.1;
+          },
           exchanged ss r.0 q written (by_now ++ s.1) r.2 next later,
         )
 
 -- THE NOTES
-one_note : (came : Mail → List ℕ) (n : Note) (x : Mail) (wrote : List ℕ) → n.took ≡ Some x → n.wrote ≡ wrote → record { read = came x; wrote = wrote } ≡ exchange_of came n
+one_note : (came : Mail → List ℕ) (n : Note) (x : Mail) (wrote : List ℕ) → n.took ≡ Some x → n.wrote ≡ wrote
+    → record { read = came x; wrote = wrote } ≡ exchange_of came n
 one_note came n x wrote took is = sym (λ i. exchange_of came (record { took = took i; wrote = is i }))
 
 both_parts : {A : Type 0} (a b : A) (us vs : List A) → a ∷ us ≡ b ∷ vs → (a ≡ b) × (us ≡ vs)

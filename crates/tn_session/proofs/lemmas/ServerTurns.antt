@@ -10,7 +10,8 @@ use Rattle.tn_server.specs.Lines.{waiting}
 use Rattle.tn_server.specs.Screen.{queue}
 use Rattle.tn_machines.proofs.lemmas.server.Hearing.{move_keeps}
 use Rattle.tn_machines.specs.server.Marks.{Turns, put_or_not}
-use Rattle.tn_machines.specs.server.Run.{Run, Acts, ActsUnless, flushed_history, flush, feed, ask, ask_if, answer, move, in_foreground, after_said, halt_if, is_end, show}
+use Rattle.tn_machines.specs.server.Run.{Run, Acts, ActsUnless, flushed_history, flush, feed, ask, ask_if, answer, move, in_foreground, after_said, halt_if}
+use Rattle.tn_machines.specs.server.Run.{is_end, show}
 use Rattle.tn_machines.specs.declared.server.messages.Mark.{Mark}
 use Rattle.tn_machines.specs.declared.server.messages.Mark.TheVariants as mark
 use Rattle.tn_machines.specs.declared.messages.Message.{Message}
@@ -63,7 +64,8 @@ module _ (T : History → Type 0) (said : List Item) (s : ServerKeeps T said) wh
   says c id parts (Some v) t =
       let m = move id v.next c in
       let d = flush (show parts m) in
-      halts (is_end v.next && in_foreground c id) d (flushes (in_parts m.history parts) (all_written m.history parts (moved c.history m.history (move_keeps id v.next c).history t)))
+      halts (is_end v.next && in_foreground c id) d (flushes (in_parts m.history parts)
+      (all_written m.history parts (moved c.history m.history (move_keeps id v.next c).history t)))
     where
       halts : (b : Bool) (d : Run) → T d.history → T (halt_if b d).history
       halts true d t = t

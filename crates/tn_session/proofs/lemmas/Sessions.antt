@@ -43,13 +43,16 @@ one_more : {A : Type 0} (base xs ys : List A) → IsPrefixOf base xs → IsPrefi
 one_more {A} base xs ys p = (p.0 ++ ys, sym (append_assoc base p.0 ys) ∙ ap (λ (l : List A). l ++ ys) p.1)
 
 -- A transcript of a run, with what it reads and writes.
-pub record Transcript {R M : Type 0} (turns : R → M → R → Type 0) (brings : M → List ℕ) (says : R → List ℕ) (first : R) (messages : List M) (last : R) (written : List ℕ) : Type 0 where
+pub record Transcript {R M : Type 0} (turns : R → M → R → Type 0) (brings : M → List ℕ) (says : R → List ℕ) (first : R) (messages : List M) (last : R)
+    (written : List ℕ) : Type 0 where
   pub transcript : List Exchange
   pub transcribed : Transcribes turns brings says first messages last written transcript
   pub reads : all_read transcript ≡ flat_map brings messages
   pub writes : all_wrote transcript ≡ written
 
-finished : {R M : Type 0} (turns : R → M → R → Type 0) (brings : M → List ℕ) (says : R → List ℕ) (first : R) (messages : List M) (last : R) (written : List ℕ) (steps : List (M × Exchange)) → map (λ s. s.0) steps ≡ messages → FoldsTo (IsExchange turns brings says written) (record { run = first; wrote = [] }) steps (record { run = last; wrote = written })
+finished : {R M : Type 0} (turns : R → M → R → Type 0) (brings : M → List ℕ) (says : R → List ℕ) (first : R) (messages : List M) (last : R) (written : List ℕ)
+    (steps : List (M × Exchange)) → map (λ s. s.0) steps ≡ messages
+    → FoldsTo (IsExchange turns brings says written) (record { run = first; wrote = [] }) steps (record { run = last; wrote = written })
     → Transcript turns brings says first messages last written
 finished turns brings says first messages last written steps is goes = record {
   transcript = map (λ s. s.1) steps;
@@ -59,7 +62,9 @@ finished turns brings says first messages last written steps is goes = record {
 }
 
 -- the same of a transcript that is there
-abbrev saying : {R M : Type 0} (turns : R → M → R → Type 0) (brings : M → List ℕ) (says : R → List ℕ) (first : R) (messages : List M) (last : R) (written : List ℕ) (transcript : List Exchange) → Transcribes turns brings says first messages last written transcript → Transcript turns brings says first messages last written
+abbrev saying : {R M : Type 0} (turns : R → M → R → Type 0) (brings : M → List ℕ) (says : R → List ℕ) (first : R) (messages : List M) (last : R)
+    (written : List ℕ) (transcript : List Exchange) → Transcribes turns brings says first messages last written transcript
+    → Transcript turns brings says first messages last written
 saying turns brings says first messages last written transcript t = record {
   transcript = transcript;
   transcribed = t;
@@ -68,7 +73,8 @@ saying turns brings says first messages last written transcript t = record {
 }
 
 -- THE SERVER'S
-server_grows : (p q : term_run.Run) (m : Option (Message × term_mark.Mark)) → Unit {0} → of_server.OpensOrTurns p m q → Unit {0} × IsPrefixOf (of_server.says p) (of_server.says q)
+server_grows : (p q : term_run.Run) (m : Option (Message × term_mark.Mark)) → Unit {0} → of_server.OpensOrTurns p m q → Unit {0}
+    × IsPrefixOf (of_server.says p) (of_server.says q)
 server_grows p q None g t = (tt, ([], append-nil (of_server.says p) ∙ ap of_server.says (sym t)))
 server_grows p q (Some (m, k)) g t =
     let said = server_says.items_said p.history in
@@ -89,27 +95,36 @@ brings_heard [] = refl
 brings_heard (m ∷ ms) = ap (λ (l : List ℕ). bytes_in m.0 ++ l) (brings_heard ms)
 
 abbrev pub ServerTranscript : term_run.Run → List (Message × term_mark.Mark) → term_run.Run → List ℕ → Type 0
-ServerTranscript first marked last written = Transcript of_server.OpensOrTurns of_server.brings of_server.says first (None ∷ map (λ m. Some m) marked) last written
+ServerTranscript first marked last written = Transcript of_server.OpensOrTurns of_server.brings of_server.says first
+    (None ∷ map (λ m. Some m) marked) last written
 
-pub server_transcript : (first : term_run.Run) (marked : List (Message × term_mark.Mark)) (last : term_run.Run) (written unwritten : List ℕ) → term.Runs first marked last → of_server.says last ≡ written ++ unwritten → ServerTranscript first marked last written
+pub server_transcript : (first : term_run.Run) (marked : List (Message × term_mark.Mark)) (last : term_run.Run) (written unwritten : List ℕ)
+    → term.Runs first marked last → of_server.says last ≡ written ++ unwritten → ServerTranscript first marked last written
 server_transcript first marked last written unwritten r said =
     let P = of_server.OpensOrTurns in
     let ms = map (λ (m : Message × term_mark.Mark). Some m) marked in
     let lifted = lifts marked first last r in
     let all = all_grow P of_server.brings of_server.says (λ c. Unit {0}) server_grows ms first last tt lifted in
-    let next = on_to (of_server.says first) (of_server.says first) (of_server.says last) written [] (prefix_self (of_server.says first)) all (unwritten, sym said) (record { said = (of_server.says first, refl); written = (written, refl) }) in
-    let later = transcribes_on P of_server.brings of_server.says (λ c. Unit {0}) server_grows ms first last written next.0 tt lifted (unwritten, sym said) next.1 in
-    finished P of_server.brings of_server.says first (None ∷ ms) last written ((None, record { read = []; wrote = next.0 }) ∷ later.0) (ap (λ (l : List (Option (Message × term_mark.Mark))). None ∷ l) later.1) (
+    let next = on_to (of_server.says first) (of_server.says first) (of_server.says last) written [] (prefix_self (of_server.says first)) all
+    (unwritten, sym said) (record { said = (of_server.says first, refl); written = (written, refl) }) in
+    let later = transcribes_on P of_server.brings of_server.says (λ c. Unit {0}) server_grows ms first last written next.0 tt lifted
+    (unwritten, sym said) next.1 in
+    finished P of_server.brings of_server.says first (None ∷ ms) last written ((None, record { read = []; wrote = next.0 }) ∷ later.0)
+    (ap (λ (l : List (Option (Message × term_mark.Mark))). None ∷ l) later.1) (
       record { run = first; wrote = next.0 },
       record { turn = refl; read = refl; wrote = refl; said = next.1.is.said; whole = next.1.whole },
       later.2,
     )
 
 -- of a transcript that is there
-abbrev pub server_said : (first : term_run.Run) (marked : List (Message × term_mark.Mark)) (last : term_run.Run) (written : List ℕ) (transcript : List Exchange) → Transcribes of_server.OpensOrTurns of_server.brings of_server.says first (None ∷ map (λ m. Some m) marked) last written transcript → ServerTranscript first marked last written
-server_said first marked last written transcript t = saying of_server.OpensOrTurns of_server.brings of_server.says first (None ∷ map (λ m. Some m) marked) last written transcript t
+abbrev pub server_said : (first : term_run.Run) (marked : List (Message × term_mark.Mark)) (last : term_run.Run) (written : List ℕ) (transcript : List Exchange)
+    → Transcribes of_server.OpensOrTurns of_server.brings of_server.says first (None ∷ map (λ m. Some m) marked) last written transcript
+    → ServerTranscript first marked last written
+server_said first marked last written transcript t = saying of_server.OpensOrTurns of_server.brings of_server.says first
+    (None ∷ map (λ m. Some m) marked) last written transcript t
 
-pub server_reads : (first : term_run.Run) (marked : List (Message × term_mark.Mark)) (last : term_run.Run) (written : List ℕ) (t : ServerTranscript first marked last written) → all_read t.transcript ≡ heard (map (λ m. m.0) marked)
+pub server_reads : (first : term_run.Run) (marked : List (Message × term_mark.Mark)) (last : term_run.Run) (written : List ℕ)
+    (t : ServerTranscript first marked last written) → all_read t.transcript ≡ heard (map (λ m. m.0) marked)
 server_reads first marked last written t = t.reads ∙ brings_heard marked
 
 -- THE CLIENT'S
@@ -134,17 +149,24 @@ brings_brought (m ∷ ms) = ap (λ (l : List ℕ). of_client.brings m ++ l) (bri
 abbrev pub ClientTranscript : core_run.Run → List (Told × core_mark.Mark) → core_run.Run → List ℕ → Type 0
 ClientTranscript first marked last written = Transcript core.Turns of_client.brings of_client.says first marked last written
 
-pub client_transcript : (width height limit : ℕ) (marked : List (Told × core_mark.Mark)) (last : core_run.Run) (written unwritten : List ℕ) → core.Runs (core_run.start width height limit) marked last → of_client.says last ≡ written ++ unwritten → ClientTranscript (core_run.start width height limit) marked last written
+pub client_transcript : (width height limit : ℕ) (marked : List (Told × core_mark.Mark)) (last : core_run.Run) (written unwritten : List ℕ)
+    → core.Runs (core_run.start width height limit) marked last → of_client.says last ≡ written ++ unwritten
+    → ClientTranscript (core_run.start width height limit) marked last written
 client_transcript width height limit marked last written unwritten r said =
     let first = core_run.start width height limit in
-    let later = transcribes_on core.Turns of_client.brings of_client.says IsLatest client_grows marked first last written [] (λ o. refl) r (unwritten, sym said) (record { is = record { said = ([], refl); written = (written, refl) }; whole = inl refl }) in
+    let later = transcribes_on core.Turns of_client.brings of_client.says IsLatest client_grows marked first last written [] (λ o. refl) r (unwritten, sym said)
+    (record { is = record { said = ([], refl); written = (written, refl) }; whole = inl refl }) in
     finished core.Turns of_client.brings of_client.says first marked last written later.0 later.1 later.2
 
 -- of a transcript that is there
-abbrev pub client_said : (width height limit : ℕ) (marked : List (Told × core_mark.Mark)) (last : core_run.Run) (written : List ℕ) (transcript : List Exchange) → Transcribes core.Turns of_client.brings of_client.says (core_run.start width height limit) marked last written transcript → ClientTranscript (core_run.start width height limit) marked last written
-client_said width height limit marked last written transcript t = saying core.Turns of_client.brings of_client.says (core_run.start width height limit) marked last written transcript t
+abbrev pub client_said : (width height limit : ℕ) (marked : List (Told × core_mark.Mark)) (last : core_run.Run) (written : List ℕ) (transcript : List Exchange)
+    → Transcribes core.Turns of_client.brings of_client.says (core_run.start width height limit) marked last written transcript
+    → ClientTranscript (core_run.start width height limit) marked last written
+client_said width height limit marked last written transcript t =
+    saying core.Turns of_client.brings of_client.says (core_run.start width height limit) marked last written transcript t
 
-pub client_reads : (first : core_run.Run) (marked : List (Told × core_mark.Mark)) (last : core_run.Run) (written : List ℕ) (t : ClientTranscript first marked last written) → all_read t.transcript ≡ brought origin.Net (map (λ m. m.0) marked)
+pub client_reads : (first : core_run.Run) (marked : List (Told × core_mark.Mark)) (last : core_run.Run) (written : List ℕ)
+    (t : ClientTranscript first marked last written) → all_read t.transcript ≡ brought origin.Net (map (λ m. m.0) marked)
 client_reads first marked last written t = t.reads ∙ brings_brought marked
 
 -- what was read of what a reader gives
@@ -159,8 +181,11 @@ server_step_of s = (Some s.0, record { read = bytes_in s.0.0; wrote = s.1 })
 abbrev client_step_of : (Told × core_mark.Mark) × List ℕ → (Told × core_mark.Mark) × Exchange
 client_step_of s = (s.0, record { read = of_client.brings s.0; wrote = s.1 })
 
-pub server_stepped : (begin last : term_run.Run) (steps : List ((Message × term_mark.Mark) × List ℕ)) (front : List ℕ) → FoldsTo (IsStep term.Turns terms.says terms.is_over terms.is_marked_whole) begin steps last → IsUpTo term.Turns terms.says terms.is_over terms.is_marked_whole begin front
-    → Transcribes of_server.OpensOrTurns of_server.brings of_server.says begin (None ∷ map (λ m. Some m) (map (λ s. s.0) steps)) last (front ++ total steps) (record { read = []; wrote = front } ∷ map (λ s. record { read = bytes_in s.0.0; wrote = s.1 }) steps)
+pub server_stepped : (begin last : term_run.Run) (steps : List ((Message × term_mark.Mark) × List ℕ)) (front : List ℕ)
+    → FoldsTo (IsStep term.Turns terms.says terms.is_over terms.is_marked_whole) begin steps last
+    → IsUpTo term.Turns terms.says terms.is_over terms.is_marked_whole begin front
+    → Transcribes of_server.OpensOrTurns of_server.brings of_server.says begin (None ∷ map (λ m. Some m) (map (λ s. s.0) steps)) last (front ++ total steps)
+    (record { read = []; wrote = front } ∷ map (λ s. record { read = bytes_in s.0.0; wrote = s.1 }) steps)
 server_stepped begin last steps front goes up =
     let some : Message × term_mark.Mark → Option (Message × term_mark.Mark) = λ m. Some m in
     record {
@@ -169,8 +194,15 @@ server_stepped begin last steps front goes up =
       of_steps = ap (λ (l : List Exchange). record { read = []; wrote = front } ∷ l) (seconds steps);
       goes = (
         record { run = begin; wrote = front },
-        record { turn = refl; read = refl; wrote = refl; said = up.0; whole = whole_by term.Turns terms.says terms.is_over terms.is_marked_whole steps begin last (front ++ total steps) front goes refl up.1 },
-        exchanged term.Turns terms.says terms.is_over terms.is_marked_whole some of_server.OpensOrTurns (λ p q m t. t) of_server.brings steps begin last (front ++ total steps) front goes up refl,
+        record {
+          turn = refl;
+          read = refl;
+          wrote = refl;
+          said = up.0;
+          whole = whole_by term.Turns terms.says terms.is_over terms.is_marked_whole steps begin last (front ++ total steps) front goes refl up.1;
+        },
+        exchanged term.Turns terms.says terms.is_over terms.is_marked_whole some of_server.OpensOrTurns (λ p q m t. t) of_server.brings steps begin last
+            (front ++ total steps) front goes up refl,
       );
     }
   where
@@ -178,25 +210,30 @@ server_stepped begin last steps front goes up =
     firsts [] = refl
     firsts (s ∷ ss) = ap (λ (l : List (Option (Message × term_mark.Mark))). Some s.0 ∷ l) (firsts ss)
 
-    seconds : (ss : List ((Message × term_mark.Mark) × List ℕ)) → map (λ s. s.1) (map server_step_of ss) ≡ map (λ s. record { read = bytes_in s.0.0; wrote = s.1 }) ss
+    seconds : (ss : List ((Message × term_mark.Mark) × List ℕ)) →
+        map (λ s. s.1) (map server_step_of ss) ≡ map (λ s. record { read = bytes_in s.0.0; wrote = s.1 }) ss
     seconds [] = refl
     seconds (s ∷ ss) = ap (λ (l : List Exchange). record { read = bytes_in s.0.0; wrote = s.1 } ∷ l) (seconds ss)
 
 -- a client says nothing at first
-pub client_stepped : (begin last : core_run.Run) (steps : List ((Told × core_mark.Mark) × List ℕ)) → FoldsTo (IsStep core.Turns cores.says cores.is_over cores.is_marked_written) begin steps last → cores.says begin ≡ []
-    → Transcribes core.Turns of_client.brings of_client.says begin (map (λ s. s.0) steps) last (total steps) (map (λ s. record { read = of_client.brings s.0; wrote = s.1 }) steps)
+pub client_stepped : (begin last : core_run.Run) (steps : List ((Told × core_mark.Mark) × List ℕ))
+    → FoldsTo (IsStep core.Turns cores.says cores.is_over cores.is_marked_written) begin steps last → cores.says begin ≡ []
+    → Transcribes core.Turns of_client.brings of_client.says begin (map (λ s. s.0) steps) last (total steps)
+    (map (λ s. record { read = of_client.brings s.0; wrote = s.1 }) steps)
 client_stepped begin last steps goes silent = record {
   steps = map client_step_of steps;
   of_messages = firsts steps;
   of_steps = seconds steps;
-  goes = exchanged core.Turns cores.says cores.is_over cores.is_marked_written (λ (m : Told × core_mark.Mark). m) core.Turns (λ p q m t. t) of_client.brings steps begin last (total steps) [] goes ((cores.says begin, refl), inl (sym silent)) refl;
+  goes = exchanged core.Turns cores.says cores.is_over cores.is_marked_written (λ (m : Told × core_mark.Mark). m) core.Turns
+      (λ p q m t. t) of_client.brings steps begin last (total steps) [] goes ((cores.says begin, refl), inl (sym silent)) refl;
 }
   where
     firsts : (ss : List ((Told × core_mark.Mark) × List ℕ)) → map (λ s. s.0) (map client_step_of ss) ≡ map (λ s. s.0) ss
     firsts [] = refl
     firsts (s ∷ ss) = ap (λ (l : List (Told × core_mark.Mark)). s.0 ∷ l) (firsts ss)
 
-    seconds : (ss : List ((Told × core_mark.Mark) × List ℕ)) → map (λ s. s.1) (map client_step_of ss) ≡ map (λ s. record { read = of_client.brings s.0; wrote = s.1 }) ss
+    seconds : (ss : List ((Told × core_mark.Mark) × List ℕ)) → map (λ s. s.1) (map client_step_of ss)
+        ≡ map (λ s. record { read = of_client.brings s.0; wrote = s.1 }) ss
     seconds [] = refl
     seconds (s ∷ ss) = ap (λ (l : List Exchange). record { read = of_client.brings s.0; wrote = s.1 } ∷ l) (seconds ss)
 
@@ -209,7 +246,8 @@ all_noted : (n : Note) (ns : List Note) → notes (noted_from n ns) ≡ n ∷ ns
 all_noted n [] = refl
 all_noted n (m ∷ ms) = ap (λ (l : List Note). n ∷ l) (all_noted m ms)
 
-each_read : {R M : Type 0} (turns : R → M → R → Type 0) (brings : M → List ℕ) (says : R → List ℕ) (written : List ℕ) (steps : List (M × Exchange)) (p q : Point R) → FoldsTo (IsExchange turns brings says written) p steps q → map (λ s. s.1.read) steps ≡ map (λ s. brings s.0) steps
+each_read : {R M : Type 0} (turns : R → M → R → Type 0) (brings : M → List ℕ) (says : R → List ℕ) (written : List ℕ) (steps : List (M × Exchange))
+    (p q : Point R) → FoldsTo (IsExchange turns brings says written) p steps q → map (λ s. s.1.read) steps ≡ map (λ s. brings s.0) steps
 each_read turns brings says written [] p q goes = refl
 each_read turns brings says written (s ∷ ss) p q goes = λ i. goes.1.read i ∷ each_read turns brings says written ss goes.0 q goes.2 i
 
@@ -222,7 +260,8 @@ none_some e = cc
 some_none : {A : Type 0} {x : A} {xs : List A} → x ∷ xs ≡ [] → ⊥
 some_none e = cc
 
-noted_steps : (brought_by : Mail → List ℕ) (exchanges : List Exchange) (mails : List Mail) → map (λ x. x.read) exchanges ≡ map brought_by mails → (ns : List Note) × (exchanges ≡ map (exchange_of brought_by) ns) × (map (λ n. n.took) ns ≡ map (λ x. Some x) mails)
+noted_steps : (brought_by : Mail → List ℕ) (exchanges : List Exchange) (mails : List Mail) → map (λ x. x.read) exchanges ≡ map brought_by mails
+    → (ns : List Note) × (exchanges ≡ map (exchange_of brought_by) ns) × (map (λ n. n.took) ns ≡ map (λ x. Some x) mails)
 noted_steps brought_by [] [] e = ([], refl, refl)
 noted_steps brought_by [] (m ∷ ms) e = absurd (none_some e)
 noted_steps brought_by (x ∷ xs) [] e = absurd (some_none e)
@@ -232,9 +271,11 @@ noted_steps brought_by (x ∷ xs) (m ∷ ms) e =
     let first : x ≡ record { read = brought_by m; wrote = x.wrote } = λ i. record { read = p.0 i; wrote = x.wrote } in
     (record { took = Some m; wrote = x.wrote } ∷ later.0, λ i. first i ∷ later.1 i, ap (λ (l : List (Option Mail)). Some m ∷ l) later.2)
 
-reads_of : {R M : Type 0} (turns : R → M → R → Type 0) (brings : M → List ℕ) (says : R → List ℕ) (first : R) (messages : List M) (last : R) (written : List ℕ) (transcript : List Exchange) → Transcribes turns brings says first messages last written transcript → map (λ x. x.read) transcript ≡ map brings messages
+reads_of : {R M : Type 0} (turns : R → M → R → Type 0) (brings : M → List ℕ) (says : R → List ℕ) (first : R) (messages : List M) (last : R) (written : List ℕ)
+    (transcript : List Exchange) → Transcribes turns brings says first messages last written transcript → map (λ x. x.read) transcript ≡ map brings messages
 reads_of {R} {M} turns brings says first messages last written transcript t =
-    ap (map (λ (x : Exchange). x.read)) (sym t.of_steps) ∙ reads t.steps ∙ each_read turns brings says written t.steps _ _ t.goes ∙ brought_in t.steps ∙ ap (map brings) t.of_messages
+    ap (map (λ (x : Exchange). x.read)) (sym t.of_steps) ∙ reads t.steps ∙ each_read turns brings says written t.steps _ _ t.goes ∙ brought_in t.steps
+    ∙ ap (map brings) t.of_messages
   where
     reads : (ss : List (M × Exchange)) → map (λ x. x.read) (map (λ s. s.1) ss) ≡ map (λ s. s.1.read) ss
     reads [] = refl
@@ -244,11 +285,15 @@ reads_of {R} {M} turns brings says first messages last written transcript t =
     brought_in [] = refl
     brought_in (s ∷ ss) = ap (λ (l : List (List ℕ)). brings s.0 ∷ l) (brought_in ss)
 
-pub server_noted : (first : term_run.Run) (marked : List (Message × term_mark.Mark)) (last : term_run.Run) (written : List ℕ) (handled : List Mail) (t : ServerTranscript first marked last written) → map (λ m. m.0) marked ≡ messages_of handled → (noted : Noted) × of_server.IsNoted first marked last written handled noted t.transcript
+pub server_noted : (first : term_run.Run) (marked : List (Message × term_mark.Mark)) (last : term_run.Run) (written : List ℕ) (handled : List Mail)
+    (t : ServerTranscript first marked last written) → map (λ m. m.0) marked ≡ messages_of handled → (noted : Noted)
+    × of_server.IsNoted first marked last written handled noted t.transcript
 server_noted first marked last written handled t messages =
-    go t.transcript t.transcribed (reads_of of_server.OpensOrTurns of_server.brings of_server.says first (None ∷ map (λ (m : Message × term_mark.Mark). Some m) marked) last written t.transcript t.transcribed)
+    go t.transcript t.transcribed (reads_of of_server.OpensOrTurns of_server.brings of_server.says first
+    (None ∷ map (λ (m : Message × term_mark.Mark). Some m) marked) last written t.transcript t.transcribed)
   where
-    some_brought : (ms : List (Message × term_mark.Mark)) (xs : List Mail) → map (λ m. m.0) ms ≡ messages_of xs → map of_server.brings (map (λ m. Some m) ms) ≡ map of_server.brought_by xs
+    some_brought : (ms : List (Message × term_mark.Mark)) (xs : List Mail) → map (λ m. m.0) ms ≡ messages_of xs
+        → map of_server.brings (map (λ m. Some m) ms) ≡ map of_server.brought_by xs
     some_brought [] [] e = refl
     some_brought [] (x ∷ xs) e = absurd (none_some e)
     some_brought (m ∷ ms) [] e = absurd (some_none e)
@@ -256,7 +301,9 @@ server_noted first marked last written handled t messages =
         let p = parts m.0 x.message (map (λ (k : Message × term_mark.Mark). k.0) ms) (messages_of xs) e in
         λ i. bytes_in (p.0 i) ∷ some_brought ms xs p.1 i
 
-    go : (transcript : List Exchange) → Transcribes of_server.OpensOrTurns of_server.brings of_server.says first (None ∷ map (λ m. Some m) marked) last written transcript → map (λ x. x.read) transcript ≡ [] ∷ map of_server.brings (map (λ m. Some m) marked) → (noted : Noted) × of_server.IsNoted first marked last written handled noted transcript
+    go : (transcript : List Exchange) → Transcribes of_server.OpensOrTurns of_server.brings of_server.says first
+        (None ∷ map (λ m. Some m) marked) last written transcript → map (λ x. x.read) transcript ≡ [] ∷ map of_server.brings (map (λ m. Some m) marked)
+        → (noted : Noted) × of_server.IsNoted first marked last written handled noted transcript
     go [] transcribed read = absurd (none_some read)
     go (x ∷ xs) transcribed read =
         let p = parts x.read [] (map (λ (y : Exchange). y.read) xs) (map of_server.brings (map (λ (m : Message × term_mark.Mark). Some m) marked)) read in
@@ -272,7 +319,10 @@ server_noted first marked last written handled t messages =
           },
         )
 
-pub client_noted : (width height limit : ℕ) (marked : List (Told × core_mark.Mark)) (last : core_run.Run) (written : List ℕ) (handled : List Mail) (t : ClientTranscript (core_run.start width height limit) marked last written) → map (λ m. m.0) marked ≡ all_told handled → (noted : Noted) × (steps : List Note) × (notes noted ≡ notes no_notes ++ steps) × (map (λ n. n.took) steps ≡ map (λ x. Some x) handled) × (t.transcript ≡ map (exchange_of of_client.brought_by) steps)
+pub client_noted : (width height limit : ℕ) (marked : List (Told × core_mark.Mark)) (last : core_run.Run) (written : List ℕ) (handled : List Mail)
+    (t : ClientTranscript (core_run.start width height limit) marked last written) → map (λ m. m.0) marked ≡ all_told handled → (noted : Noted)
+    × (steps : List Note) × (notes noted ≡ notes no_notes ++ steps) × (map (λ n. n.took) steps ≡ map (λ x. Some x) handled)
+    × (t.transcript ≡ map (exchange_of of_client.brought_by) steps)
 client_noted width height limit marked last written handled t messages =
     let read = reads_of core.Turns of_client.brings of_client.says (core_run.start width height limit) marked last written t.transcript t.transcribed in
     let steps = noted_steps of_client.brought_by t.transcript handled (read ∙ all_brought marked handled messages) in

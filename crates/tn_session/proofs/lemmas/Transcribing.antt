@@ -54,7 +54,8 @@ pub record IsUpToDate (says all by_now : List ℕ) : Type 0 where
   pub whole : (by_now ≡ says) ⊎ (by_now ≡ all)
 
 -- one step on
-pub on_to : (before after all written by_now : List ℕ) → IsPrefixOf before after → IsPrefixOf after all → IsPrefixOf written all → IsWritten before written by_now
+pub on_to : (before after all written by_now : List ℕ) → IsPrefixOf before after → IsPrefixOf after all → IsPrefixOf written all
+    → IsWritten before written by_now
     → (more : List ℕ) × IsUpToDate after written (by_now ++ more)
 on_to before after all written by_now grows within of is = go (compare after written all within of)
   where
@@ -62,10 +63,12 @@ on_to before after all written by_now grows within of is = go (compare after wri
     upto now p u = (p.0, subst (λ (l : List ℕ). IsUpToDate after written l) (sym p.1) u)
 
     go : IsPrefixOf after written ⊎ IsPrefixOf written after → (more : List ℕ) × IsUpToDate after written (by_now ++ more)
-    go (inl first) = upto after (prefix_trans by_now before after is.said grows) (record { is = record { said = prefix_self after; written = first }; whole = inl refl })
+    go (inl first) = upto after (prefix_trans by_now before after is.said grows)
+        (record { is = record { said = prefix_self after; written = first }; whole = inl refl })
     go (inr first) = upto written is.written (record { is = record { said = first; written = prefix_self written }; whole = inr refl })
 
-module _ {R M : Type 0} (turns : R → M → R → Type 0) (brings : M → List ℕ) (says : R → List ℕ) (Good : R → Type 0) (grows : (p q : R) (m : M) → Good p → turns p m q → Good q × IsPrefixOf (says p) (says q)) where
+module _ {R M : Type 0} (turns : R → M → R → Type 0) (brings : M → List ℕ) (says : R → List ℕ) (Good : R → Type 0)
+    (grows : (p q : R) (m : M) → Good p → turns p m q → Good q × IsPrefixOf (says p) (says q)) where
   pub all_grow : (ms : List M) (p last : R) → Good p → FoldsTo turns p ms last → IsPrefixOf (says p) (says last)
   all_grow [] p last g r = ([], append-nil (says p) ∙ ap says r)
   all_grow (m ∷ ms) p last g r =
@@ -76,7 +79,8 @@ module _ {R M : Type 0} (turns : R → M → R → Type 0) (brings : M → List 
   Steps written p ms q = (steps : List (M × Exchange)) × (map (λ s. s.0) steps ≡ ms) × FoldsTo (IsExchange turns brings says written) p steps q
 
   -- all that follows, from what is written by now
-  pub transcribes_on : (ms : List M) (p last : R) (written by_now : List ℕ) → Good p → FoldsTo turns p ms last → IsPrefixOf written (says last) → IsUpToDate (says p) written by_now
+  pub transcribes_on : (ms : List M) (p last : R) (written by_now : List ℕ) → Good p → FoldsTo turns p ms last → IsPrefixOf written (says last)
+      → IsUpToDate (says p) written by_now
       → Steps written (record { run = p; wrote = by_now }) ms (record { run = last; wrote = written })
   transcribes_on [] p last written by_now g r of up = ([], refl, λ i. record { run = r i; wrote = at_last up.whole i })
     where
@@ -89,17 +93,23 @@ module _ {R M : Type 0} (turns : R → M → R → Type 0) (brings : M → List 
       let later = transcribes_on ms r.0 last written (by_now ++ next.0) one.0 r.2 of next.1 in (
         (m, record { read = brings m; wrote = next.0 }) ∷ later.0,
         ap (λ (l : List M). m ∷ l) later.1,
-        (record { run = r.0; wrote = by_now ++ next.0 }, record { turn = r.1; read = refl; wrote = refl; said = next.1.is.said; whole = next.1.whole }, later.2),
+        (
+          record { run = r.0; wrote = by_now ++ next.0 },
+          record { turn = r.1; read = refl; wrote = refl; said = next.1.is.said; whole = next.1.whole },
+          later.2,
+        ),
       )
 
 module _ {R M : Type 0} (turns : R → M → R → Type 0) (brings : M → List ℕ) (says : R → List ℕ) where
   -- what the steps read is what the messages bring
-  pub reads_all : (written : List ℕ) (steps : List (M × Exchange)) (p q : Point R) → FoldsTo (IsExchange turns brings says written) p steps q → all_read (map (λ s. s.1) steps) ≡ flat_map brings (map (λ s. s.0) steps)
+  pub reads_all : (written : List ℕ) (steps : List (M × Exchange)) (p q : Point R) → FoldsTo (IsExchange turns brings says written) p steps q
+      → all_read (map (λ s. s.1) steps) ≡ flat_map brings (map (λ s. s.0) steps)
   reads_all written [] p q r = refl
   reads_all written (s ∷ steps) p q r = λ i. r.1.read i ++ reads_all written steps r.0 q r.2 i
 
   -- and what they wrote comes to all that was written
-  pub wrote_all : (written : List ℕ) (steps : List (M × Exchange)) (p q : Point R) → FoldsTo (IsExchange turns brings says written) p steps q → q.wrote ≡ p.wrote ++ all_wrote (map (λ s. s.1) steps)
+  pub wrote_all : (written : List ℕ) (steps : List (M × Exchange)) (p q : Point R) → FoldsTo (IsExchange turns brings says written) p steps q
+      → q.wrote ≡ p.wrote ++ all_wrote (map (λ s. s.1) steps)
   wrote_all written [] p q r = sym (ap (λ (x : Point R). x.wrote) r) ∙ sym (append-nil p.wrote)
   wrote_all written (s ∷ steps) p q r =
       let later = all_wrote (map (λ (x : M × Exchange). x.1) steps) in

@@ -10,7 +10,8 @@ come_none None = refl
 come_none (Some f) = (refl, refl)
 
 -- one that gave something
-pub come_more : (n calls gave : ℕ) (old mid new : Option Failures) → HasCome calls gave old mid → ForetellsCall (Ok n) mid new → HasCome (calls + 1) (gave + 1) old new
+pub come_more : (n calls gave : ℕ) (old mid new : Option Failures) → HasCome calls gave old mid → ForetellsCall (Ok n) mid new
+    → HasCome (calls + 1) (gave + 1) old new
 come_more n calls gave None None new had call = call
 come_more n calls gave None (Some mid) new had call = absurd (let e = had in cc)
 come_more n calls gave (Some old) None new had call = absurd had
@@ -21,7 +22,8 @@ come_more n calls gave (Some old) (Some mid) (Some new) had call =
     (omega (arith, had.0, failing), omega (arith, had.1, interrupted))
 
 -- one that was interrupted
-pub come_again : (e : Error) (calls gave : ℕ) (old mid new : Option Failures) → error_kind e ≡ Interrupted → HasCome calls gave old mid → ForetellsCall (Err e) mid new → HasCome (calls + 1) gave old new
+pub come_again : (e : Error) (calls gave : ℕ) (old mid new : Option Failures) → error_kind e ≡ Interrupted → HasCome calls gave old mid
+    → ForetellsCall (Err e) mid new → HasCome (calls + 1) gave old new
 come_again e calls gave None None new kind had call = call
 come_again e calls gave None (Some mid) new kind had call = absurd (let e = had in cc)
 come_again e calls gave (Some old) None new kind had call = absurd had
@@ -31,7 +33,8 @@ come_again e calls gave (Some old) (Some mid) (Some new) kind had call =
     (omega (arith, had.0, c.0), omega (arith, had.1, c.1))
 
 -- one that failed
-pub come_failed : (e : Error) (most calls gave : ℕ) (old mid new : Option Failures) → error_kind e ≢ Interrupted → HasCome calls gave old mid → ForetellsCall (Err e) mid new → WillFail most gave old
+pub come_failed : (e : Error) (most calls gave : ℕ) (old mid new : Option Failures) → error_kind e ≢ Interrupted → HasCome calls gave old mid
+    → ForetellsCall (Err e) mid new → WillFail most gave old
 come_failed e most calls gave None mid new kind had call = tt
 come_failed e most calls gave (Some old) None new kind had call = absurd had
 come_failed e most calls gave (Some old) (Some mid) None kind had call = absurd call

@@ -49,13 +49,15 @@ module _ {T V Role : Type 0} (share : V → Role → Option (List T)) (Woven : L
       one (suc j) u e r l is = absurd (some-ne-none u (sym e))
 
   -- what a pass learns
-  pub learns : (items : List T) (views : List V) (pass : ℕ) (v : V) → Kept share Woven items views → get_elem? views pass ≡ some v → (held : Role → List T) × Woven items held × ((r : Role) (l : List T) → share v r ≡ Some l → l ≡ held r)
+  pub learns : (items : List T) (views : List V) (pass : ℕ) (v : V) → Kept share Woven items views → get_elem? views pass ≡ some v → (held : Role → List T)
+      × Woven items held × ((r : Role) (l : List T) → share v r ≡ Some l → l ≡ held r)
   learns items views pass v kept at = (kept.1, kept.2, λ r l is. (kept.3 pass v at r l is).1)
 
   -- the lists of one pass change, and its roles stay
   pub moves : (items later : List T) (views : List V) (pass : ℕ) (v w : V)
       → ((r : Role) (l : List T) → share w r ≡ Some l → (k : List T) × (share v r ≡ Some k))
-      → ((held : Role → List T) → ((r : Role) (l : List T) → share v r ≡ Some l → l ≡ held r) → Woven items held → Woven later (λ r. or_held (share w r) (held r)))
+      → ((held : Role → List T) → ((r : Role) (l : List T) → share v r ≡ Some l → l ≡ held r) → Woven items held
+      → Woven later (λ r. or_held (share w r) (held r)))
       → Kept share Woven items views → get_elem? views pass ≡ some v → Kept share Woven later (set views pass w)
   moves items later views pass v w roles weave kept at =
       let seat : Role → ℕ = kept.0 in
@@ -71,8 +73,11 @@ module _ {T V Role : Type 0} (share : V → Role → Option (List T)) (Woven : L
             let k : (k : List T) × (share v r ≡ Some k) = roles r l here in
             (x.0 ∙ (mine r k.0 k.1).0, sym (ap (λ (o : Option (List T)). or_held o (held r)) here)))
             (λ (x : (j ≢ pass) × (get_elem? views j ≡ some u)). λ r l is.
-            let old : (j ≡ seat r) × (l ≡ held r) = kept.3 j u x.1 r l is in
-            (old.0, old.1 ∙ kept_held (share w r) (held r) (λ l' e'. let k : (k : List T) × (share v r ≡ Some k) = roles r l' e' in x.0 (old.0 ∙ sym (mine r k.0 k.1).0))))
+            let old : (j ≡ seat r) × (l ≡ held r) = kept.3 j u x.1 r l is in (
+              old.0,
+              old.1 ∙ kept_held (share w r) (held r) (λ l' e'. let k : (k : List T) × (share v r ≡ Some k) = roles r l' e'
+                  in x.0 (old.0 ∙ sym (mine r k.0 k.1).0)),
+            ))
             (at_set views pass j w u e),
       )
 
@@ -81,12 +86,15 @@ module _ {T V Role : Type 0} (share : V → Role → Option (List T)) (Woven : L
   Cuts v left right = (r : Role) → ((share left r ≡ share v r) × (share right r ≡ None)) ⊎ ((share left r ≡ None) × (share right r ≡ share v r))
 
   cut_left : (v left right : V) → Cuts v left right → (r : Role) (l : List T) → share left r ≡ Some l → (share v r ≡ Some l) × (share right r ≡ None)
-  cut_left v left right cuts r l is = ⊎_elim (λ (x : (share left r ≡ share v r) × (share right r ≡ None)). (sym x.0 ∙ is, x.1)) (λ (x : (share left r ≡ None) × (share right r ≡ share v r)). absurd (no_some (share left r) l x.0 is)) (cuts r)
+  cut_left v left right cuts r l is = ⊎_elim (λ (x : (share left r ≡ share v r) × (share right r ≡ None)). (sym x.0 ∙ is, x.1))
+      (λ (x : (share left r ≡ None) × (share right r ≡ share v r)). absurd (no_some (share left r) l x.0 is)) (cuts r)
 
   cut_right : (v left right : V) → Cuts v left right → (r : Role) (l : List T) → share right r ≡ Some l → share v r ≡ Some l
-  cut_right v left right cuts r l is = ⊎_elim (λ (x : (share left r ≡ share v r) × (share right r ≡ None)). absurd (no_some (share right r) l x.1 is)) (λ (x : (share left r ≡ None) × (share right r ≡ share v r)). sym x.1 ∙ is) (cuts r)
+  cut_right v left right cuts r l is = ⊎_elim (λ (x : (share left r ≡ share v r) × (share right r ≡ None)). absurd (no_some (share right r) l x.1 is))
+      (λ (x : (share left r ≡ None) × (share right r ≡ share v r)). sym x.1 ∙ is) (cuts r)
 
-  pub forks : (pass : ℕ) (v left right : V) → Cuts v left right → (items : List T) (views : List V) → Kept share Woven items views → get_elem? views pass ≡ some v → Kept share Woven items (set views pass left ++ right ∷ [])
+  pub forks : (pass : ℕ) (v left right : V) → Cuts v left right → (items : List T) (views : List V) → Kept share Woven items views
+      → get_elem? views pass ≡ some v → Kept share Woven items (set views pass left ++ right ∷ [])
   forks pass v left right cuts items views kept at =
       let seat : Role → ℕ = kept.0 in
       let held : Role → List T = kept.1 in
@@ -116,13 +124,15 @@ module _ {T V Role : Type 0} (share : V → Role → Option (List T)) (Woven : L
   pub merges : (pass : ℕ) (v : V) (other : ℕ) (w both spent : V)
       → ((r : Role) (l : List T) → share both r ≡ Some l → (share v r ≡ Some l) ⊎ (share w r ≡ Some l))
       → ((r : Role) → share spent r ≡ None)
-      → (items : List T) (views : List V) → Kept share Woven items views → get_elem? views pass ≡ some v → ¬ (other ≡ pass) → get_elem? (set views pass both) other ≡ some w
+      → (items : List T) (views : List V) → Kept share Woven items views → get_elem? views pass ≡ some v → ¬ (other ≡ pass)
+      → get_elem? (set views pass both) other ≡ some w
       → Kept share Woven items (set (set views pass both) other spent)
   merges pass v other w both spent joined empty items views kept at apart at' =
       let seat : Role → ℕ = kept.0 in
       let held : Role → List T = kept.1 in
       let mine : Fits share Woven seat held pass v = kept.3 pass v at in
-      let was : get_elem? views other ≡ some w = ⊎_elim (λ (x : (other ≡ pass) × (both ≡ w)). absurd (apart x.0)) (λ (x : (other ≢ pass) × (get_elem? views other ≡ some w)). x.1) (at_set views pass other both w at') in
+      let was : get_elem? views other ≡ some w = ⊎_elim (λ (x : (other ≡ pass) × (both ≡ w)). absurd (apart x.0))
+      (λ (x : (other ≢ pass) × (get_elem? views other ≡ some w)). x.1) (at_set views pass other both w at') in
       let theirs : Fits share Woven seat held other w = kept.3 other w was in (
         λ r. pick (share w r) pass (seat r),
         held,

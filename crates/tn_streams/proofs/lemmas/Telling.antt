@@ -1,5 +1,6 @@
 -- Calls one after another, and what they tell.
-use Rattle.std.proofs.Common.{◌≡◌, ◌≢◌, ℕ, ◌+◌, ◌<◌, ◌≤◌, Bool, true, false, ◌&&◌, List, length, Option, Some, None, Ok, Err, inl, inr, ⊎_elim, ◌⊎◌, refl, ap, ◌∙◌, arith}
+use Rattle.std.proofs.Common.{◌≡◌, ◌≢◌, ℕ, ◌+◌, ◌<◌, ◌≤◌, Bool, true, false, ◌&&◌, List, length, Option, Some, None, Ok, Err, inl, inr, ⊎_elim, ◌⊎◌, refl, ap}
+use Rattle.std.proofs.Common.{◌∙◌, arith}
 use Rattle.std.specs.IoError.{error_kind}
 use Rattle.std.specs.declared.io.Error.{Error}
 use Rattle.std.specs.declared.io.ErrorKind.TheVariants.{Interrupted}
@@ -10,7 +11,8 @@ made_none None = refl
 made_none (Some calls) = (omega arith, refl)
 
 -- one more call, and how many failed stays
-pub made_more : (counts : ℕ → ℕ → Type 0) (count : ℕ) (old mid new : Option Calls) → ((x y : ℕ) → counts x y → y ≡ x) → HasMade count old mid → TellsCall counts mid new → HasMade (count + 1) old new
+pub made_more : (counts : ℕ → ℕ → Type 0) (count : ℕ) (old mid new : Option Calls) → ((x y : ℕ) → counts x y → y ≡ x) → HasMade count old mid
+    → TellsCall counts mid new → HasMade (count + 1) old new
 made_more counts count None None new stays had told = told
 made_more counts count None (Some mid) new stays had told = absurd (let e = had in cc)
 made_more counts count (Some old) None None stays had told = tt
@@ -19,7 +21,8 @@ made_more counts count (Some old) (Some mid) None stays had told = tt
 made_more counts count (Some old) (Some mid) (Some new) stays had told = (omega (arith, had.0, told.0), stays mid.failed new.failed told.1 ∙ had.1)
 
 -- one more call, which failed
-pub failed_at : (counts : ℕ → ℕ → Type 0) (most count : ℕ) (old mid new : Option Calls) → ((x y : ℕ) → counts x y → y ≡ x + 1) → HasMade count old mid → TellsCall counts mid new → HasFailed most old new
+pub failed_at : (counts : ℕ → ℕ → Type 0) (most count : ℕ) (old mid new : Option Calls) → ((x y : ℕ) → counts x y → y ≡ x + 1) → HasMade count old mid
+    → TellsCall counts mid new → HasFailed most old new
 failed_at counts most count None mid new fails had told = tt
 failed_at counts most count (Some old) None None fails had told = tt
 failed_at counts most count (Some old) None (Some new) fails had told = absurd (let e = told in cc)
@@ -69,7 +72,8 @@ accounts_made most count (Some old) None had = tt
 accounts_made most count (Some old) (Some new) had = (omega (arith, had.0), omega (arith, had.1), λ e. absurd (true_false e))
 
 -- one more, which failed
-pub accounts_failed : (counts : ℕ → ℕ → Type 0) (most count : ℕ) (well : Bool) (old mid new : Option Calls) → ((x y : ℕ) → counts x y → y ≡ x + 1) → HasMade count old mid → TellsCall counts mid new → AccountsFor most well old new
+pub accounts_failed : (counts : ℕ → ℕ → Type 0) (most count : ℕ) (well : Bool) (old mid new : Option Calls) → ((x y : ℕ) → counts x y → y ≡ x + 1)
+    → HasMade count old mid → TellsCall counts mid new → AccountsFor most well old new
 accounts_failed counts most count well None None new fails had told = told
 accounts_failed counts most count well None (Some mid) new fails had told = absurd (let e = had in cc)
 accounts_failed counts most count well (Some old) None None fails had told = tt
@@ -95,7 +99,8 @@ and_false : (a b : Bool) → (a && b) ≡ false → (a ≡ false) ⊎ (b ≡ fal
 and_false true b e = inr e
 and_false false b e = inl refl
 
-pub accounts_both : (most : ℕ) (one two : Bool) (old mid new : Option Calls) → AccountsFor most one old mid → AccountsFor most two mid new → AccountsFor most (one && two) old new
+pub accounts_both : (most : ℕ) (one two : Bool) (old mid new : Option Calls) → AccountsFor most one old mid → AccountsFor most two mid new
+    → AccountsFor most (one && two) old new
 accounts_both most one two None None new a b = b
 accounts_both most one two None (Some mid) new a b = absurd (let e = a in cc)
 accounts_both most one two (Some old) None None a b = tt

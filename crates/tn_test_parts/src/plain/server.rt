@@ -128,7 +128,7 @@ impl Server {
         self.wish_option(true, 1, wanted);
     }
 
-    // Answers whether a mode was sent.
+    // Returns whether a mode was sent.
     fn ask_mode(&mut self) -> bool {
         if !self.has_linemode() || self.wish == self.asked {
             return false;
@@ -190,7 +190,7 @@ impl Server {
         }
     }
 
-    // An acknowledgement is not answered. Answers whether the table is asked for.
+    // An acknowledgement is not answered. Returns whether the table is asked for.
     fn answer(&mut self, triple: &[u8], answers: &mut Vec<u8>) -> bool {
         let [func, modifier, value] = triple else {
             return false;

@@ -240,7 +240,7 @@ fn signal_of(entry: &Entry) -> Option<Sig> {
     }
 }
 
-// A piece comes, and some call is made. Answers whether the end goes on.
+// A piece comes, and some call is made. Returns whether the end goes on.
 fn go_on(rt: &impl Abort, trial: &mut Trial, dice: &mut Dice) -> bool {
     if let Err(fault) = trial.feed(dice) {
         assert!(rt; fault == ServerFault::Pty(PtyFault::TooFarAhead));

@@ -58,7 +58,7 @@ impl Client {
         self.sent.clear();
     }
 
-    // What may be refused. Answers whether it was, for lack of memory.
+    // What may be refused. Returns whether it was, for lack of memory.
     fn call(&mut self, words: Words<'_>, page: &mut Page) -> bool {
         let ended = match words.verb {
             "keys" => self.keys(words),

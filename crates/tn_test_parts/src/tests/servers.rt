@@ -91,7 +91,7 @@ impl Server {
         count
     }
 
-    // What may be refused. Answers whether it was, for lack of memory.
+    // What may be refused. Returns whether it was, for lack of memory.
     fn call(&mut self, words: Words<'_>, page: &mut Page) -> bool {
         self.sent.clear();
         match words.verb {

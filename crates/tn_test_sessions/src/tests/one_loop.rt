@@ -34,7 +34,8 @@ fn carry(joined: &mut Joined, alloc: Global, count: usize, times: usize) -> Resu
     Ok(())
 }
 
-// A line is typed key by key, with an erased key in it, and what is on its way is cut into pieces of this length.
+// A line is typed key by key, with an erased key in it, and what is on its way is cut into pieces of this
+// length.
 fn reads_a_line(
     rt: &impl Abort,
     alloc: Global,

@@ -28,7 +28,8 @@ pub spelled_on : (a b : List Item) (before first after : List ℕ) → first ≡
 spelled_on a b before first after one two =
     added_on (spells a) (spells b) before first after one two ∙ ap (λ (xs : List ℕ). before ++ xs) (sym (spells-append a b))
 
-pub cut_after_two : (whole a b c : List Item) (before first second after : List ℕ) → whole ≡ a ++ (b ++ c) → first ≡ before ++ spells a → second ≡ first ++ spells b → after ≡ second → AppendsPrefix whole before after
+pub cut_after_two : (whole a b c : List Item) (before first second after : List ℕ) → whole ≡ a ++ (b ++ c) → first ≡ before ++ spells a
+    → second ≡ first ++ spells b → after ≡ second → AppendsPrefix whole before after
 cut_after_two whole a b c before first second after is one two three = record {
   part = a ++ b;
   rest = c;
@@ -36,7 +37,8 @@ cut_after_two whole a b c before first second after is one two three = record {
   appended = three ∙ spelled_on a b before first second one two;
 }
 
-pub cut_after_one : (whole a b : List Item) (before first after : List ℕ) → whole ≡ a ++ b → first ≡ before ++ spells a → AppendsPrefix b first after → AppendsPrefix whole before after
+pub cut_after_one : (whole a b : List Item) (before first after : List ℕ) → whole ≡ a ++ b → first ≡ before ++ spells a → AppendsPrefix b first after
+    → AppendsPrefix whole before after
 cut_after_one whole a b before first after is one c = record {
   part = a ++ c.part;
   rest = c.rest;

@@ -20,7 +20,8 @@ pub record Parts (stream p q : List ℕ) (had more : List Item) : Type 0 where
   pub all : IsRead ((stream ++ p) ++ q) ((had ++ first) ++ second)
 
 -- where its first part has a reading
-pub part_in_two : (stream p q : List ℕ) (had more : List Item) → IsRead stream had → (read : List Item) × (rest : List ℕ) × Reading (stream ++ p) read rest → IsRead (stream ++ (p ++ q)) (had ++ more) → Parts stream p q had more
+pub part_in_two : (stream p q : List ℕ) (had more : List Item) → IsRead stream had → (read : List Item) × (rest : List ℕ) × Reading (stream ++ p) read rest
+    → IsRead (stream ++ (p ++ q)) (had ++ more) → Parts stream p q had more
 part_in_two stream p q had more start r reads =
     let whole : IsRead ((stream ++ p) ++ q) (had ++ more) =
     subst (λ (bytes : List ℕ). IsRead bytes (had ++ more)) (sym (append_assoc stream p q)) reads in
@@ -37,7 +38,8 @@ part_in_two stream p q had more start r reads =
 -- An end stopped in a piece, after its front: what was done of that comes first, then what was left and what the others bring.
 pub stopped_in : {H : Type 0} (items : H → List Item) (gets : H → List Item → H) → ((h : H) (xs ys : List Item) → gets h (xs ++ ys) ≡ gets (gets h xs) ys)
     → (old start whole : H) (stream piece front back : List ℕ) (more done left : List Item) → old ≡ start → piece ≡ front ++ back
-    → IsRead stream (items start) → IsRead (stream ++ front) (items start ++ (done ++ left)) → IsRead (stream ++ piece) (items old ++ more) → whole ≡ gets old more
+    → IsRead stream (items start) → IsRead (stream ++ front) (items start ++ (done ++ left)) → IsRead (stream ++ piece) (items old ++ more)
+    → whole ≡ gets old more
     → (others : List Item) × (whole ≡ gets (gets start done) (left ++ others))
 stopped_in items gets append old start whole stream piece front back more done left same cut began here reads is =
     let had = items start in

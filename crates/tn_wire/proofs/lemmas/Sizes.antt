@@ -1,5 +1,6 @@
 -- How long is what either end says, in its spelling.
-use Rattle.std.proofs.Common.{◌≡◌, ◌≢◌, ℕ, ◌+◌, ◌*◌, ◌≤◌, nat_le, Bool, true, false, ◌&&◌, Option, Some, None, option_to_list, List, [], ◌∷◌, ◌++◌, length, map, refl, sym, ◌∙◌, ap, arith, append-nil, if◌then◌else◌}
+use Rattle.std.proofs.Common.{◌≡◌, ◌≢◌, ℕ, ◌+◌, ◌*◌, ◌≤◌, nat_le, Bool, true, false, ◌&&◌, Option, Some, None, option_to_list, List, [], ◌∷◌, ◌++◌, length, map}
+use Rattle.std.proofs.Common.{refl, sym, ◌∙◌, ap, arith, append-nil, if◌then◌else◌}
 use Rattle.std.specs.List.{flat_map}
 use Rattle.std.proofs.lemmas.Grind.{flat_map-append}
 use Rattle.tn_codes.specs.Codes.{func_code}
@@ -18,7 +19,8 @@ use Rattle.tn_linemode.specs.Triples.{triple_of}
 use Rattle.tn_nvt.specs.Spelling.{doubled_byte, doubled_bytes, spelling, spells}
 use Rattle.tn_nvt.specs.declared.items.Item.{Item}
 use Rattle.tn_nvt.specs.declared.items.Item.TheVariants.{Neg, Sub}
-use Rattle.tn_nvt.proofs.lemmas.Sizes.{doubled_within, doubled_some, doubled_alone, length-doubled-append, length-doubled-none, length-doubled-cons, length-sub, length-spells-append}
+use Rattle.tn_nvt.proofs.lemmas.Sizes.{doubled_within, doubled_some, doubled_alone, length-doubled-append, length-doubled-none, length-doubled-cons, length-sub}
+use Rattle.tn_nvt.proofs.lemmas.Sizes.{length-spells-append}
 use Rattle.tn_wire.specs.Words.{word_items, payload_items, list_items, payload_under}
 
 -- the bytes of some items
@@ -57,18 +59,30 @@ octets_size ts = length (doubled_bytes (flat_map octets_of ts))
 
 triple_size : (t : Triple) → length (doubled_bytes (octets_of t)) ≡ length (doubled_byte t.func) + length (doubled_byte t.flags) + length (doubled_byte t.value)
 triple_size t =
-    omega (arith, length-doubled-cons t.func (t.flags ∷ t.value ∷ []), length-doubled-cons t.flags (t.value ∷ []), length-doubled-cons t.value [], length-doubled-none)
+    omega (
+      arith,
+      length-doubled-cons t.func (t.flags ∷ t.value ∷ []),
+      length-doubled-cons t.flags (t.value ∷ []),
+      length-doubled-cons t.value [],
+      length-doubled-none,
+    )
 
 octets_size-cons : (t : Triple) (ts : List Triple) → octets_size (t ∷ ts) ≡ length (doubled_bytes (octets_of t)) + octets_size ts
 octets_size-cons t ts = length-doubled-append (octets_of t) (flat_map octets_of ts)
 
 octets_size-append : (ts us : List Triple) → octets_size (ts ++ us) ≡ octets_size ts + octets_size us
 octets_size-append ts us =
-    ap (λ (bytes : List ℕ). length (doubled_bytes bytes)) (flat_map-append octets_of ts us) ∙ length-doubled-append (flat_map octets_of ts) (flat_map octets_of us)
+    ap (λ (bytes : List ℕ). length (doubled_bytes bytes)) (flat_map-append octets_of ts us)
+    ∙ length-doubled-append (flat_map octets_of ts) (flat_map octets_of us)
 
 size-slc : (ts : List Triple) → size (payload_items (Slc ts)) ≡ octets_size ts + 6
 size-slc ts =
-    omega (arith, size-sub 34 (3 ∷ flat_map octets_of ts) (λ e. omega (arith, e)), length-doubled-cons 3 (flat_map octets_of ts), doubled_alone 3 (λ e. omega (arith, e)))
+    omega (
+      arith,
+      size-sub 34 (3 ∷ flat_map octets_of ts) (λ e. omega (arith, e)),
+      length-doubled-cons 3 (flat_map octets_of ts),
+      doubled_alone 3 (λ e. omega (arith, e)),
+    )
 
 -- an empty list is not sent
 pub size-list : (ts : List Triple) → size (list_items ts) ≤ octets_size ts + 6
@@ -84,14 +98,26 @@ pub triple_of-size : (f : Func) (v : Option ℕ) → length (doubled_bytes (octe
 triple_of-size f None =
     omega (arith, triple_size (triple_of f None), doubled_alone (func_code f) (plain_code f), doubled_alone 0 (λ e. omega (arith, e)))
 triple_of-size f (Some byte) =
-    omega (arith, triple_size (triple_of f (Some byte)), doubled_alone (func_code f) (plain_code f), doubled_alone 2 (λ e. omega (arith, e)), doubled_within byte)
+    omega (
+      arith,
+      triple_size (triple_of f (Some byte)),
+      doubled_alone (func_code f) (plain_code f),
+      doubled_alone 2 (λ e. omega (arith, e)),
+      doubled_within byte,
+    )
 
 -- and where the character is no IAC
 pub plain_triple-size : (f : Func) (v : Option ℕ) → v ≢ Some 255 → length (doubled_bytes (octets_of (triple_of f v))) ≡ 3
 plain_triple-size f None plain =
     omega (arith, triple_size (triple_of f None), doubled_alone (func_code f) (plain_code f), doubled_alone 0 (λ e. omega (arith, e)))
 plain_triple-size f (Some byte) plain =
-    omega (arith, triple_size (triple_of f (Some byte)), doubled_alone (func_code f) (plain_code f), doubled_alone 2 (λ e. omega (arith, e)), doubled_alone byte (λ e. plain (ap Some e)))
+    omega (
+      arith,
+      triple_size (triple_of f (Some byte)),
+      doubled_alone (func_code f) (plain_code f),
+      doubled_alone 2 (λ e. omega (arith, e)),
+      doubled_alone byte (λ e. plain (ap Some e)),
+    )
 
 pub size-triple : (f : Func) (v : Option ℕ) → size (list_items (triple_of f v ∷ [])) ≤ 10
 size-triple f v =
@@ -105,12 +131,21 @@ size-plain_triple f v plain =
 told_size : (c : Characters) (fs : List Func) → ((f : Func) → slot c f ≢ Some 255) → octets_size (map (λ f. triple_of f (slot c f)) fs) ≤ 3 * length fs
 told_size c [] plain = omega (arith, length-doubled-none)
 told_size c (f ∷ fs) plain =
-    omega (arith, octets_size-cons (triple_of f (slot c f)) (map (λ f. triple_of f (slot c f)) fs), plain_triple-size f (slot c f) (plain f), told_size c fs plain)
+    omega (
+      arith,
+      octets_size-cons (triple_of f (slot c f)) (map (λ f. triple_of f (slot c f)) fs),
+      plain_triple-size f (slot c f) (plain f),
+      told_size c fs plain,
+    )
 
 pub size-table : (c : Characters) → AreAllowed c → size (list_items (announcement c)) ≤ 30
 unfolding announcement
 size-table c allowed =
-    omega (arith, size-list (map (λ f. triple_of f (slot c f)) special_functions), told_size c special_functions (λ f e. absurd (reserved (allowed.unreserved f 255 e))))
+    omega (
+      arith,
+      size-list (map (λ f. triple_of f (slot c f)) special_functions),
+      told_size c special_functions (λ f e. absurd (reserved (allowed.unreserved f 255 e))),
+    )
   where
     reserved : true ≡ false → ⊥
     reserved e = cc
@@ -132,7 +167,8 @@ answer_size t a h =
 module _ (next : Characters → Triple → Characters) (answer : Characters → Triple → Option Triple) (P : Characters → Type 0)
     (stays : (c : Characters) (t : Triple) → P c → P (next c t))
     (answers : (c : Characters) (t a : Triple) → P c → answer c t ≡ Some a → Answers t a) where
-  one_size : (t : Triple) (o : Option Triple) → ((a : Triple) → o ≡ Some a → Answers t a) → octets_size (option_to_list o) ≤ length (doubled_bytes (octets_of t))
+  one_size : (t : Triple) (o : Option Triple) → ((a : Triple) → o ≡ Some a → Answers t a)
+      → octets_size (option_to_list o) ≤ length (doubled_bytes (octets_of t))
   one_size t None h = omega (arith, length-doubled-none)
   one_size t (Some a) h = omega (arith, octets_size-cons a [], length-doubled-none, answer_size t a (h a refl))
 

@@ -15,7 +15,8 @@ use Rattle.tn_nvt.specs.declared.items.Item.{Item}
 use Rattle.tn_nvt.specs.declared.items.Item.TheVariants.{Byte, Newline, Cmd, Neg, Sub}
 use Rattle.tn_client.specs.Lines.{is_forward}
 use Rattle.tn_world.specs.relation.Machine as machine
-use Rattle.tn_world.specs.relation.Machine.{Mode, Message, mode, forward_at, linemode_asked, chatter, byte, newline, command, mode_ack, linemode_on, other, IsAskable}
+use Rattle.tn_world.specs.relation.Machine.{Mode, Message, mode, forward_at, linemode_asked, chatter, byte}
+use Rattle.tn_world.specs.relation.Machine.{newline, command, mode_ack, linemode_on, other, IsAskable}
 
 -- RFC 1184, section 2.2: the two bits of a mask that both ends keep
 abbrev pub bits : ℕ → Mode

@@ -10,7 +10,8 @@ use Rattle.tn_discipline.specs.declared.keys.Role.TheVariants as role
 use Rattle.tn_discipline.specs.declared.reads.Sig.TheVariants.{Int}
 use Rattle.tn_discipline.specs.declared.reads.Entry.{Entry}
 use Rattle.tn_world.specs.relation.Machine as machine
-use Rattle.tn_world.specs.relation.Machine.{Message, command, Server, read_all, Client, Sent, client_after_key, client_after_message}
+use Rattle.tn_world.specs.relation.Machine.{Message, command, Server, read_all, Client, Sent}
+use Rattle.tn_world.specs.relation.Machine.{client_after_key, client_after_message}
 use Rattle.tn_world.specs.relation.Calm.{IsCalmToServer, IsCalmToClient, server_item, client_message}
 
 pub record ServerEnd : Type 0 where

@@ -5,7 +5,8 @@ use Rattle.tn_discipline.specs.Canon.{Canon}
 use Rattle.tn_linemode.specs.Modes.{edits}
 use Rattle.tn_option.specs.Options.{state_of}
 use Rattle.tn_option.specs.declared.q_method.QState.{QState}
-use Rattle.tn_option.specs.declared.q_method.QState.TheVariants.{No, Yes, WantNoEmpty, WantNoOpposite, WantYesEmpty, WantYesOpposite}
+use Rattle.tn_option.specs.declared.q_method.QState.TheVariants.{No, Yes, WantNoEmpty, WantNoOpposite}
+use Rattle.tn_option.specs.declared.q_method.QState.TheVariants.{WantYesEmpty, WantYesOpposite}
 use Rattle.tn_option.specs.declared.q_method.Side.TheVariants.{Us, Them}
 use Rattle.tn_server.specs.Calls as server
 use Rattle.tn_server.specs.Terms as server_terms

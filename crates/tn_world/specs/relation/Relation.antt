@@ -15,7 +15,8 @@ use Rattle.tn_world.specs.relation.Ends as ends
 use Rattle.tn_world.specs.relation.Ends.{server_items}
 use Rattle.tn_world.specs.Flight.{InFlight}
 use Rattle.tn_world.specs.relation.Machine.{Server, read_all, Client, IsAskable}
-use Rattle.tn_world.specs.relation.Pictures.{server_core, server_picture, client_picture, ServerStays, ClientStays}
+use Rattle.tn_world.specs.relation.Pictures.{server_core, server_picture, client_picture, ServerStays}
+use Rattle.tn_world.specs.relation.Pictures.{ClientStays}
 use Rattle.tn_world.specs.Worlds.{World}
 
 -- a server that goes on

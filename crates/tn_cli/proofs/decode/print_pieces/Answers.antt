@@ -18,7 +18,9 @@ loop-read-preserved g c =
     let piece = take c.in-Ok.count c.read_some.new.buf in
     let now = c.loop-read.invariant in
     record {
-      decoded = decoded_more (remaining c.args.reader.now) (remaining c.loop-read.reader) (remaining c.read_some.new.self) (contents c.args.writer.now) (contents c.loop-read.writer) (contents c.print_piece.new.writer) piece c.loop-read.decoding c.print_piece.new.decoding now.decoded c.in-Ok.ensures.bytes.0 c.in_ok-print_piece.ensures.ok;
+      decoded = decoded_more (remaining c.args.reader.now) (remaining c.loop-read.reader) (remaining c.read_some.new.self) (contents c.args.writer.now)
+          (contents c.loop-read.writer) (contents c.print_piece.new.writer) piece c.loop-read.decoding c.print_piece.new.decoding now.decoded
+          c.in-Ok.ensures.bytes.0 c.in_ok-print_piece.ensures.ok;
       reads = made_more (CountsRead (Ok c.in-Ok.count)) c.loop-read._read _ _ _ (read_stays c.in-Ok.count) now.reads c.in-Ok.ensures.tells;
       writes = accounts_both 18446744073709551615 true true _ _ _ now.writes c.in_ok-print_piece.ensures.accounts;
     }
@@ -28,4 +30,6 @@ returns-in_err-print_piece-clause-err g c =
     let remaining = g.R.Source.remaining in
     let contents = g.W.Drain.contents in
     let piece = take c.in-Ok.count c.read_some.new.buf in
-    on_err c.from_residual.result (decodes_some (remaining c.args.reader.now) (remaining c.loop-read.reader) (remaining c.read_some.new.self) (contents c.args.writer.now) (contents c.loop-read.writer) (contents c.print_piece.new.writer) piece c.loop-read.decoding c.loop-read.invariant.decoded c.in-Ok.ensures.bytes.0 c.in_err-print_piece.ensures.err)
+    on_err c.from_residual.result (decodes_some (remaining c.args.reader.now) (remaining c.loop-read.reader) (remaining c.read_some.new.self)
+    (contents c.args.writer.now) (contents c.loop-read.writer)
+    (contents c.print_piece.new.writer) piece c.loop-read.decoding c.loop-read.invariant.decoded c.in-Ok.ensures.bytes.0 c.in_err-print_piece.ensures.err)

@@ -12,7 +12,8 @@ loop-byte-preserved c =
     let high = c.push_reserved.ensures in
     let low = c.push_reserved-in-loop-byte.ensures in
     record {
-      items = digits_more lower_digits c.args.bytes.now c.args.out.items c.loop-byte.out.items _ _ c.loop-byte.byte-index c.loop-byte-test.true before.items (digit_put _ _ _ _ high.items c.pair-high.ensures.high) (digit_put _ _ _ _ low.items c.pair-high.ensures.low);
+      items = digits_more lower_digits c.args.bytes.now c.args.out.items c.loop-byte.out.items _ _ c.loop-byte.byte-index c.loop-byte-test.true before.items
+          (digit_put _ _ _ _ high.items c.pair-high.ensures.high) (digit_put _ _ _ _ low.items c.pair-high.ensures.low);
       len = omega (arith, before.len, high.len, low.len);
       capacity = low.capacity ∙ high.capacity ∙ before.capacity;
     }

@@ -6,4 +6,7 @@ use Rattle.tn_cli.proofs.printed.with_text.Goals as goal
 pub returns : goal.returns
 returns c =
     let begun = c.extend_from_slice-room.ensures in
-    text_line lower_digits c.args.bytes.now c.args.out.items _ _ _ _ _ c.args.last (where_ok _ _ _ _ (begun.succeeds (omega (arith, c.requires))) begun.items) c.with_digits-out.ensures.items (digit_put _ _ _ _ c.push_reserved.ensures.items c.pair-high.ensures.high) (digit_put _ _ _ _ c.push_reserved-2.ensures.items c.pair-high.ensures.low) c.push_reserved-3.ensures.items
+    text_line lower_digits c.args.bytes.now c.args.out.items _ _ _ _ _ c.args.last
+    (where_ok _ _ _ _ (begun.succeeds (omega (arith, c.requires))) begun.items) c.with_digits-out.ensures.items
+    (digit_put _ _ _ _ c.push_reserved.ensures.items c.pair-high.ensures.high)
+    (digit_put _ _ _ _ c.push_reserved-2.ensures.items c.pair-high.ensures.low) c.push_reserved-3.ensures.items

@@ -11,6 +11,9 @@ loop-write-preserved g c =
     let bound = rw rest at c.in-Ok.ensures.bound in
     record {
       within = omega (arith, c.loop-write.invariant.within, bound, length-drop c.loop-write.written c.args.output.now);
-      appended = wrote_more (contents c.args.writer.now) (contents c.loop-write.writer) (contents c.write_some.new.self) c.args.output.now c.loop-write.written c.in-Ok.count c.loop-write.invariant.appended (rw rest at c.in-Ok.ensures.bytes);
-      made = made_more (CountsWrite _ (Ok c.in-Ok.count)) c.loop-write._write _ _ _ (write_stays _ c.in-Ok.count c.in-Ok.count-test.1) c.loop-write.invariant.made c.in-Ok.ensures.tells;
+      appended = wrote_more (contents c.args.writer.now) (contents c.loop-write.writer)
+          (contents c.write_some.new.self) c.args.output.now c.loop-write.written c.in-Ok.count c.loop-write.invariant.appended
+          (rw rest at c.in-Ok.ensures.bytes);
+      made = made_more (CountsWrite _ (Ok c.in-Ok.count)) c.loop-write._write _ _ _
+          (write_stays _ c.in-Ok.count c.in-Ok.count-test.1) c.loop-write.invariant.made c.in-Ok.ensures.tells;
     }

@@ -11,4 +11,5 @@ pub returns-then-byte-eq-SE : goal.returns-then-byte-eq-SE
 returns-then-byte-eq-SE c = subst (λ b. Leads (InsideIac c.args.count) b c.ended.result Between) (sym c.if-byte-eq-SE.true) c.ended.ensures
 
 pub returns : goal.returns
-returns c = cut_off c.args.count c.args.byte c.after_iac-next.result.1 c.after_iac-next.result.0 c.if-byte-eq-IAC.false c.if-byte-eq-SE.false c.after_iac-next.ensures.escape c.after_iac-next.ensures.leads
+returns c = cut_off c.args.count c.args.byte c.after_iac-next.result.1 c.after_iac-next.result.0 c.if-byte-eq-IAC.false c.if-byte-eq-SE.false
+    c.after_iac-next.ensures.escape c.after_iac-next.ensures.leads

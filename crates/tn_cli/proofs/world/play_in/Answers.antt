@@ -9,13 +9,19 @@ loop-index-init c =
 pub returns-in-Err-Bad : goal.returns-in-Err-Bad
 returns-in-Err-Bad c =
     let bad = rw c.in-Err-Bad.field-0-is at c.in-Err-Bad.ensures.bad in
-    lent_bad c.loop-index.world c.args.lines.now c.loop-index.index (record { ref_ptr = (0, 0); now = [] }) c.args.printed.now.items c.loop-index.printed.items c.play_line.new.out.items c.loop-index-test.true c.loop-index.invariant (bad refl)
+    lent_bad c.loop-index.world c.args.lines.now c.loop-index.index
+    (record { ref_ptr = (0, 0); now = [] }) c.args.printed.now.items c.loop-index.printed.items c.play_line.new.out.items c.loop-index-test.true
+    c.loop-index.invariant (bad refl)
 
 pub returns-in-Err-Refused : goal.returns-in-Err-Refused
 returns-in-Err-Refused c =
     let refused = rw c.in-Err-Refused.field-0-is at c.in-Err-Refused.ensures.refused in
-    lent_refused c.loop-index.world c.args.lines.now c.loop-index.index (record { ref_ptr = (0, 0); now = [] }) c.args.printed.now.items c.loop-index.printed.items c.play_line.new.out.items c.loop-index-test.true c.loop-index.invariant (refused refl)
+    lent_refused c.loop-index.world c.args.lines.now c.loop-index.index
+    (record { ref_ptr = (0, 0); now = [] }) c.args.printed.now.items c.loop-index.printed.items c.play_line.new.out.items c.loop-index-test.true
+    c.loop-index.invariant (refused refl)
 
 pub loop-index-preserved : goal.loop-index-preserved
 loop-index-preserved c =
-    lent_played_more c.loop-index.world c.play_line.new.world c.args.lines.now c.loop-index.index (record { ref_ptr = (0, 0); now = [] }) c.args.printed.now.items c.loop-index.printed.items c.play_line.new.out.items c.loop-index-test.true c.loop-index.invariant c.in-Ok.ensures.ok
+    lent_played_more c.loop-index.world c.play_line.new.world c.args.lines.now c.loop-index.index
+    (record { ref_ptr = (0, 0); now = [] }) c.args.printed.now.items c.loop-index.printed.items c.play_line.new.out.items c.loop-index-test.true
+    c.loop-index.invariant c.in-Ok.ensures.ok

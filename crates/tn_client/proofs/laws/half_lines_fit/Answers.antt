@@ -16,4 +16,5 @@ none_or false n most few = few
 
 pub returns-clause-there : goal.returns-clause-there
 returns-clause-there c = λ isig h.
-    none_or (edits (mode h)) (length (half_of (line_limit h) (roles_under isig h))) (max_counted (line_limit h)) (half_of-fits (line_limit h) (roles_under isig h))
+    none_or (edits (mode h)) (length (half_of (line_limit h) (roles_under isig h))) (max_counted (line_limit h))
+    (half_of-fits (line_limit h) (roles_under isig h))

@@ -10,7 +10,8 @@ returns-in-Reader g c =
     rw c.in-Reader.is (record {
       ran =
           subst (λ t. IfOk c.talk.result (λ r. RunsWriting (window_of c.args.connecting) (foreseen Reader (g.K.Read.remaining t.keys))
-          (g.S.Write.contents c.args.screen.now) (g.S.Write.contents c.talk.new.screen) (put_bytes (view c.talk.new.outgoing.pass)) r.0 r.1)) c.new-keys.ensures c.talk.ensures.ran;
+          (g.S.Write.contents c.args.screen.now) (g.S.Write.contents c.talk.new.screen) (put_bytes (view c.talk.new.outgoing.pass)) r.0 r.1)) c.new-keys.ensures
+          c.talk.ensures.ran;
     })
 
 pub returns-in-Input : goal.returns-in-Input

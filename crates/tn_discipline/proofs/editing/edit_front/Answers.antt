@@ -24,6 +24,7 @@ loop-key-preserved c =
       fits = after.fits;
       quiet = rw (take_more keys i 0 c.loop-key-test.true) (All-push (IsQuiet settings) (take i keys) (get_or keys i 0) before.quiet here);
       line =
-          edited_more settings (line_at start.held.items start.ahead start.limit) (line_at mid.held.items mid.ahead mid.limit) (line_at new.held.items new.ahead new.limit)
+          edited_more settings (line_at start.held.items start.ahead start.limit) (line_at mid.held.items mid.ahead mid.limit)
+          (line_at new.held.items new.ahead new.limit)
           keys i c.role-role.result c.loop-key-test.true c.role-role.ensures before.line after.line;
     }

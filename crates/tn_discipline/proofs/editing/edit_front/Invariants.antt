@@ -12,5 +12,6 @@ invariant-loop-key l =
       room : l.parts.limit ≤ vec_capacity l.parts.held;
       fits : l.parts.ahead + vec_len l.parts.held < l.parts.limit;
       quiet : All (IsQuiet l.roles) (take l.key-index l.keys);
-      line : line_at l.parts.held.items l.parts.ahead l.parts.limit ≡ line_after_all (line_at l.initial.parts.held.items l.initial.parts.ahead l.initial.parts.limit) (each_role l.roles (take l.key-index l.keys));
+      line : line_at l.parts.held.items l.parts.ahead l.parts.limit
+          ≡ line_after_all (line_at l.initial.parts.held.items l.initial.parts.ahead l.initial.parts.limit) (each_role l.roles (take l.key-index l.keys));
     }

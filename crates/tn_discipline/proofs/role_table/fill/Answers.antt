@@ -11,5 +11,6 @@ loop-key-preserved c =
       count = ap length pushed.items ∙ length-append c.loop-key.table.items (c.role_of.result ∷ []) ∙ ap (λ n. n + 1) before.count;
       len = pushed.len ∙ ap (λ n. n + 1) before.len;
       capacity = pushed.capacity ∙ before.capacity;
-      agrees = rw pushed.items (agrees_more c.args.settings.now c.loop-key.table.items c.loop-key.key c.role_of.result before.count before.agrees c.role_of.ensures);
+      agrees = rw pushed.items (agrees_more c.args.settings.now c.loop-key.table.items c.loop-key.key c.role_of.result before.count before.agrees
+          c.role_of.ensures);
     }

@@ -7,7 +7,8 @@ use Rattle.tn_linemode.proofs.laws.tables_stay_allowed.Goals as goal
 pub returns-clause-server : goal.returns-clause-server
 unfolding server_after
 returns-clause-server c =
-    λ chars ts allowed. server_after-allowed ts chars c.accepted_characters.ensures.allowed (subst AreAllowed c.standard.ensures.value c.standard.ensures.allowed) allowed
+    λ chars ts allowed. server_after-allowed ts chars c.accepted_characters.ensures.allowed
+    (subst AreAllowed c.standard.ensures.value c.standard.ensures.allowed) allowed
 
 pub returns-clause-client : goal.returns-clause-client
 unfolding client_after

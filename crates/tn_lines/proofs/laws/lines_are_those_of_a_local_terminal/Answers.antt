@@ -8,4 +8,5 @@ use Rattle.tn_lines.proofs.laws.lines_are_those_of_a_local_terminal.Goals as goa
 
 pub returns : goal.returns
 returns c =
-    λ canon line_end keys plain. ap (λ (roles : List Role). due line_end (entries_of canon.limit roles)) (taken-plain canon.limit (roles_of canon.settings keys) plain [])
+    λ canon line_end keys plain. ap (λ (roles : List Role). due line_end (entries_of canon.limit roles))
+    (taken-plain canon.limit (roles_of canon.settings keys) plain [])

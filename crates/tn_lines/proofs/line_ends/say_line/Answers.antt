@@ -25,4 +25,5 @@ returns c =
     c.in_ok-push.ensures.items
     ∙ ap (λ (l : List ℕ). l ++ last ∷ []) c.in_ok-extend_from_slice.ensures.items
     ∙ append_assoc said front (last ∷ [])
-    ∙ ap (λ (l : List ℕ). said ++ l) (sym (said_last c.args.line_end front last ∙ ap (λ (b : Bool). front ++ (if b then end_bytes c.args.line_end else last ∷ [])) is))
+    ∙ ap (λ (l : List ℕ). said ++ l) (sym (said_last c.args.line_end front last
+    ∙ ap (λ (b : Bool). front ++ (if b then end_bytes c.args.line_end else last ∷ [])) is))

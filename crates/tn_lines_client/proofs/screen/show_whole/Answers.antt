@@ -8,7 +8,10 @@ loop-write-preserved g c =
     let i = c.loop-write.invariant in
     let b = c.in-Ok.ensures.bound in (
       omega (arith, b, length-drop c.loop-write.at c.args.bytes.now),
-      rw (take-add c.loop-write.at c.in-Ok.n c.args.bytes.now) (appends_more _ _ _ _ _ i.1 (let all : take (length c.args.bytes.now - c.loop-write.at) (drop c.loop-write.at c.args.bytes.now) ≡ drop c.loop-write.at c.args.bytes.now = take_all _ _ (omega (arith, length-drop c.loop-write.at c.args.bytes.now)) in rw all at c.in-Ok.ensures.bytes)),
+      rw (take-add c.loop-write.at c.in-Ok.n c.args.bytes.now) (appends_more _ _ _ _ _ i.1
+          (let all : take (length c.args.bytes.now - c.loop-write.at) (drop c.loop-write.at c.args.bytes.now)
+          ≡ drop c.loop-write.at c.args.bytes.now = take_all _ _ (omega (arith, length-drop c.loop-write.at c.args.bytes.now))
+          in rw all at c.in-Ok.ensures.bytes)),
     )
 
 pub returns-then-at-bytes : goal.returns-then-at-bytes

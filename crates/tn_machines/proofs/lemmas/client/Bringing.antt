@@ -3,7 +3,7 @@ use Rattle.std.proofs.Common.{◌≡◌, ℕ, Bool, true, false, List, [], ◌�
 use Rattle.std.proofs.lemmas.Grind.{flat_map-append}
 use Rattle.tn_client.proofs.lemmas.Histories.{items-gets}
 use Rattle.tn_client.specs.Events.{History, next, typed, got, gets, items}
-use Rattle.tn_machines.proofs.client.Typing.{items-types}
+use Rattle.tn_machines.proofs.of_core.Typing.{items-types}
 use Rattle.tn_machines.specs.client.Bringing.{Input, key_typed, key_in, keys_in, inputs, inputs_from, inputs_brought, brought_from, brought, TakesInOrder}
 use Rattle.tn_machines.specs.client.Marks.{Turns, Runs}
 use Rattle.tn_machines.specs.client.Run.{Run, Acts, ActsUnless, Asks, Handles, TakesPiece, types, start}
@@ -40,7 +40,8 @@ record Takes (c : Run) (from : Origin) (m : Message) (new : Run) : Type 0 where
   reads_on : IsRead c.stream (items c.history) → IsRead new.stream (items new.history)
 
 -- it brought nothing
-plain : (c : Run) (from : Origin) (m : Message) (new : Run) → inputs_from from m ≡ [] → brought_from Net from m ≡ [] → new.history ≡ c.history → new.stream ≡ c.stream → Takes c from m new
+plain : (c : Run) (from : Origin) (m : Message) (new : Run) → inputs_from from m ≡ [] → brought_from Net from m ≡ [] → new.history ≡ c.history
+    → new.stream ≡ c.stream → Takes c from m new
 plain c from m new no_keys no_net same stream = record {
   types_on = ap inputs same ∙ sym (ap (λ (xs : List Input). inputs c.history ++ xs) no_keys ∙ append-nil (inputs c.history));
   feeds_on = stream ∙ sym (ap (λ (bs : List ℕ). c.stream ++ bs) no_net ∙ append-nil c.stream);
@@ -84,7 +85,8 @@ none_typed Keys Refused still = refl
 none_typed Keys Left still = refl
 none_typed Keys (Resized size) still = refl
 
-turned : (c : Run) (from : Origin) (m : Message) (new : Run) → IsStill m → ((piece : List ℕ) → m ≡ Piece piece → ⊥) → new.history ≡ c.history → new.stream ≡ c.stream → Takes c from m new
+turned : (c : Run) (from : Origin) (m : Message) (new : Run) → IsStill m → ((piece : List ℕ) → m ≡ Piece piece → ⊥) → new.history ≡ c.history
+    → new.stream ≡ c.stream → Takes c from m new
 turned c from m new still other same stream = plain c from m new (none_typed from m still) (none_net from m other) same stream
 
 asked : (c : Run) (from : Origin) (control : Control) (new : Run) → Asks c from control new → Takes c from (Asked control) new
@@ -100,13 +102,15 @@ acted c from (Piece piece) new a = piece_taken c from piece new a
 acted c from HangUp new a = turned c from HangUp new tt (λ piece e. cc) (ap (λ (r : Run). r.history) a) (ap (λ (r : Run). r.stream) a)
 acted c from ReadFailed new a = turned c from ReadFailed new tt (λ piece e. cc) (ap (λ (r : Run). r.history) a) (ap (λ (r : Run). r.stream) a)
 acted c from Take new a = turned c from Take new tt (λ piece e. cc) (ap (λ (r : Run). r.history) a) (ap (λ (r : Run). r.stream) a)
-acted c from (Said job text after) new a = turned c from (Said job text after) new tt (λ piece e. cc) (ap (λ (r : Run). r.history) a) (ap (λ (r : Run). r.stream) a)
+acted c from (Said job text after) new a = turned c from (Said job text after) new tt (λ piece e. cc) (ap (λ (r : Run). r.history) a)
+    (ap (λ (r : Run). r.stream) a)
 acted c from Refused new a = turned c from Refused new tt (λ piece e. cc) (ap (λ (r : Run). r.history) a) (ap (λ (r : Run). r.stream) a)
 acted c from Left new a = turned c from Left new tt (λ piece e. cc) (ap (λ (r : Run). r.history) a) (ap (λ (r : Run). r.stream) a)
 acted c from (Resized size) new a =
     let other : (piece : List ℕ) → Resized size ≡ Piece piece → ⊥ = λ piece e. cc in
     record {
-      types_on = ap (λ (r : Run). inputs r.history) a ∙ sym (ap (λ (xs : List Input). inputs c.history ++ xs) (none_typed from (Resized size) tt) ∙ append-nil (inputs c.history));
+      types_on = ap (λ (r : Run). inputs r.history) a ∙ sym (ap (λ (xs : List Input). inputs c.history ++ xs) (none_typed from (Resized size) tt)
+          ∙ append-nil (inputs c.history));
       feeds_on = ap (λ (r : Run). r.stream) a ∙ sym (ap (λ (bs : List ℕ). c.stream ++ bs) (none_net from (Resized size) other) ∙ append-nil c.stream);
       reads_on = λ r. subst (λ (q : Run). IsRead q.stream (items q.history)) (sym a) r;
     }
@@ -118,7 +122,8 @@ handled c told new on h =
     acted c told.from told.message new (subst P on h)
 
 -- as far as its client end is concerned
-takes_as : (c : Run) (from : Origin) (m : Message) (whole new : Run) → new.history ≡ whole.history → new.stream ≡ whole.stream → Takes c from m whole → Takes c from m new
+takes_as : (c : Run) (from : Origin) (m : Message) (whole new : Run) → new.history ≡ whole.history → new.stream ≡ whole.stream → Takes c from m whole
+    → Takes c from m new
 takes_as c from m whole new same stream t = record {
   types_on = ap inputs same ∙ t.types_on;
   feeds_on = stream ∙ t.feeds_on;
@@ -130,9 +135,12 @@ takes_as c from m whole new same stream t = record {
 
 turn_takes : (c new : Run) (m : Told × Mark) → c.progress.over ≡ false → Turns c m new → Takes c m.0.from m.0.message new
 turn_takes c new (told, mark.Whole) on t = handled c told new on t
-turn_takes c new (told, mark.WriteFailed) on t = takes_as c told.from told.message t.1 new (ap (λ (r : Run). r.history) t.3) (ap (λ (r : Run). r.stream) t.3) (handled c told t.1 on t.2)
-turn_takes c new (told, mark.ShowFailed) on t = takes_as c told.from told.message t.1 new (ap (λ (r : Run). r.history) t.3) (ap (λ (r : Run). r.stream) t.3) (handled c told t.1 on t.2)
-turn_takes c new (told, mark.Refused f) on t = takes_as c told.from told.message t.1 new (ap (λ (r : Run). r.history) t.3) (ap (λ (r : Run). r.stream) t.3) (handled c told t.1 on t.2)
+turn_takes c new (told, mark.WriteFailed) on t = takes_as c told.from told.message t.1 new (ap (λ (r : Run). r.history) t.3) (ap (λ (r : Run). r.stream) t.3)
+    (handled c told t.1 on t.2)
+turn_takes c new (told, mark.ShowFailed) on t = takes_as c told.from told.message t.1 new (ap (λ (r : Run). r.history) t.3) (ap (λ (r : Run). r.stream) t.3)
+    (handled c told t.1 on t.2)
+turn_takes c new (told, mark.Refused f) on t = takes_as c told.from told.message t.1 new (ap (λ (r : Run). r.history) t.3) (ap (λ (r : Run). r.stream) t.3)
+    (handled c told t.1 on t.2)
 
 -- nothing has any effect
 turn_stays : (c new : Run) (m : Told × Mark) → c.progress.over ≡ true → Turns c m new → new ≡ c
@@ -146,7 +154,10 @@ abbrev Reads : Run → Type 0
 Reads c = IsRead c.stream (items c.history)
 
 -- what messages bring from one side is taken in order
-side_takes : {A : Type 0} (taken : Run → List A) (brings : Origin → Message → List A) → ((c new : Run) (from : Origin) (m : Message) → Takes c from m new → taken new ≡ taken c ++ brings from m) → (ms : List (Told × Mark)) (c new : Run) → Runs c ms new → Reads c → TakesFront new.progress.over (taken c ++ flat_map (λ (told : Told). brings told.from told.message) (map (λ (m : Told × Mark). m.0) ms)) (taken new) × Reads new
+side_takes : {A : Type 0} (taken : Run → List A) (brings : Origin → Message → List A)
+    → ((c new : Run) (from : Origin) (m : Message) → Takes c from m new → taken new ≡ taken c ++ brings from m) → (ms : List (Told × Mark)) (c new : Run)
+    → Runs c ms new → Reads c → TakesFront new.progress.over (taken c
+    ++ flat_map (λ (told : Told). brings told.from told.message) (map (λ (m : Told × Mark). m.0) ms)) (taken new) × Reads new
 side_takes taken brings more ms c new runs read =
     run_takes Turns (λ (r : Run). r.progress.over) Reads taken (λ (m : Told × Mark). m.0) (λ (told : Told). brings told.from told.message) (record {
       on = λ p q m on t h. let one = turn_takes p q m on t in (more p q m.0.from m.0.message one, one.reads_on h);

@@ -25,7 +25,8 @@ abbrev MovesAt : Run → Told → Mark → Ended → Type 0
 MovesAt c m k e = Moves (ended_of c) (EndsAt c m k) e
 
 -- a message after which another end would count, had none come
-moves_on : (c : Run) (m : Told) (k : Mark) (a e : Ended) (f : SessionFault) → e ≡ first_end a (ended.Fault f) → MovesAt c m k a → EndsAt c m k (ended.Fault f) → MovesAt c m k e
+moves_on : (c : Run) (m : Told) (k : Mark) (a e : Ended) (f : SessionFault) → e ≡ first_end a (ended.Fault f) → MovesAt c m k a → EndsAt c m k (ended.Fault f)
+    → MovesAt c m k e
 moves_on c m k a e f is before why = moves_first (ended_of c) (EndsAt c m k) a e f is before why
 
 abbrev told : Origin → Message → Told
@@ -58,11 +59,16 @@ handles_moves false c new m k a = acts_moves m.from m.message k c new a
 turn_moves : (c new : Run) (m : Told) (k : Mark) → Turns c (m, k) new → MovesAt c m k (ended_of new)
 turn_moves c new m mark.Whole t = handles_moves c.progress.over c new m mark.Whole t
 turn_moves c new m mark.WriteFailed t =
-    moves_on c m mark.WriteFailed (ended_of t.1) (ended_of new) fault.Write (ap ended_of t.3) (handles_moves c.progress.over c t.1 m mark.WriteFailed t.2) (inl refl)
+    moves_on c m mark.WriteFailed (ended_of t.1) (ended_of new) fault.Write (ap ended_of t.3) (handles_moves c.progress.over c t.1 m mark.WriteFailed t.2)
+    (inl refl)
 turn_moves c new m mark.ShowFailed t =
-    moves_on c m mark.ShowFailed (ended_of t.1) (ended_of new) fault.Write (ap ended_of t.3) (handles_moves c.progress.over c t.1 m mark.ShowFailed t.2) (inr refl)
+    moves_on c m mark.ShowFailed (ended_of t.1) (ended_of new) fault.Write (ap ended_of t.3) (handles_moves c.progress.over c t.1 m mark.ShowFailed t.2)
+    (inr refl)
 turn_moves c new m (mark.Refused f) t =
-    moves_on c m (mark.Refused f) (ended_of t.1) (ended_of new) (fault.Client f) (ap ended_of t.3) (handles_moves c.progress.over c t.1 m (mark.Refused f) t.2) (refl, t.4)
+    moves_on c m (mark.Refused f) (ended_of t.1) (ended_of new) (fault.Client f) (ap ended_of t.3) (handles_moves c.progress.over c t.1 m (mark.Refused f) t.2)
+    (refl, t.4)
 
-pub fault_cause : (width height limit : ℕ) (marked : List (Told × Mark)) (new : Run) (f : SessionFault) → Runs (start width height limit) marked new → new.progress.ended ≡ ended.Fault f → IsEndedAt (start width height limit) marked (ended.Fault f)
-fault_cause width height limit marked new f runs e = fault_came Turns (λ at m k. EndsAt at m.0 m.1 k) ended_of (λ c d m t. turn_moves c d m.0 m.1 t) marked (start width height limit) new f runs refl e
+pub fault_cause : (width height limit : ℕ) (marked : List (Told × Mark)) (new : Run) (f : SessionFault) → Runs (start width height limit) marked new
+    → new.progress.ended ≡ ended.Fault f → IsEndedAt (start width height limit) marked (ended.Fault f)
+fault_cause width height limit marked new f runs e = fault_came Turns (λ at m k. EndsAt at m.0 m.1 k) ended_of (λ c d m t. turn_moves c d m.0 m.1 t) marked
+    (start width height limit) new f runs refl e

@@ -1,5 +1,6 @@
 -- Entries are put in order, each once.
-use Rattle.std.proofs.Common.{◌≡◌, ℕ, ◌+◌, ◌<◌, Bool, true, false, ◌&&◌, Option, Some, None, List, [], ◌∷◌, ◌++◌, length, drop, refl, sym, ap, ◌∙◌, subst, arith, append-nil, append_assoc, length-append, length-drop, drop-drop, if◌then◌else◌}
+use Rattle.std.proofs.Common.{◌≡◌, ℕ, ◌+◌, ◌<◌, Bool, true, false, ◌&&◌, Option, Some, None, List, [], ◌∷◌, ◌++◌, length, drop, refl, sym, ap, ◌∙◌, subst}
+use Rattle.std.proofs.Common.{arith, append-nil, append_assoc, length-append, length-drop, drop-drop, if◌then◌else◌}
 use Rattle.std.proofs.lemmas.Bool.{lt-ltb, le-ltb}
 use Rattle.std.proofs.lemmas.List.{drop-append-le}
 use Rattle.tn_machines.proofs.lemmas.Folding.{run_keeps}
@@ -17,7 +18,8 @@ use Rattle.tn_server.specs.Events.{History, next, got, took, wrote, gets}
 use Rattle.tn_server.specs.Lines.{entries, taken_count, waiting, roles, role_at}
 use Rattle.tn_server.specs.Terms.{settings, mode}
 use Rattle.tn_machines.specs.server.Giving.{entries_put, Gives, GivesPrefix}
-use Rattle.tn_machines.specs.server.Run.{Run, flushed_history, flush, feed, ask, ask_if, answer, end_if, show, move, stop_job, end_job, in_foreground, after_said, halt_if, is_end, hang_up, ends_by, Acts, ActsUnless, idle, idle_puts, fail, opening, start}
+use Rattle.tn_machines.specs.server.Run.{Run, flushed_history, flush, feed, ask, ask_if, answer, end_if, show, move, stop_job, end_job, in_foreground}
+use Rattle.tn_machines.specs.server.Run.{after_said, halt_if, is_end, hang_up, ends_by, Acts, ActsUnless, idle, idle_puts, fail, opening, start}
 use Rattle.tn_server.specs.Course.{in_parts}
 use Rattle.tn_server.specs.Events.{limit}
 use Rattle.tn_discipline.specs.Canon.{Canon}
@@ -39,7 +41,10 @@ entries_put-append (Some e ∷ ps) qs = ap (λ (es : List Entry). e ∷ es) (ent
 
 -- an end changes nothing
 gives_end : (b : Bool) (ps : List (Option Entry)) (h : History) → Gives ps h → Gives (ps ++ end_if b) h
-gives_end true ps h g = record { all = ap (λ (es : List Entry). es ++ waiting h) (entries_put-append ps (None ∷ []) ∙ append-nil (entries_put ps)) ∙ g.all; taken = g.taken }
+gives_end true ps h g = record {
+  all = ap (λ (es : List Entry). es ++ waiting h) (entries_put-append ps (None ∷ []) ∙ append-nil (entries_put ps)) ∙ g.all;
+  taken = g.taken;
+}
 gives_end false ps h g = record { all = ap (λ (qs : List (Option Entry)). entries_put qs ++ waiting h) (append-nil ps) ∙ g.all; taken = g.taken }
 
 gives_got : (ps : List (Option Entry)) (h : History) (x : Item) → Gives ps h → Gives ps (next h (got x))
@@ -73,17 +78,21 @@ not_taken_if : (b : Bool) (n : ℕ) → b ≡ false → (if b then n + 1 else n)
 not_taken_if true n e = cc
 not_taken_if false n e = refl
 
-gives_ask : (c : Run) (ws : List Entry) → waiting c.history ≡ ws → Gives c.puts c.history → Gives (answer (record c { history = next c.history took }) ws).puts (next c.history took)
+gives_ask : (c : Run) (ws : List Entry) → waiting c.history ≡ ws → Gives c.puts c.history
+    → Gives (answer (record c { history = next c.history took }) ws).puts (next c.history took)
 gives_ask c [] e g =
     let none = ap (λ (es : List Entry). length es) e in
-    let stays = not_taken_if _ (taken_count c.history) (le-ltb (taken_count c.history) (length (entries c.history)) (let l = length-drop (taken_count c.history) (entries c.history) in omega (arith, none, l))) in
-    gives_end c.progress.at_end c.puts (next c.history took) (record { all = ap (λ (n : ℕ). entries_put c.puts ++ drop n (entries c.history)) stays ∙ g.all; taken = rw stays g.taken })
+    let stays = not_taken_if _ (taken_count c.history) (le-ltb (taken_count c.history) (length (entries c.history))
+    (let l = length-drop (taken_count c.history) (entries c.history) in omega (arith, none, l))) in
+    gives_end c.progress.at_end c.puts (next c.history took) (record
+    { all = ap (λ (n : ℕ). entries_put c.puts ++ drop n (entries c.history)) stays ∙ g.all; taken = rw stays g.taken })
 gives_ask c (w ∷ ws) e g =
     let some = ap (λ (es : List Entry). length es) e in
     let l = length-drop (taken_count c.history) (entries c.history) in
     let more : taken_count c.history < length (entries c.history) = omega (arith, some, l) in
     let goes = taken_if _ (taken_count c.history) (lt-ltb (taken_count c.history) (length (entries c.history)) more) in
-    let rest : drop (taken_count c.history + 1) (entries c.history) ≡ ws = sym (drop-drop 1 (taken_count c.history) (entries c.history)) ∙ ap (λ (es : List Entry). drop 1 es) e in
+    let rest : drop (taken_count c.history + 1) (entries c.history) ≡ ws =
+    sym (drop-drop 1 (taken_count c.history) (entries c.history)) ∙ ap (λ (es : List Entry). drop 1 es) e in
     record {
       all =
           ap (λ (n : ℕ). entries_put (c.puts ++ Some w ∷ []) ++ drop n (entries c.history)) goes
@@ -116,11 +125,13 @@ gives_halt_if : (b : Bool) (c : Run) → Gives c.puts c.history → Gives (halt_
 gives_halt_if true c g = gives_end c.progress.asks c.puts c.history g
 gives_halt_if false c g = g
 
-gives_said : (id : ℕ) (parts : List (List ℕ)) (v : Option Verdict) (c : Run) → Gives c.puts c.history → Gives (after_said id parts v c).puts (after_said id parts v c).history
+gives_said : (id : ℕ) (parts : List (List ℕ)) (v : Option Verdict) (c : Run) → Gives c.puts c.history
+    → Gives (after_said id parts v c).puts (after_said id parts v c).history
 gives_said id parts None c g = gives_flush c g
 gives_said id parts (Some v) c g =
     let m = move id v.next c in
-    gives_halt_if (is_end v.next && in_foreground c id) (flush (show parts m)) (gives_flush (show parts m) (gives_shown m.puts m.history parts (gives_move id v.next c g)))
+    gives_halt_if (is_end v.next && in_foreground c id) (flush (show parts m))
+    (gives_flush (show parts m) (gives_shown m.puts m.history parts (gives_move id v.next c g)))
 
 gives_as : (c d : Run) → d ≡ c → Gives c.puts c.history → Gives d.puts d.history
 gives_as c d e g = let P : Run → Type 0 = λ u. Gives u.puts u.history in subst P (sym e) g
@@ -135,13 +146,15 @@ gives_ask_if true c g = asked (waiting c.history) refl
     asked : (ws : List Entry) → waiting c.history ≡ ws → Gives (ask c).puts (ask c).history
     asked ws e =
         let P : History → Type 0 = λ h. Gives (answer (record c { history = next c.history took }) ws).puts h in
-        gives_as (answer (record c { history = next c.history took }) ws) (ask c) (ap (answer (record c { history = next c.history took })) e) (subst P (sym (kept ws)) (gives_ask c ws e g))
+        gives_as (answer (record c { history = next c.history took }) ws) (ask c) (ap (answer (record c { history = next c.history took })) e)
+        (subst P (sym (kept ws)) (gives_ask c ws e g))
 gives_ask_if false c g = g
 
 pub gives_acts : (c new : Run) (m : Message) → Acts c m new → Gives c.puts c.history → Gives new.puts new.history
 gives_acts c new (Piece piece) a g =
     let fed = feed piece a.0 c in
-    gives_as (flush (ask_if c.progress.asks fed)) new a.2 (gives_flush (ask_if c.progress.asks fed) (gives_ask_if c.progress.asks fed (gives_gets c.puts c.history a.0 g)))
+    gives_as (flush (ask_if c.progress.asks fed)) new a.2 (gives_flush (ask_if c.progress.asks fed)
+    (gives_ask_if c.progress.asks fed (gives_gets c.puts c.history a.0 g)))
 gives_acts c new HangUp a g = gives_as (flush (hang_up c)) new a (gives_flush (hang_up c) (gives_end c.progress.asks c.puts c.history g))
 gives_acts c new ReadFailed a g =
     let d = hang_up (ends_by (Fault fault.Read) c) in
@@ -269,7 +282,8 @@ pub acts_of : (o : Bool) (c new : Run) (m : Message) → o ≡ false → ActsUnl
 acts_of true c new m e a = absurd (true_false e)
 acts_of false c new m e a = a
 
-refused_in_order : (put : Bool) (f : SessionFault) (m : Message) (c whole : Run) → More c whole → Gives whole.puts whole.history → InOrder (fail f (put_or_not put m c whole))
+refused_in_order : (put : Bool) (f : SessionFault) (m : Message) (c whole : Run) → More c whole → Gives whole.puts whole.history
+    → InOrder (fail f (put_or_not put m c whole))
 refused_in_order true f m c whole more g = failed_in_order f whole (front_of whole.puts whole.history g)
 refused_in_order false f m c whole more g = failed_in_order f (unput m c whole) (unput_front m c whole more g)
 
@@ -288,18 +302,24 @@ turned_in_order c new (m, mark.WriteFailed) t i =
     in_order_as (fail fault.Write t.1) new t.3 (failed_in_order fault.Write t.1 (front_of t.1.puts t.1.history g))
 turned_in_order c new (m, mark.Refused f put) t i =
     let a = acts_of c.progress.over c t.1 m t.0 t.2 in
-    in_order_as (fail (fault.Server f) (put_or_not put m c t.1)) new t.3 (refused_in_order put (fault.Server f) m c t.1 (more_acts c t.1 m a) (gives_acts c t.1 m a (i.gives t.0)))
+    in_order_as (fail (fault.Server f) (put_or_not put m c t.1)) new t.3
+    (refused_in_order put (fault.Server f) m c t.1 (more_acts c t.1 m a) (gives_acts c t.1 m a (i.gives t.0)))
 
 started_in_order : (b : Bool) (canon : Canon) (editing : Editing) (jobs : Jobs) → InOrder (run_after_opening b (start canon editing jobs))
 started_in_order true canon editing jobs = let g = gives_start canon editing in record { gives = λ e. g; front = front_of [] (opening canon editing) g }
-started_in_order false canon editing jobs = failed_in_order fault.Write (start canon editing jobs) (front_of [] (opening canon editing) (gives_start canon editing))
+started_in_order false canon editing jobs = failed_in_order fault.Write (start canon editing jobs)
+    (front_of [] (opening canon editing) (gives_start canon editing))
 
-pub puts_are_front : (b : Bool) (canon : Canon) (editing : Editing) (jobs : Jobs) (marked : List (Message × Mark)) (new : Run) → Runs (run_after_opening b (start canon editing jobs)) marked new → GivesPrefix new.puts new.history
-puts_are_front b canon editing jobs marked new r = (run_keeps Turns InOrder turned_in_order marked (run_after_opening b (start canon editing jobs)) new r (started_in_order b canon editing jobs)).front
+pub puts_are_front : (b : Bool) (canon : Canon) (editing : Editing) (jobs : Jobs) (marked : List (Message × Mark)) (new : Run)
+    → Runs (run_after_opening b (start canon editing jobs)) marked new → GivesPrefix new.puts new.history
+puts_are_front b canon editing jobs marked new r = (run_keeps Turns InOrder turned_in_order marked (run_after_opening b (start canon editing jobs)) new r
+    (started_in_order b canon editing jobs)).front
 
 -- while messages have their effect, what was put and what waits are all
-pub puts_are_given : (b : Bool) (canon : Canon) (editing : Editing) (jobs : Jobs) (marked : List (Message × Mark)) (new : Run) → Runs (run_after_opening b (start canon editing jobs)) marked new → new.progress.over ≡ false → Gives new.puts new.history
-puts_are_given b canon editing jobs marked new r = (run_keeps Turns InOrder turned_in_order marked (run_after_opening b (start canon editing jobs)) new r (started_in_order b canon editing jobs)).gives
+pub puts_are_given : (b : Bool) (canon : Canon) (editing : Editing) (jobs : Jobs) (marked : List (Message × Mark)) (new : Run)
+    → Runs (run_after_opening b (start canon editing jobs)) marked new → new.progress.over ≡ false → Gives new.puts new.history
+puts_are_given b canon editing jobs marked new r = (run_keeps Turns InOrder turned_in_order marked (run_after_opening b (start canon editing jobs)) new r
+    (started_in_order b canon editing jobs)).gives
 
 -- what was taken of what was put
 pub taken_are_front : (taken_count rest puts : List (Option Entry)) (h : History) → taken_count ++ rest ≡ puts → GivesPrefix puts h → GivesPrefix taken_count h

@@ -1,5 +1,6 @@
 -- What was heard of the pieces, and the entries that it gives.
-use Rattle.std.proofs.Common.{◌≡◌, ℕ, Bool, true, false, ◌&&◌, Option, Some, None, List, [], ◌∷◌, ◌++◌, map, refl, sym, ap, ◌∙◌, subst, append-nil, append_assoc}
+use Rattle.std.proofs.Common.{◌≡◌, ℕ, Bool, true, false, ◌&&◌, Option, Some, None, List, [], ◌∷◌, ◌++◌, map, refl, sym, ap, ◌∙◌, subst, append-nil}
+use Rattle.std.proofs.Common.{append_assoc}
 use Rattle.tn_machines.proofs.lemmas.Folding.{run_takes}
 use Rattle.tn_discipline.proofs.lemmas.Histories.{entries-all}
 use Rattle.tn_discipline.specs.Canon.{Canon}
@@ -21,12 +22,13 @@ use Rattle.tn_server.specs.Lines.{entries, roles, role_at, waiting}
 use Rattle.tn_server.specs.Terms.{settings, mode}
 use Rattle.tn_server.specs.declared.wishes.Editing.{Editing}
 use Rattle.tn_wire.specs.Prefixes.{IsRead}
-use Rattle.tn_machines.proofs.server.Alike.{OfItems, SameLines, lines_self, lines_took, lines_flushed, lines_parts, same_entries, of_items_gets, items_parts}
+use Rattle.tn_machines.proofs.of_terminal.Alike.{OfItems, SameLines, lines_self, lines_took, lines_flushed, lines_parts, same_entries, of_items_gets, items_parts}
 use Rattle.tn_machines.proofs.lemmas.server.Giving.{acts_of}
 use Rattle.tn_machines.specs.Pieces.{bytes_in}
 use Rattle.tn_machines.specs.server.Hearing.{heard, Hears, entries_by}
 use Rattle.tn_machines.specs.server.Marks.{Turns, Runs, put_or_not, run_after_opening}
-use Rattle.tn_machines.specs.server.Run.{Run, Acts, ActsUnless, flushed_history, flush, feed, ask, ask_if, answer, hang_up, ends_by, move, stop_job, end_job, in_foreground, after_said, halt_if, is_end, show, fail, opening, start}
+use Rattle.tn_machines.specs.server.Run.{Run, Acts, ActsUnless, flushed_history, flush, feed, ask, ask_if, answer, hang_up, ends_by, move, stop_job, end_job}
+use Rattle.tn_machines.specs.server.Run.{in_foreground, after_said, halt_if, is_end, show, fail, opening, start}
 use Rattle.tn_machines.specs.declared.faults.Ended.TheVariants.{Fault}
 use Rattle.tn_machines.specs.declared.faults.SessionFault.TheVariants as fault
 use Rattle.tn_machines.specs.declared.server.messages.Mark.{Mark}
@@ -62,7 +64,8 @@ heard_gets first h s t xs r a = record {
 heard_parts : (first h : History) (s : List ℕ) (parts : List (List ℕ)) → Heard first s h → Heard first s (in_parts h parts)
 heard_parts first h s parts a = record {
   read = subst (λ (ys : List Item). IsRead s ys) (sym (items_parts h parts)) a.read;
-  lines = subst (λ (ys : List Item). SameLines (in_parts h parts) (gets first ys)) (sym (items_parts h parts)) (lines_parts h (gets first (items h)) parts a.lines);
+  lines = subst (λ (ys : List Item). SameLines (in_parts h parts) (gets first ys)) (sym (items_parts h parts))
+      (lines_parts h (gets first (items h)) parts a.lines);
 }
 
 -- WHERE A MESSAGE LEADS
@@ -103,18 +106,21 @@ hearing_as : (first : History) (m : Message) (c d new : Run) → new ≡ d → H
 hearing_as first m c d new e a = let P : Run → Type 0 = λ u. Hearing first m c u in subst P (sym e) a
 
 -- it brings nothing
-hearing_none : (first : History) (m : Message) (c new : Run) → bytes_in m ≡ [] → new.stream ≡ c.stream → Heard first c.stream new.history → Hearing first m c new
+hearing_none : (first : History) (m : Message) (c new : Run) → bytes_in m ≡ [] → new.stream ≡ c.stream → Heard first c.stream new.history
+    → Hearing first m c new
 hearing_none first m c new e s a =
     let P : List ℕ → Type 0 = λ t. Heard first t new.history in
     record { stream = s ∙ sym (append-nil c.stream) ∙ ap (λ (bs : List ℕ). c.stream ++ bs) (sym e); heard_on = subst P (sym s) a }
 
-hearing_ask_if : (b : Bool) (first : History) (c : Run) (s : List ℕ) → c.stream ≡ s → Heard first s c.history → ((ask_if b c).stream ≡ s) × Heard first s (ask_if b c).history
+hearing_ask_if : (b : Bool) (first : History) (c : Run) (s : List ℕ) → c.stream ≡ s → Heard first s c.history → ((ask_if b c).stream ≡ s)
+    × Heard first s (ask_if b c).history
 hearing_ask_if false first c s e a = (e, a)
 hearing_ask_if true first c s e a =
     let k = answer_keeps (record c { history = next c.history took }) (waiting c.history) in
     (k.stream ∙ e, heard_as first (next c.history took) (ask c).history s s refl k.history (heard_took_if true first c.history s a))
 
-hearing_said : (first : History) (c : Run) (id : ℕ) (parts : List (List ℕ)) (v : Option Verdict) → Heard first c.stream c.history → ((after_said id parts v c).stream ≡ c.stream) × Heard first c.stream (after_said id parts v c).history
+hearing_said : (first : History) (c : Run) (id : ℕ) (parts : List (List ℕ)) (v : Option Verdict) → Heard first c.stream c.history
+    → ((after_said id parts v c).stream ≡ c.stream) × Heard first c.stream (after_said id parts v c).history
 hearing_said first c id parts None a = (refl, heard_flushed first c.history c.stream a)
 hearing_said first c id parts (Some v) a =
     let m = move id v.next c in
@@ -122,7 +128,8 @@ hearing_said first c id parts (Some v) a =
     let d = flush (show parts m) in
     let b = is_end v.next && in_foreground c id in
     let halted = halt_keeps b d in
-    let here : Heard first c.stream d.history = heard_flushed first (in_parts m.history parts) c.stream (heard_parts first m.history c.stream parts (heard_as first c.history m.history c.stream c.stream refl same.history a)) in
+    let here : Heard first c.stream d.history = heard_flushed first (in_parts m.history parts) c.stream
+    (heard_parts first m.history c.stream parts (heard_as first c.history m.history c.stream c.stream refl same.history a)) in
     (halted.stream ∙ same.stream, heard_as first d.history (halt_if b d).history c.stream c.stream refl halted.history here)
 
 hearing_acts : (first : History) (m : Message) (c new : Run) → Acts c m new → Heard first c.stream c.history → Hearing first m c new
@@ -131,21 +138,29 @@ hearing_acts first (Piece piece) c new a h =
     let asked = hearing_ask_if c.progress.asks first fed (c.stream ++ piece) refl (heard_gets first c.history c.stream (c.stream ++ piece) a.0 a.1 h) in
     let d = ask_if c.progress.asks fed in
     let P : List ℕ → Type 0 = λ t. Heard first t (flushed_history d.history) in
-    hearing_as first (Piece piece) c (flush d) new a.2 (record { stream = asked.0; heard_on = subst P (sym asked.0) (heard_flushed first d.history (c.stream ++ piece) asked.1) })
-hearing_acts first HangUp c new a h = hearing_as first HangUp c (flush (hang_up c)) new a (hearing_none first HangUp c (flush (hang_up c)) refl refl (heard_flushed first c.history c.stream h))
+    hearing_as first (Piece piece) c (flush d) new a.2 (record {
+      stream = asked.0;
+      heard_on = subst P (sym asked.0) (heard_flushed first d.history (c.stream ++ piece) asked.1);
+    })
+hearing_acts first HangUp c new a h = hearing_as first HangUp c (flush (hang_up c)) new a
+    (hearing_none first HangUp c (flush (hang_up c)) refl refl (heard_flushed first c.history c.stream h))
 hearing_acts first ReadFailed c new a h =
     let d = flush (hang_up (ends_by (Fault fault.Read) c)) in
     hearing_as first ReadFailed c d new a (hearing_none first ReadFailed c d refl refl (heard_flushed first c.history c.stream h))
 hearing_acts first Take c new a h =
     let asked = hearing_ask_if true first c c.stream refl h in
-    hearing_as first Take c (flush (ask c)) new a (hearing_none first Take c (flush (ask c)) refl asked.0 (heard_flushed first (ask c).history c.stream asked.1))
+    hearing_as first Take c (flush (ask c)) new a (hearing_none first Take c (flush (ask c)) refl asked.0
+    (heard_flushed first (ask c).history c.stream asked.1))
 hearing_acts first (Said id text after) c new a h =
     let said = hearing_said first c id.0 a.0 _ h in
     hearing_as first (Said id text after) c _ new a.2 (hearing_none first (Said id text after) c _ refl said.0 said.1)
 hearing_acts first Refused c new a h = hearing_as first Refused c _ new a (hearing_none first Refused c _ refl refl (heard_flushed first c.history c.stream h))
-hearing_acts first Left c new a h = hearing_as first Left c (flush c) new a (hearing_none first Left c (flush c) refl refl (heard_flushed first c.history c.stream h))
-hearing_acts first (Resized size) c new a h = hearing_as first (Resized size) c (flush c) new a (hearing_none first (Resized size) c (flush c) refl refl (heard_flushed first c.history c.stream h))
-hearing_acts first (Asked control) c new a h = hearing_as first (Asked control) c (flush c) new a (hearing_none first (Asked control) c (flush c) refl refl (heard_flushed first c.history c.stream h))
+hearing_acts first Left c new a h = hearing_as first Left c (flush c) new a
+    (hearing_none first Left c (flush c) refl refl (heard_flushed first c.history c.stream h))
+hearing_acts first (Resized size) c new a h = hearing_as first (Resized size) c (flush c) new a
+    (hearing_none first (Resized size) c (flush c) refl refl (heard_flushed first c.history c.stream h))
+hearing_acts first (Asked control) c new a h = hearing_as first (Asked control) c (flush c) new a
+    (hearing_none first (Asked control) c (flush c) refl refl (heard_flushed first c.history c.stream h))
 
 -- ONE MESSAGE WITH ITS MARK
 
@@ -154,7 +169,8 @@ put_or_not_keeps true m c whole = record { history = refl; stream = refl }
 put_or_not_keeps false m c whole = record { history = refl; stream = refl }
 
 -- while messages have their effect
-turned_on : (first : History) (m : Message) (k : Mark) (c new : Run) → c.progress.over ≡ false → Turns c (m, k) new → Heard first c.stream c.history → Hearing first m c new
+turned_on : (first : History) (m : Message) (k : Mark) (c new : Run) → c.progress.over ≡ false → Turns c (m, k) new → Heard first c.stream c.history
+    → Hearing first m c new
 turned_on first m mark.Whole c new on t h = hearing_acts first m c new (acts_of c.progress.over c new m on t) h
 turned_on first m mark.WriteFailed c new on t h =
     let w = hearing_acts first m c t.1 (acts_of c.progress.over c t.1 m t.0 t.2) h in
@@ -188,10 +204,12 @@ turned_off m (mark.Refused f put) c new off t = absurd (true_false (sym off ∙ 
 
 -- ALL MESSAGES
 
-turned_hearing : (first : History) (c new : Run) (m : Message × Mark) → c.progress.over ≡ false → Turns c m new → Heard first c.stream c.history → (new.stream ≡ c.stream ++ bytes_in m.0) × Heard first new.stream new.history
+turned_hearing : (first : History) (c new : Run) (m : Message × Mark) → c.progress.over ≡ false → Turns c m new → Heard first c.stream c.history
+    → (new.stream ≡ c.stream ++ bytes_in m.0) × Heard first new.stream new.history
 turned_hearing first c new m on t h = let one = turned_on first m.0 m.1 c new on t h in (one.stream, one.heard_on)
 
-turned_stays : (first : History) (c new : Run) (m : Message × Mark) → c.progress.over ≡ true → Turns c m new → Heard first c.stream c.history → (new.progress.over ≡ true) × (new.stream ≡ c.stream) × Heard first new.stream new.history
+turned_stays : (first : History) (c new : Run) (m : Message × Mark) → c.progress.over ≡ true → Turns c m new → Heard first c.stream c.history
+    → (new.progress.over ≡ true) × (new.stream ≡ c.stream) × Heard first new.stream new.history
 turned_stays first c new m off t h =
     let s = turned_off m.0 m.1 c new off t in
     (s.over, s.stream, heard_as first c.history new.history c.stream new.stream s.stream s.history h)
@@ -205,12 +223,15 @@ begun_stream : (b : Bool) (canon : Canon) (editing : Editing) (jobs : Jobs) → 
 begun_stream true canon editing jobs = refl
 begun_stream false canon editing jobs = refl
 
-pub hears : (b : Bool) (canon : Canon) (editing : Editing) (jobs : Jobs) (marked : List (Message × Mark)) (new : Run) → Runs (run_after_opening b (start canon editing jobs)) marked new → Hears canon editing (map (λ m. m.0) marked) new
+pub hears : (b : Bool) (canon : Canon) (editing : Editing) (jobs : Jobs) (marked : List (Message × Mark)) (new : Run)
+    → Runs (run_after_opening b (start canon editing jobs)) marked new → Hears canon editing (map (λ m. m.0) marked) new
 hears b canon editing jobs marked new runs =
     let o = opening canon editing in
     let c = run_after_opening b (start canon editing jobs) in
     let begun = begun_stream b canon editing jobs in
-    let r = run_takes Turns (λ (u : Run). u.progress.over) (λ u. Heard o u.stream u.history) (λ u. u.stream) (λ (m : Message × Mark). m.0) bytes_in (record { on = turned_hearing o; off = turned_stays o }) marked c new runs (heard_as o o c.history [] c.stream begun (begun_history b canon editing jobs) (record { read = ([], reads_none); lines = lines_self o })) in
+    let r = run_takes Turns (λ (u : Run). u.progress.over) (λ u. Heard o u.stream u.history) (λ u. u.stream) (λ (m : Message × Mark). m.0) bytes_in
+    (record { on = turned_hearing o; off = turned_stays o }) marked c new runs
+    (heard_as o o c.history [] c.stream begun (begun_history b canon editing jobs) (record { read = ([], reads_none); lines = lines_self o })) in
     record {
       unheard = r.0.rest;
       stream_first = ap (λ (bs : List ℕ). bs ++ heard (map (λ m. m.0) marked)) (sym begun) ∙ r.0.front;
@@ -230,7 +251,8 @@ entries_more h (x ∷ xs) =
     (gain ++ on.0, on.1 ∙ ap (λ (es : List Entry). es ++ on.0) (entries-all (limit h) (roles h) r) ∙ append_assoc (entries h) gain on.0)
 
 -- the entries of the first bytes begin those of all
-pub entries_grow : (canon : Canon) (editing : Editing) (stream rest : List ℕ) (had xs : List Item) → IsRead stream had → IsRead (stream ++ rest) xs → (more : List Entry) × (entries_by canon editing xs ≡ entries_by canon editing had ++ more)
+pub entries_grow : (canon : Canon) (editing : Editing) (stream rest : List ℕ) (had xs : List Item) → IsRead stream had → IsRead (stream ++ rest) xs
+    → (more : List Entry) × (entries_by canon editing xs ≡ entries_by canon editing had ++ more)
 entries_grow canon editing stream rest had xs r s =
     let o = opening canon editing in
     let on = reads_on stream rest r.0 s.0 had xs r.1 s.1 in
@@ -238,5 +260,6 @@ entries_grow canon editing stream rest had xs r s =
     (grown.0, ap (λ (ys : List Item). entries (gets o ys)) on.1 ∙ ap entries (gets-append o had on.0) ∙ grown.1)
 
 -- and are all of them, where there are no more bytes
-pub entries_same : (canon : Canon) (editing : Editing) (stream : List ℕ) (had xs : List Item) → IsRead stream had → IsRead stream xs → entries_by canon editing xs ≡ entries_by canon editing had
+pub entries_same : (canon : Canon) (editing : Editing) (stream : List ℕ) (had xs : List Item) → IsRead stream had → IsRead stream xs
+    → entries_by canon editing xs ≡ entries_by canon editing had
 entries_same canon editing stream had xs r s = ap (entries_by canon editing) (sym (one_reading stream r.0 s.0 had xs r.1 s.1).0)

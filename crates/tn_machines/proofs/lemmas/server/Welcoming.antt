@@ -8,7 +8,7 @@ use Rattle.tn_server.specs.declared.faults.ServerFault.{ServerFault}
 use Rattle.tn_server.specs.declared.faults.ServerFault.TheVariants.{Pty, Memory}
 use Rattle.tn_server.proofs.lemmas.Room.{completes_few, waits_few}
 use Rattle.tn_wire.specs.Prefixes.{IsRead}
-use Rattle.tn_machines.proofs.server.Ending.{turned}
+use Rattle.tn_machines.proofs.of_terminal.Ending.{turned}
 use Rattle.tn_machines.specs.server.Ending.{EndsAt}
 use Rattle.tn_machines.specs.server.Marks.{Turns}
 use Rattle.tn_machines.specs.server.Reaching.{LeadsTo}
@@ -25,7 +25,8 @@ use Rattle.tn_machines.specs.declared.messages.Message.TheVariants.{Piece, HangU
 
 -- A WELCOME MESSAGE
 
-finds_room : (c : Run) (piece : List ℕ) → All (λ b. b < 256) c.stream → IsRead c.stream (items c.history) → length piece ≤ 512 → length (waiting c.history) ≤ 511 → RefusesAtItem c piece (Pty pty.TooFarAhead) → ⊥
+finds_room : (c : Run) (piece : List ℕ) → All (λ b. b < 256) c.stream → IsRead c.stream (items c.history) → length piece ≤ 512
+    → length (waiting c.history) ≤ 511 → RefusesAtItem c piece (Pty pty.TooFarAhead) → ⊥
 finds_room c piece bytes start short few (done, item, left, reads, cause) =
     omega (
       arith,
@@ -59,7 +60,8 @@ was_on c new m k f put e t =
     turn.0
 
 -- no welcome message ends a session because too many entries wait
-pub stays_in_reach : (c new : Run) (t : Term) (m : Message) (k : Mark) → LeadsTo c t → IsWelcome c m → Turns c (m, k) new → new.progress.ended ≡ too_far_ahead → c.progress.ended ≡ too_far_ahead
+pub stays_in_reach : (c new : Run) (t : Term) (m : Message) (k : Mark) → LeadsTo c t → IsWelcome c m → Turns c (m, k) new → new.progress.ended ≡ too_far_ahead
+    → c.progress.ended ≡ too_far_ahead
 stays_in_reach c new t m k at welcome turn e =
     ⊎_elim
     (λ s. sym s ∙ e)

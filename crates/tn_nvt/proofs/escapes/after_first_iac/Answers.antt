@@ -11,7 +11,8 @@ returns-in-Some-clause-escapes c =
       some = lit< tt;
       within = omega arith;
       special = (tt, tt);
-      advances = then_third c.args.bytes.now AfterIac (AfterVerb verb) Outside _ (omega arith) (iac _ c.requires.first) (iac_verb verb _ ((c.in-Some.ensures verb).0 refl)) (verb_option verb _);
+      advances = then_third c.args.bytes.now AfterIac (AfterVerb verb) Outside _ (omega arith) (iac _ c.requires.first)
+          (iac_verb verb _ ((c.in-Some.ensures verb).0 refl)) (verb_option verb _);
     }
 
 pub returns-clause-escapes : goal.returns-clause-escapes

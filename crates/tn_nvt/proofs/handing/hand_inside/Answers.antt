@@ -36,7 +36,8 @@ returns-in-Ok-clause-ok g c =
     let n = c.in_ok-count.count in
     let rest = c.args.rest.now in
     let lt : n < length rest = omega (arith, k.within, c.if-count-rest.false) in
-    some_on g.S.Sink.takes g.S.Sink.gives_up _ _ _ rest (n + 1) c.in-Ok.more _ _ _ (omega (arith, lt)) (kept_front g.S.Sink.takes g.S.Sink.gives_up _ _ rest n _ lt k) c.in-Ok.ensures.ok
+    some_on g.S.Sink.takes g.S.Sink.gives_up _ _ _ rest (n + 1) c.in-Ok.more _ _ _ (omega (arith, lt))
+    (kept_front g.S.Sink.takes g.S.Sink.gives_up _ _ rest n _ lt k) c.in-Ok.ensures.ok
 
 pub returns-in-Err-clause-refused : goal.returns-in-Err-clause-refused
 returns-in-Err-clause-refused g c = λ refused.
@@ -44,7 +45,8 @@ returns-in-Err-clause-refused g c = λ refused.
     let n = c.in_ok-count.count in
     let rest = c.args.rest.now in
     let lt : n < length rest = omega (arith, k.within, c.if-count-rest.false) in
-    stops_on g.S.Sink.takes g.S.Sink.gives_up _ _ rest (n + 1) _ _ _ (kept_front g.S.Sink.takes g.S.Sink.gives_up _ _ rest n _ lt k) (c.in-Err.ensures.refused (same_fault _ _ refused))
+    stops_on g.S.Sink.takes g.S.Sink.gives_up _ _ rest (n + 1) _ _ _ (kept_front g.S.Sink.takes g.S.Sink.gives_up _ _ rest n _ lt k)
+    (c.in-Err.ensures.refused (same_fault _ _ refused))
 
 pub returns-in-Err-clause-memory : goal.returns-in-Err-clause-memory
 returns-in-Err-clause-memory g c = λ memory.
@@ -52,4 +54,5 @@ returns-in-Err-clause-memory g c = λ memory.
     let n = c.in_ok-count.count in
     let rest = c.args.rest.now in
     let lt : n < length rest = omega (arith, k.within, c.if-count-rest.false) in
-    wants_on g.S.Sink.takes g.S.Sink.gives_up _ _ rest (n + 1) _ _ _ (kept_front g.S.Sink.takes g.S.Sink.gives_up _ _ rest n _ lt k) (c.in-Err.ensures.memory (same_fault _ _ memory))
+    wants_on g.S.Sink.takes g.S.Sink.gives_up _ _ rest (n + 1) _ _ _ (kept_front g.S.Sink.takes g.S.Sink.gives_up _ _ rest n _ lt k)
+    (c.in-Err.ensures.memory (same_fault _ _ memory))

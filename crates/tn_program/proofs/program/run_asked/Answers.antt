@@ -6,4 +6,5 @@ pub returns-in-Connect-clause-comes : goal.returns-in-Connect-clause-comes
 returns-in-Connect-clause-comes g c = rw c.in-Connect.is c.run_connecting.ensures.comes
 
 pub returns-in-Serve-clause-uncaused : goal.returns-in-Serve-clause-uncaused
-returns-in-Serve-clause-uncaused g c = uncaused (g.H.Network.listens c.args.rt (string_bytes c.in-Serve.asked.host) c.in-Serve.asked.port) _ _ _ c.serve_asked-served.ensures.caused
+returns-in-Serve-clause-uncaused g c = uncaused (g.H.Network.listens c.args.rt (string_bytes c.in-Serve.asked.host) c.in-Serve.asked.port) _ _ _
+    c.serve_asked-served.ensures.caused

@@ -14,9 +14,16 @@ returns-clause-comes g c = (
   refl,
   record {
     telnet = c.requires;
-    ran = subst (λ (w : Window). IfOk c.connect.result (λ r. RunsClient w (foreseen c.args.seat.origin (g.R.Read.remaining c.args.seat.reader)) (g.W.Write.contents c.args.writer.now) (g.W.Write.contents c.connect.new.screen) r)) c.connecting_of-connecting.ensures.window (subst (λ (o : Origin). IfOk c.connect.result (λ r. RunsClient (window_of c.connecting_of-connecting.result) (foreseen o (g.R.Read.remaining c.args.seat.reader)) (g.W.Write.contents c.args.writer.now) (g.W.Write.contents c.connect.new.screen) r)) c.connecting_of-connecting.ensures.origin c.connect.ensures.ran);
+    ran = subst (λ (w : Window). IfOk c.connect.result (λ r. RunsClient w (foreseen c.args.seat.origin (g.R.Read.remaining c.args.seat.reader))
+        (g.W.Write.contents c.args.writer.now) (g.W.Write.contents c.connect.new.screen) r)) c.connecting_of-connecting.ensures.window
+        (subst (λ (o : Origin). IfOk c.connect.result (λ r. RunsClient (window_of c.connecting_of-connecting.result)
+        (foreseen o (g.R.Read.remaining c.args.seat.reader)) (g.W.Write.contents c.args.writer.now) (g.W.Write.contents c.connect.new.screen) r))
+        c.connecting_of-connecting.ensures.origin c.connect.ensures.ran);
     whole = c.connect.ensures.whole;
-    reached = subst (λ (host : List ℕ). ConnectsBy connection_of (Reaches (g.H.Network.finds c.args.rt host c.args.asked.port) (g.H.Network.dials c.args.rt)) c.connect.result) c.as_str-host.ensures.value (subst (λ (port : ℕ). ConnectsBy connection_of (Reaches (g.H.Network.finds c.args.rt c.as_str-host.result.now port) (g.H.Network.dials c.args.rt)) c.connect.result) c.connecting_of-connecting.ensures.port c.connect.ensures.reached);
+    reached = subst (λ (host : List ℕ). ConnectsBy connection_of
+        (Reaches (g.H.Network.finds c.args.rt host c.args.asked.port) (g.H.Network.dials c.args.rt)) c.connect.result) c.as_str-host.ensures.value
+        (subst (λ (port : ℕ). ConnectsBy connection_of (Reaches (g.H.Network.finds c.args.rt c.as_str-host.result.now port) (g.H.Network.dials c.args.rt))
+        c.connect.result) c.connecting_of-connecting.ensures.port c.connect.ensures.reached);
     unwritten = c.connect.ensures.unshown;
   },
 )

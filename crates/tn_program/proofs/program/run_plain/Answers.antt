@@ -16,7 +16,9 @@ returns-clause-comes g c = (
         subst (λ (p : Plain). IfOk c.connect_plain.result (RunsTalk p (g.R.Read.remaining c.args.seat.reader)
         (g.W.Write.contents c.args.writer.now) (g.W.Write.contents c.connect_plain.new.screen))) c.plain_of-plain.ensures c.connect_plain.ensures.talked;
     reached =
-        subst (λ (host : List ℕ). ConnectsBy talked_over (Reaches (g.H.Network.finds c.args.rt host c.args.asked.now.port) (g.H.Network.dials c.args.rt)) c.connect_plain.result) c.as_str-host.ensures.value
-        (subst (λ (p : Plain). ConnectsBy talked_over (Reaches (g.H.Network.finds c.args.rt c.as_str-host.result.now p.port) (g.H.Network.dials c.args.rt)) c.connect_plain.result) c.plain_of-plain.ensures c.connect_plain.ensures.reached);
+        subst (λ (host : List ℕ). ConnectsBy talked_over (Reaches (g.H.Network.finds c.args.rt host c.args.asked.now.port) (g.H.Network.dials c.args.rt))
+        c.connect_plain.result) c.as_str-host.ensures.value
+        (subst (λ (p : Plain). ConnectsBy talked_over (Reaches (g.H.Network.finds c.args.rt c.as_str-host.result.now p.port) (g.H.Network.dials c.args.rt))
+        c.connect_plain.result) c.plain_of-plain.ensures c.connect_plain.ensures.reached);
   },
 )

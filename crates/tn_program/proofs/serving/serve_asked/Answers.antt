@@ -11,7 +11,8 @@ returns-in_err-from_str-clause-listened g c = unless _ _ c.from_residual-in_err-
 
 pub returns-clause-joins : goal.returns-clause-joins
 returns-clause-joins g c =
-    rw c.in-Some.is (joins _ _ _ _ c.args.rt c.in-Some.to.port _ _ _ _ _ _ c.serving_of-serving.ensures.options (c.in_ok-from_str.ensures.ok ∙ c.as_str-2.ensures.value) c.lines_of.ensures c.serve-2.ensures.each)
+    rw c.in-Some.is (joins _ _ _ _ c.args.rt c.in-Some.to.port _ _ _ _ _ _ c.serving_of-serving.ensures.options
+    (c.in_ok-from_str.ensures.ok ∙ c.as_str-2.ensures.value) c.lines_of.ensures c.serve-2.ensures.each)
 
 pub returns-in_err-from_str-clause-caused : goal.returns-in_err-from_str-clause-caused
 returns-in_err-from_str-clause-caused g c = inl refl

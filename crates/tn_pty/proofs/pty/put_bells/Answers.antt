@@ -4,4 +4,5 @@ use Rattle.tn_pty.proofs.pty.put_bells.Goals as goal
 
 pub loop-byte-preserved : goal.loop-byte-preserved
 loop-byte-preserved c =
-    each_more (λ b. Byte 7) c.args.queue.now c.args.bytes.now c.loop-byte._byte-index c.loop-byte.queue c.push.new.self c.loop-byte-test.true c.loop-byte.invariant c.push.ensures
+    each_more (λ b. Byte 7) c.args.queue.now c.args.bytes.now c.loop-byte._byte-index c.loop-byte.queue c.push.new.self c.loop-byte-test.true
+    c.loop-byte.invariant c.push.ensures

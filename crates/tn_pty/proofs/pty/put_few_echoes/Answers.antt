@@ -4,4 +4,5 @@ use Rattle.tn_pty.proofs.pty.put_few_echoes.Goals as goal
 
 pub loop-byte-preserved : goal.loop-byte-preserved
 loop-byte-preserved c =
-    each_more (λ b. Byte b) c.args.queue.now c.args.bytes.now c.loop-byte.byte-index c.loop-byte.queue c.push.new.self c.loop-byte-test.true c.loop-byte.invariant c.push.ensures
+    each_more (λ b. Byte b) c.args.queue.now c.args.bytes.now c.loop-byte.byte-index c.loop-byte.queue c.push.new.self c.loop-byte-test.true
+    c.loop-byte.invariant c.push.ensures

@@ -35,7 +35,18 @@ pub copy_front-requires : goal.copy_front-requires
 copy_front-requires c =
     let near = take c.min.result c.args.front.now in
     let copied = c.copy_front-count in
-    omega (arith, c.requires, c.min.ensures, c.min-2.ensures, copied.ensures.count, copied.ensures.len, copied.ensures.capacity, leading-le c.args.ends.0 c.args.ends.1 near, length-take c.min.result c.args.front.now, length-take c.min-2.result c.args.back.now)
+    omega (
+      arith,
+      c.requires,
+      c.min.ensures,
+      c.min-2.ensures,
+      copied.ensures.count,
+      copied.ensures.len,
+      copied.ensures.capacity,
+      leading-le c.args.ends.0 c.args.ends.1 near,
+      length-take c.min.result c.args.front.now,
+      length-take c.min-2.result c.args.back.now,
+    )
 
 pub returns-clause-count : goal.returns-clause-count
 returns-clause-count c =
@@ -45,7 +56,8 @@ returns-clause-count c =
     let more = c.copy_front in
     let a = c.args.ends.0 in
     let b = c.args.ends.1 in
-    let run = copied_beyond a b c.args.max c.min.result copied.result front back c.min.ensures copied.ensures.count c.min-2.result c.min-2.ensures c.if-count-near.false in
+    let run = copied_beyond a b c.args.max c.min.result copied.result front back c.min.ensures copied.ensures.count c.min-2.result c.min-2.ensures
+    c.if-count-near.false in
     let both = length-append (leading_bytes a b (take c.min.result front)) (leading_bytes a b (take c.min-2.result back)) in
     omega (arith, copied.ensures.count, more.ensures.count, both, ap length run, length-take c.args.max (leading_bytes a b (front ++ back)))
 
@@ -59,9 +71,17 @@ returns-clause-items c =
     let b = c.args.ends.1 in
     let first = leading_bytes a b (take c.min.result front) in
     let second = leading_bytes a b (take c.min-2.result back) in
-    let run = copied_beyond a b c.args.max c.min.result copied.result front back c.min.ensures copied.ensures.count c.min-2.result c.min-2.ensures c.if-count-near.false in
+    let run = copied_beyond a b c.args.max c.min.result copied.result front back c.min.ensures copied.ensures.count c.min-2.result c.min-2.ensures
+    c.if-count-near.false in
     let count : copied.result + more.result ≡ min c.args.max (length (leading_bytes a b (front ++ back))) =
-    omega (arith, copied.ensures.count, more.ensures.count, length-append first second, ap length run, length-take c.args.max (leading_bytes a b (front ++ back))) in
+    omega (
+      arith,
+      copied.ensures.count,
+      more.ensures.count,
+      length-append first second,
+      ap length run,
+      length-take c.args.max (leading_bytes a b (front ++ back)),
+    ) in
     more.ensures.items
     ∙ ap (λ xs. xs ++ second) copied.ensures.items
     ∙ append_assoc c.args.out.now.items first second

@@ -25,7 +25,8 @@ module _ {J : Type 0} (facts : JobFacts J) (to_make : Option ℕ) (options : Ses
       (record { bytes = None; failures = None; sizes = Some [] })
       (record { before = record { bytes = Some before; calls = None }; after = record { bytes = Some after; calls = None } }) result
 
-  as_asked : (s : Settings) (before after : List ℕ) → s ≡ record { flags = standard_flags; chars = standard_characters } → before ≡ [] → Ran s before after → Ran (record { flags = standard_flags; chars = standard_characters }) [] after
+  as_asked : (s : Settings) (before after : List ℕ) → s ≡ record { flags = standard_flags; chars = standard_characters } → before ≡ [] → Ran s before after
+      → Ran (record { flags = standard_flags; chars = standard_characters }) [] after
   as_asked s before after standard none ran =
       subst (λ (l : List ℕ). Ran (record { flags = standard_flags; chars = standard_characters }) l after) none
       (subst (λ (t : Settings). Ran t before after) standard ran)
@@ -33,6 +34,8 @@ module _ {J : Type 0} (facts : JobFacts J) (to_make : Option ℕ) (options : Ses
 pub returns-clause-ran : goal.returns-clause-ran
 returns-clause-ran g c =
     let standard = standard_is c.standard-settings.result c.standard-settings.ensures.flags c.standard-settings.ensures.chars in
-    as_asked (job_facts (begins g.M.Job.Job.fresh g.M.Maker.gives c.args.jobs) g.M.Job.Job.reacts g.M.Job.Job.steps g.M.Job.Job.refuses) (g.M.Maker.left c.args.jobs) c.args.options
-    (session_result c.in_ok-report.report c.in_ok-report.ports) c.standard-settings.result (logged c.args.writer.now.log) (logged c.serve_session.new.writer.log)
+    as_asked (job_facts (begins g.M.Job.Job.fresh g.M.Maker.gives c.args.jobs) g.M.Job.Job.reacts g.M.Job.Job.steps g.M.Job.Job.refuses)
+    (g.M.Maker.left c.args.jobs) c.args.options
+    (session_result c.in_ok-report.report c.in_ok-report.ports) c.standard-settings.result (logged c.args.writer.now.log)
+    (logged c.serve_session.new.writer.log)
     standard c.requires.new c.in_ok-report.ensures.ran

@@ -2,4 +2,11 @@ use Rattle.tn_services.proofs.Ticking as ticking
 use Rattle.tn_services.proofs.laws.ticks_are_counted.Goals as goal
 
 pub returns : goal.returns
-returns c = record { number = ticking.length-ticks; steps = ticking.counted; all = ticking.all_made; left = ticking.left_after; fresh = ticking.fresh_counted; fresh_all = ticking.fresh_all }
+returns c = record {
+  number = ticking.length-ticks;
+  steps = ticking.counted;
+  all = ticking.all_made;
+  left = ticking.left_after;
+  fresh = ticking.fresh_counted;
+  fresh_all = ticking.fresh_all;
+}

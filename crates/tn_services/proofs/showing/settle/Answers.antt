@@ -30,7 +30,8 @@ loop-byte-preserved c =
     let more : held ++ take (i + 1) bytes ≡ (held ++ take i bytes) ++ byte ∷ [] =
     ap (λ (l : List ℕ). held ++ l) (take_more bytes i 0 c.loop-byte-test.true) ∙ sym (append_assoc held (take i bytes) (byte ∷ [])) in
     record {
-      items = byte_settles c.args.text.items c.loop-byte.text.items c.settle_byte-waits.new.text.items (held ++ take i bytes) (held ++ take (i + 1) bytes) byte c.loop-byte.waits more before.items before.waits one.items;
+      items = byte_settles c.args.text.items c.loop-byte.text.items c.settle_byte-waits.new.text.items (held ++ take i bytes)
+          (held ++ take (i + 1) bytes) byte c.loop-byte.waits more before.items before.waits one.items;
       waits = byte_ends (held ++ take i bytes) (held ++ take (i + 1) bytes) byte c.settle_byte-waits.result more one.waits;
       room = omega (arith, one.len, before.room);
       capacity = one.capacity ∙ before.capacity;

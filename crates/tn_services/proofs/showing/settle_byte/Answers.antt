@@ -7,7 +7,8 @@ use Rattle.tn_services.proofs.showing.settle_byte.Goals as goal
 pub returns-in-true-eq13-clause-items : goal.returns-in-true-eq13-clause-items
 returns-in-true-eq13-clause-items c =
     let is = c.in-true-eq13 in
-    c.push_reserved.ensures.items ∙ ap (λ (l : List ℕ). c.args.text.now.items ++ l) (sym (ap₂ (λ (w : Bool) (b : ℕ). settled (waiting w ++ b ∷ [])) is.is-0 is.is-1 ∙ one_return true))
+    c.push_reserved.ensures.items ∙ ap (λ (l : List ℕ). c.args.text.now.items ++ l)
+    (sym (ap₂ (λ (w : Bool) (b : ℕ). settled (waiting w ++ b ∷ [])) is.is-0 is.is-1 ∙ one_return true))
 
 pub returns-in-true-eq13-clause-waits : goal.returns-in-true-eq13-clause-waits
 returns-in-true-eq13-clause-waits c = return_waits ∙ ap (λ (b : ℕ). ends_by_return (b ∷ [])) (sym c.in-true-eq13.is-1)
@@ -15,7 +16,8 @@ returns-in-true-eq13-clause-waits c = return_waits ∙ ap (λ (b : ℕ). ends_by
 pub returns-in-true-eq10-clause-items : goal.returns-in-true-eq10-clause-items
 returns-in-true-eq10-clause-items c =
     let is = c.in-true-eq10 in
-    c.push_reserved-in-true-eq10.ensures.items ∙ ap (λ (l : List ℕ). c.args.text.now.items ++ l) (sym (ap₂ (λ (w : Bool) (b : ℕ). settled (waiting w ++ b ∷ [])) is.is-0 is.is-1 ∙ one_feed))
+    c.push_reserved-in-true-eq10.ensures.items ∙ ap (λ (l : List ℕ). c.args.text.now.items ++ l)
+    (sym (ap₂ (λ (w : Bool) (b : ℕ). settled (waiting w ++ b ∷ [])) is.is-0 is.is-1 ∙ one_feed))
 
 pub returns-in-true-eq10-clause-waits : goal.returns-in-true-eq10-clause-waits
 returns-in-true-eq10-clause-waits c = feed_waits_not ∙ ap (λ (b : ℕ). ends_by_return (b ∷ [])) (sym c.in-true-eq10.is-1)
@@ -28,7 +30,8 @@ returns-in-true-default-clause-items c =
     c.push_reserved-in-true-default-2.ensures.items
     ∙ ap (λ (l : List ℕ). l ++ byte ∷ []) c.push_reserved-in-true-default.ensures.items
     ∙ append_assoc text (13 ∷ []) (byte ∷ [])
-    ∙ ap (λ (l : List ℕ). text ++ l) (sym (ap (λ (w : Bool). settled (waiting w ++ byte ∷ [])) is.is-0 ∙ both_other byte (ne_eqb byte 13 is.is-1.0.1) (ne_eqb byte 10 is.is-1.1)))
+    ∙ ap (λ (l : List ℕ). text ++ l) (sym (ap (λ (w : Bool). settled (waiting w ++ byte ∷ [])) is.is-0
+    ∙ both_other byte (ne_eqb byte 13 is.is-1.0.1) (ne_eqb byte 10 is.is-1.1)))
 
 pub returns-in-true-default-clause-waits : goal.returns-in-true-default-clause-waits
 returns-in-true-default-clause-waits c = other_waits_not c.args.byte (ne_eqb c.args.byte 13 c.in-true-default.is-1.0.1)
@@ -51,7 +54,8 @@ pub returns-in-false-default-clause-items : goal.returns-in-false-default-clause
 returns-in-false-default-clause-items c =
     let byte = c.args.byte in
     let is = c.in-false-default in
-    c.push_reserved-in-false-default.ensures.items ∙ ap (λ (l : List ℕ). c.args.text.now.items ++ l) (sym (ap (λ (w : Bool). settled (waiting w ++ byte ∷ [])) is.is-0 ∙ one_other byte (ne_eqb byte 13 is.is-1.1)))
+    c.push_reserved-in-false-default.ensures.items ∙ ap (λ (l : List ℕ). c.args.text.now.items ++ l)
+    (sym (ap (λ (w : Bool). settled (waiting w ++ byte ∷ [])) is.is-0 ∙ one_other byte (ne_eqb byte 13 is.is-1.1)))
 
 pub returns-in-false-default-clause-waits : goal.returns-in-false-default-clause-waits
 returns-in-false-default-clause-waits c = other_waits_not c.args.byte (ne_eqb c.args.byte 13 c.in-false-default.is-1.1)

@@ -11,7 +11,10 @@ loop-write-preserved g c =
     let i = c.loop-write.invariant in
     let b = c.in-Ok.ensures.bound in (
       omega (arith, b, length-drop c.loop-write.at c.args.bytes.now),
-      rw (take-add c.loop-write.at c.in-Ok.n c.args.bytes.now) (appends_more _ _ _ _ _ i.1 (let all : take (length c.args.bytes.now - c.loop-write.at) (drop c.loop-write.at c.args.bytes.now) ≡ drop c.loop-write.at c.args.bytes.now = take_all _ _ (omega (arith, length-drop c.loop-write.at c.args.bytes.now)) in rw all at c.in-Ok.ensures.bytes)),
+      rw (take-add c.loop-write.at c.in-Ok.n c.args.bytes.now) (appends_more _ _ _ _ _ i.1
+          (let all : take (length c.args.bytes.now - c.loop-write.at) (drop c.loop-write.at c.args.bytes.now)
+          ≡ drop c.loop-write.at c.args.bytes.now = take_all _ _ (omega (arith, length-drop c.loop-write.at c.args.bytes.now))
+          in rw all at c.in-Ok.ensures.bytes)),
       made_more (CountsWrite _ (Ok c.in-Ok.n)) c.loop-write._write _ _ _ (write_stays _ c.in-Ok.n c.in-Ok.n-test.1) i.2 c.in-Ok.ensures.tells,
     )
 
@@ -25,15 +28,19 @@ returns-then-at-bytes-clause-tells g c = accounts_made max_writes c.loop-write._
 
 pub returns-in-Ok-eq0-clause-writes : goal.returns-in-Ok-eq0-clause-writes
 returns-in-Ok-eq0-clause-writes g c =
-    stops_now _ (g.W.Drain.contents c.loop-write.writer) _ c.loop-write.at c.in-Ok-eq0.field-0 c.args.bytes.now _ c.in-Ok-eq0.field-0-test c.loop-write.invariant.1 (ok_writes _ _ c.write_some.result c.in-Ok-eq0.field-0 _ c.in-Ok-eq0.is c.write_some.ensures.bytes)
+    stops_now _ (g.W.Drain.contents c.loop-write.writer) _ c.loop-write.at c.in-Ok-eq0.field-0 c.args.bytes.now _ c.in-Ok-eq0.field-0-test
+    c.loop-write.invariant.1 (ok_writes _ _ c.write_some.result c.in-Ok-eq0.field-0 _ c.in-Ok-eq0.is c.write_some.ensures.bytes)
 
 pub returns-in-Err-2-clause-writes : goal.returns-in-Err-2-clause-writes
 returns-in-Err-2-clause-writes g c =
-    stops_at _ _ c.loop-write.at c.args.bytes.now (appends_kept _ (g.W.Drain.contents c.loop-write.writer) _ (take c.loop-write.at c.args.bytes.now) c.loop-write.invariant.1 c.in-Err-2.ensures.bytes)
+    stops_at _ _ c.loop-write.at c.args.bytes.now (appends_kept _ (g.W.Drain.contents c.loop-write.writer) _
+    (take c.loop-write.at c.args.bytes.now) c.loop-write.invariant.1 c.in-Err-2.ensures.bytes)
 
 pub returns-in-Err-2-clause-tells : goal.returns-in-Err-2-clause-tells
 returns-in-Err-2-clause-tells g c =
-    accounts_failed (CountsWrite c.args.bytes.now (Err c.in-Err.error)) max_writes c.loop-write._write _ _ _ _ (write_fails c.args.bytes.now c.in-Err.error (c.is_interrupted.ensures.failed c.if-is_interrupted.false)) c.loop-write.invariant.2 c.in-Err.ensures.tells
+    accounts_failed (CountsWrite c.args.bytes.now (Err c.in-Err.error)) max_writes c.loop-write._write _ _ _ _
+    (write_fails c.args.bytes.now c.in-Err.error (c.is_interrupted.ensures.failed c.if-is_interrupted.false)) c.loop-write.invariant.2
+    c.in-Err.ensures.tells
 
 pub returns-clause-writes : goal.returns-clause-writes
 returns-clause-writes g c = writes_so_many _ _ _ c.loop-write.at c.args.bytes.now refl c.loop-write.invariant.1

@@ -6,4 +6,5 @@ use Rattle.tn_services.proofs.writing.write_whole.Given as goal
 abbrev pub invariant-loop-write : goal.invariant-loop-write
 invariant-loop-write g l =
     let contents = g.W.Drain.contents in
-    (l.at ≤ length l.bytes) × Appends (contents l.fn.writer) (contents l.writer) (take l.at l.bytes) × HasMade l._write (g.W.Drain.told l.fn.writer) (g.W.Drain.told l.writer)
+    (l.at ≤ length l.bytes) × Appends (contents l.fn.writer) (contents l.writer) (take l.at l.bytes)
+    × HasMade l._write (g.W.Drain.told l.fn.writer) (g.W.Drain.told l.writer)

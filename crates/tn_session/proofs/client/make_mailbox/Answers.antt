@@ -16,7 +16,9 @@ another-keys-requires-clause-rule c = cut Keys c.another-net.new.pass.id (view c
 pub returns : goal.returns
 returns c =
     let b = c.in_ok-to.ensures in
-    let v = ready_two (view c.in_ok-to.pass) (view c.another-net.new.pass) (view c.another-keys.new.pass) (view c.another-net.result) (view c.another-keys.result) b.3 c.another-net.ensures.rule.0 c.another-net.ensures.rule.1 c.another-keys.ensures.rule.0 c.another-keys.ensures.rule.1 in
+    let v = ready_two (view c.in_ok-to.pass) (view c.another-net.new.pass) (view c.another-keys.new.pass) (view c.another-net.result)
+    (view c.another-keys.result) b.3 c.another-net.ensures.rule.0 c.another-net.ensures.rule.1 c.another-keys.ensures.rule.0 c.another-keys.ensures.rule.1
+    in
     record {
       one_mailbox = b.0;
       mails = b.1;

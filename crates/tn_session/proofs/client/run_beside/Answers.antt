@@ -24,8 +24,12 @@ returns-clause-ran g c =
     let writer = known_writing g.W.Drain.contents g.W.Drain.told c.args.writer.now c.run_core.new.writer in
     let screen = known_writing g.S.Drain.contents g.S.Drain.told c.args.screen.now c.run_core.new.screen in
     let same = ap (λ p. view p) c.settle-ports.ensures.told ∙ c.settle-told.ensures.same in
-    client_ran c.args.core.now c.run_core.new.core (has_stopped returned.keys.stops) keys_reader net_reader writer screen (view c.args.pass) (view ended.pass) (view returned.net) (view returned.keys.pass) (client_result c.report.result ports)
-    c.requires.mailbox.2 (subst (λ n. CoreHandles c.args.core.now (view c.args.pass) (view ended.pass) writer screen n (view ports.told) c.run_core.new.core) (sym (ap noted_of c.settle-ports.ensures.transcript)) (subst (λ v. CoreHandles c.args.core.now (view c.args.pass) (view ended.pass) writer screen (noted_of ended.transcript) v c.run_core.new.core) (sym same) ended.ensures.acted))
+    client_ran c.args.core.now c.run_core.new.core (has_stopped returned.keys.stops) keys_reader net_reader writer screen (view c.args.pass) (view ended.pass)
+    (view returned.net) (view returned.keys.pass) (client_result c.report.result ports)
+    c.requires.mailbox.2 (subst (λ n. CoreHandles c.args.core.now (view c.args.pass) (view ended.pass) writer screen n (view ports.told) c.run_core.new.core)
+    (sym (ap noted_of c.settle-ports.ensures.transcript)) (subst
+    (λ v. CoreHandles c.args.core.now (view c.args.pass) (view ended.pass) writer screen (noted_of ended.transcript) v c.run_core.new.core)
+    (sym same) ended.ensures.acted))
     (subst (λ s. TypingSends s false net_typing (view returned.net)) c.requires.net.1 (join.ensures.net.1 c.requires.net.2)).0
     (subst (λ s. TypingSends s (has_stopped returned.keys.stops) keys_reader (view returned.keys.pass)) c.requires.keys.1 join.ensures.keys.1)
     (λ on none. c.settle-told.ensures.told on (sym same ∙ none))
@@ -37,5 +41,6 @@ settle-told-requires g c =
     record {
       teller = ended.1;
       told = told_words c.in-Some.ensures.acted.told (view c.run_core.new.watched.stops.pass) c.in-Some.ensures.acted.word;
-      seat = seat_at c.args.started.keys.promise.stops.value c.in-Some-join.returned.keys.stops c.args.watched.stops c.run_core.new.watched.stops c.in-Some-join.ensures.stays c.requires.stops ended.0;
+      seat = seat_at c.args.started.keys.promise.stops.value c.in-Some-join.returned.keys.stops c.args.watched.stops c.run_core.new.watched.stops
+          c.in-Some-join.ensures.stays c.requires.stops ended.0;
     }

@@ -21,6 +21,7 @@ another-keys-requires-clause-rule c = cut Keys c.another-net.new.pass.id (view c
 
 pub returns-clause-settled : goal.returns-clause-settled
 returns-clause-settled c =
-    settles_two (view c.args.pass) (view c.args.net) (view c.args.keys) (view c.absorb.new.pass) (view c.absorb-2.new.pass) (view c.learn_as.new.pass) (view c.another-net.result) (view c.another-net.new.pass) (view c.another-keys.result) (view c.another-keys.new.pass)
+    settles_two (view c.args.pass) (view c.args.net) (view c.args.keys) (view c.absorb.new.pass) (view c.absorb-2.new.pass) (view c.learn_as.new.pass)
+    (view c.another-net.result) (view c.another-net.new.pass) (view c.another-keys.result) (view c.another-keys.new.pass)
     c.absorb.ensures.rule c.absorb-2.ensures.rule c.learn_as.ensures.channel.2 c.learn_as.ensures.rule
     c.another-net.ensures.rule.1 c.another-net.ensures.rule.0 c.another-keys.ensures.rule.1 c.another-keys.ensures.rule.0

@@ -22,7 +22,8 @@ take-requires-clause-role g c = (c.loop.invariant.1.0, ap (λ v. v.handled) c.lo
 
 pub loop-init : goal.loop-init
 loop-init g c =
-    let first = told_first c.args.core.now (known_writer g.W.Drain.contents g.W.Drain.told c.args.writer.now) (known_writer g.S.Drain.contents g.S.Drain.told c.args.screen.now) in (
+    let first = told_first c.args.core.now (known_writer g.W.Drain.contents g.W.Drain.told c.args.writer.now)
+    (known_writer g.S.Drain.contents g.S.Drain.told c.args.screen.now) in (
       c.requires.mailbox.0,
       (
         [],
@@ -30,7 +31,8 @@ loop-init g c =
         refl,
         first.0,
         refl,
-        λ run at. stands_first Keys all_told (Runs run) (λ r. core_stops r.progress) _ c.in_ok-told.told (core_stops c.args.core.now.progress) (c.in_ok-told.ensures.told ∙ c.stops.ensures ∙ ap core_stops c.progress.ensures),
+        λ run at. stands_first Keys all_told (Runs run) (λ r. core_stops r.progress) _ c.in_ok-told.told (core_stops c.args.core.now.progress)
+            (c.in_ok-told.ensures.told ∙ c.stops.ensures ∙ ap core_stops c.progress.ensures),
         subst (λ (n : Noted). NotesAll [] (map (λ s. s.1) first.0.steps) no_notes n) (sym c.new-output.ensures.transcript) first.1,
       ),
       c.new-output.ensures.out,
@@ -48,11 +50,15 @@ loop-preserved g c =
     let x = c.in_ok-mail.mail in
     let small = left_small x.message in
     let more = c.if-lefts-ge-SENDERS.false in
-    let T : Told → Type 0 = λ m. TurnsTold c.loop.core m (known_writing g.W.Drain.contents g.W.Drain.told c.loop.writer c.turn.new.writer) (known_writing g.S.Drain.contents g.S.Drain.told c.loop.screen c.turn.new.screen) (noted_of c.take.new.self) (noted_of c.turn.new.output.transcript) c.turn.new.core in
+    let T : Told → Type 0 = λ m. TurnsTold c.loop.core m (known_writing g.W.Drain.contents g.W.Drain.told c.loop.writer c.turn.new.writer)
+    (known_writing g.S.Drain.contents g.S.Drain.told c.loop.screen c.turn.new.screen) (noted_of c.take.new.self)
+    (noted_of c.turn.new.output.transcript) c.turn.new.core in
     let writer = known_writer g.W.Drain.contents g.W.Drain.told in
     let screen = known_writer g.S.Drain.contents g.S.Drain.told in
     let turned = subst T c.told_of.ensures c.turn.ensures.turned in
-    let told = told_next c.args.core.now c.loop.core c.turn.new.core i.0 x (writer c.args.writer.now) (writer c.loop.writer) (writer c.turn.new.writer) (writer c.finish_once-closed.new.writer) (screen c.args.screen.now) (screen c.loop.screen) (screen c.turn.new.screen) (noted_of c.take.new.self) (noted_of c.turn.new.output.transcript) c.finish_once-closed.ensures.contents c.finish_once-closed.ensures.told i.3 turned in
+    let told = told_next c.args.core.now c.loop.core c.turn.new.core i.0 x (writer c.args.writer.now) (writer c.loop.writer) (writer c.turn.new.writer)
+    (writer c.finish_once-closed.new.writer) (screen c.args.screen.now) (screen c.loop.screen) (screen c.turn.new.screen) (noted_of c.take.new.self)
+    (noted_of c.turn.new.output.transcript) c.finish_once-closed.ensures.contents c.finish_once-closed.ensures.told i.3 turned in
     let left = left_next Keys i.0 x c.loop.keys_left c.has_left-keys_left.result i.4 c.has_left-keys_left.ensures in (
       c.take.ensures.seat,
       (
@@ -61,13 +67,19 @@ loop-preserved g c =
         omega (arith, lefts_of-push i.0 x, c.leaves-left.ensures, i.2),
         told.0,
         left,
-        core_told c.args.core.now c.loop.core c.turn.new.core i.0 x _ _ _ _ _ _ _ _ c.loop.told c.is_due.result c.in_ok-told-2.told c.has_left-keys_left.result i.3 turned told.0 told.1.0 left (c.is_due.ensures ∙ ap (λ (p : Progress). core_stops p && not c.has_left-keys_left.result) c.progress-in-loop-2.ensures) c.in_ok-told-2.ensures.told i.5,
-        notes_next i.0 x i.3.steps told.0.steps (told_of x, turned.mark) turned.bytes no_notes (noted_of c.loop.output.transcript) (noted_of c.take.new.self) (noted_of c.turn.new.output.transcript) i.6 told.1.1 c.in_ok-mail.ensures.noted turned.noted,
+        core_told c.args.core.now c.loop.core c.turn.new.core i.0 x _ _ _ _ _ _ _ _ c.loop.told c.is_due.result c.in_ok-told-2.told c.has_left-keys_left.result
+            i.3 turned told.0 told.1.0 left (c.is_due.ensures ∙ ap
+            (λ (p : Progress). core_stops p && not c.has_left-keys_left.result) c.progress-in-loop-2.ensures) c.in_ok-told-2.ensures.told i.5,
+        notes_next i.0 x i.3.steps told.0.steps (told_of x, turned.mark) turned.bytes no_notes (noted_of c.loop.output.transcript) (noted_of c.take.new.self)
+            (noted_of c.turn.new.output.transcript) i.6 told.1.1 c.in_ok-mail.ensures.noted turned.noted,
       ),
       c.turn.ensures.out,
       c.turn.ensures.text,
       omega (arith, small, more, c.leaves-left.ensures),
-      stands_next c.closes.result c.loop.closed c.finish_once-closed.result (c.loop.core.progress.over || c.loop.core.progress.closed) (c.turn.new.core.progress.over || c.turn.new.core.progress.closed) _ _ _ _ c.loop.invariant.5 c.turn.ensures.going c.turn.ensures.silent (stays_done c.loop.core.progress.over c.loop.core.progress.closed _ _ c.turn.ensures.turned.turn.stays c.turn.ensures.closed) (c.closes.ensures ∙ ap (λ (p : Progress). p.over || p.closed) c.progress-in-loop.ensures) c.finish_once-closed.ensures.closes,
+      stands_next c.closes.result c.loop.closed c.finish_once-closed.result (c.loop.core.progress.over || c.loop.core.progress.closed)
+          (c.turn.new.core.progress.over || c.turn.new.core.progress.closed) _ _ _ _ c.loop.invariant.5 c.turn.ensures.going c.turn.ensures.silent
+          (stays_done c.loop.core.progress.over c.loop.core.progress.closed _ _ c.turn.ensures.turned.turn.stays c.turn.ensures.closed)
+          (c.closes.ensures ∙ ap (λ (p : Progress). p.over || p.closed) c.progress-in-loop.ensures) c.finish_once-closed.ensures.closes,
       c.tell-in-loop.ensures.seat,
       c.tell-in-loop.ensures.to ∙ c.loop.invariant.7,
       c.in_ok-told-2.ensures.word,
@@ -79,7 +91,8 @@ returns-then-lefts-ge-SENDERS-clause-acted g c =
     let enough = c.if-lefts-ge-SENDERS.true in
     let writer = known_writer g.W.Drain.contents g.W.Drain.told in
     let screen = known_writer g.S.Drain.contents g.S.Drain.told in
-    let kept = told_kept c.args.core.now c.loop.core _ (writer c.args.writer.now) (writer c.loop.writer) (writer c.finish_unless.new.writer) (screen c.args.screen.now) (screen c.loop.screen) c.finish_unless.ensures.contents c.finish_unless.ensures.told i.3 in
+    let kept = told_kept c.args.core.now c.loop.core _ (writer c.args.writer.now) (writer c.loop.writer) (writer c.finish_unless.new.writer)
+    (screen c.args.screen.now) (screen c.loop.screen) c.finish_unless.ensures.contents c.finish_unless.ensures.told i.3 in
     record {
       handled = i.0;
       view = i.1;
@@ -88,11 +101,13 @@ returns-then-lefts-ge-SENDERS-clause-acted g c =
       noted = notes_kept i.0 i.3.steps kept.0.steps _ _ kept.2 i.6;
       told = c.loop.told;
       word = c.loop.invariant.8;
-      stands = λ run at. subst (λ (ms : List (Told × Mark)). StandsTold Keys all_told (Runs run) (λ r. core_stops r.progress) i.0 ms (core_stops c.loop.core.progress) c.loop.told) (sym kept.1) (i.5 run at);
+      stands = λ run at. subst (λ (ms : List (Told × Mark)). StandsTold Keys all_told (Runs run) (λ r. core_stops r.progress) i.0 ms
+          (core_stops c.loop.core.progress) c.loop.told) (sym kept.1) (i.5 run at);
     }
 
 pub returns-then-lefts-ge-SENDERS-clause-finished : goal.returns-then-lefts-ge-SENDERS-clause-finished
-returns-then-lefts-ge-SENDERS-clause-finished g c = stands_last c.loop.closed (c.loop.core.progress.over || c.loop.core.progress.closed) _ _ _ c.loop.invariant.5 c.finish_unless.ensures.closes
+returns-then-lefts-ge-SENDERS-clause-finished g c = stands_last c.loop.closed
+    (c.loop.core.progress.over || c.loop.core.progress.closed) _ _ _ c.loop.invariant.5 c.finish_unless.ensures.closes
 
 pub returns-then-lefts-ge-SENDERS-clause-stops : goal.returns-then-lefts-ge-SENDERS-clause-stops
 returns-then-lefts-ge-SENDERS-clause-stops g c = (c.loop.invariant.7, c.loop.invariant.6)

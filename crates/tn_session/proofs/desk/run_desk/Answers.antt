@@ -12,19 +12,40 @@ say-requires-in_default-clause-role g c = role Desk _ _ (said Desk _ _ _ _ c.loo
 
 pub returns-in_default-clause-talk : goal.returns-in_default-clause-talk
 returns-in_default-clause-talk g c =
-    let i = c.loop.invariant.2 in
-    (i.0, c.args.job, c.loop.job, refl, i.1, inl (said_two Desk _ _ _ _ _ _ i.2 c.in_ok-pass.ensures.said c.in_ok-pass-2.ensures.said, c.in_ok-after_take.ensures.took _ i.3 ∙ ap (λ (o : Option Entry). taker (entries_of i.0 ++ o ∷ [])) c.in_default.is))
+    let i = c.loop.invariant.2 in (
+      i.0,
+      c.args.job,
+      c.loop.job,
+      refl,
+      i.1,
+      inl (
+        said_two Desk _ _ _ _ _ _ i.2 c.in_ok-pass.ensures.said c.in_ok-pass-2.ensures.said,
+        c.in_ok-after_take.ensures.took _ i.3 ∙ ap (λ (o : Option Entry). taker (entries_of i.0 ++ o ∷ [])) c.in_default.is,
+      ),
+    )
 
 pub say-requires-in_default-entry-clause-role : goal.say-requires-in_default-entry-clause-role
 say-requires-in_default-entry-clause-role g c = role Desk _ _ (said Desk _ _ _ _ c.loop.invariant.2.2 c.in_ok-pass.ensures.said)
 
 pub say-requires-in_default-entry-2-clause-role : goal.say-requires-in_default-entry-2-clause-role
-say-requires-in_default-entry-2-clause-role g c = role Desk _ _ (said_two Desk _ _ _ _ _ _ c.loop.invariant.2.2 c.in_ok-pass.ensures.said c.in_ok-pass-3.ensures.said)
+say-requires-in_default-entry-2-clause-role g c = role Desk _ _ (said_two Desk _ _ _ _ _ _ c.loop.invariant.2.2 c.in_ok-pass.ensures.said
+    c.in_ok-pass-3.ensures.said)
 
 pub returns-in_default-entry-clause-talk : goal.returns-in_default-entry-clause-talk
 returns-in_default-entry-clause-talk g c =
-    let i = c.loop.invariant.2 in
-    (i.0, c.args.job, c.loop.job, refl, i.1, inr (inr (c.in-Some-entry.entry, said_three Desk _ _ _ _ _ _ _ _ i.2 c.in_ok-pass.ensures.said c.in_ok-pass-3.ensures.said c.in_ok-pass-4.ensures.said, c.in_ok-after_take.ensures.took _ i.3 ∙ ap (λ (o : Option Entry). taker (entries_of i.0 ++ o ∷ [])) c.in-Some-entry.is, c.in_default-entry.ensures.refused)))
+    let i = c.loop.invariant.2 in (
+      i.0,
+      c.args.job,
+      c.loop.job,
+      refl,
+      i.1,
+      inr (inr (
+        c.in-Some-entry.entry,
+        said_three Desk _ _ _ _ _ _ _ _ i.2 c.in_ok-pass.ensures.said c.in_ok-pass-3.ensures.said c.in_ok-pass-4.ensures.said,
+        c.in_ok-after_take.ensures.took _ i.3 ∙ ap (λ (o : Option Entry). taker (entries_of i.0 ++ o ∷ [])) c.in-Some-entry.is,
+        c.in_default-entry.ensures.refused,
+      )),
+    )
 
 pub say-requires-in-loop-clause-role : goal.say-requires-in-loop-clause-role
 say-requires-in-loop-clause-role g c = role Desk _ _ (said Desk _ _ _ _ c.loop.invariant.2.2 c.in_ok-pass.ensures.said)
@@ -40,7 +61,8 @@ loop-preserved g c =
         i.0 ++ (e, r) ∷ [],
         answers-push g.J.Job.reacts c.args.job i.0 c.loop.job c.entry.new.self e r i.1 c.in-Ok.ensures.answers,
         said_two Desk _ _ _ _ _ _ i.2 c.in_ok-pass.ensures.said c.in_ok-pass-5.ensures.said ∙ ap desk_sends (sym (turns_said-push c.args.id i.0 e r)),
-        c.in_ok-after_take.ensures.took _ i.3 ∙ ap (λ (o : Option Entry). taker (entries_of i.0 ++ o ∷ [])) c.in-Some-entry.is ∙ ap taker (sym (entries_of-push i.0 e r)),
+        c.in_ok-after_take.ensures.took _ i.3 ∙ ap (λ (o : Option Entry). taker (entries_of i.0 ++ o ∷ [])) c.in-Some-entry.is
+            ∙ ap taker (sym (entries_of-push i.0 e r)),
       ),
     )
 
@@ -58,8 +80,10 @@ returns-in-Done-clause-talk g c =
       refl,
       answers-push g.J.Job.reacts c.args.job i.0 c.loop.job c.entry.new.self e r i.1 c.in-Ok.ensures.answers,
       inr (inl (
-        said Desk _ _ _ _ (said_two Desk _ _ _ _ _ _ i.2 c.in_ok-pass.ensures.said c.in_ok-pass-5.ensures.said ∙ ap desk_sends (sym (turns_said-push c.args.id i.0 e r))) c.in_ok-pass-in-Done.ensures.said,
-        c.in_ok-after_take.ensures.took _ i.3 ∙ ap (λ (o : Option Entry). taker (entries_of i.0 ++ o ∷ [])) c.in-Some-entry.is ∙ ap taker (sym (entries_of-push i.0 e r)),
+        said Desk _ _ _ _ (said_two Desk _ _ _ _ _ _ i.2 c.in_ok-pass.ensures.said c.in_ok-pass-5.ensures.said
+            ∙ ap desk_sends (sym (turns_said-push c.args.id i.0 e r))) c.in_ok-pass-in-Done.ensures.said,
+        c.in_ok-after_take.ensures.took _ i.3 ∙ ap (λ (o : Option Entry). taker (entries_of i.0 ++ o ∷ [])) c.in-Some-entry.is
+            ∙ ap taker (sym (entries_of-push i.0 e r)),
         ends_done-push i.0 e r c.in-Done.is,
       )),
     )

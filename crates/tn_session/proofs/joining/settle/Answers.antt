@@ -37,9 +37,13 @@ another-took-requires-clause-rule c = channel.cut_taker c.learn_as-2.new.pass.id
 
 pub returns-clause-settled : goal.returns-clause-settled
 returns-clause-settled c =
-    settles (view c.args.passes.mails) (view c.args.returned.net) (view c.args.returned.desk) (view c.args.returned.back.pass) (view c.args.passes.hand) (view c.args.returned.took)
-    (view c.absorb.new.pass) (view c.absorb-2.new.pass) (view c.absorb-3.new.pass) (view c.learn_as.new.pass) (view c.another-net.result) (view c.another-net.new.pass) (view c.another-desk.result) (view c.another-desk.new.pass) (view c.another-back.result) (view c.another-back.new.pass)
-    (view c.absorb-4.new.pass) (view c.learn_as-2.new.pass) (view c.another-took.new.pass) (view c.another-took.result) (view c.args.teller.pass) (view c.settle-told.result)
+    settles (view c.args.passes.mails) (view c.args.returned.net) (view c.args.returned.desk) (view c.args.returned.back.pass) (view c.args.passes.hand)
+    (view c.args.returned.took)
+    (view c.absorb.new.pass) (view c.absorb-2.new.pass) (view c.absorb-3.new.pass) (view c.learn_as.new.pass) (view c.another-net.result)
+    (view c.another-net.new.pass) (view c.another-desk.result) (view c.another-desk.new.pass) (view c.another-back.result) (view c.another-back.new.pass)
+    (view c.absorb-4.new.pass) (view c.learn_as-2.new.pass) (view c.another-took.new.pass) (view c.another-took.result) (view c.args.teller.pass)
+    (view c.settle-told.result)
     c.absorb.ensures.rule c.absorb-2.ensures.rule c.absorb-3.ensures.rule c.learn_as.ensures.channel.2 c.learn_as.ensures.rule
     c.absorb-4.ensures.rule c.learn_as-2.ensures.channel.2 c.learn_as-2.ensures.rule
-    c.another-net.ensures.rule.1 c.another-net.ensures.rule.0 c.another-desk.ensures.rule.1 c.another-desk.ensures.rule.0 c.another-back.ensures.rule.1 c.another-back.ensures.rule.0 c.another-took.ensures.rule.0 c.another-took.ensures.rule.1 c.settle-told.ensures.same
+    c.another-net.ensures.rule.1 c.another-net.ensures.rule.0 c.another-desk.ensures.rule.1 c.another-desk.ensures.rule.0 c.another-back.ensures.rule.1
+    c.another-back.ensures.rule.0 c.another-took.ensures.rule.0 c.another-took.ensures.rule.1 c.settle-told.ensures.same

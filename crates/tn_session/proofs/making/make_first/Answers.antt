@@ -10,4 +10,6 @@ returns-clause-made g c =
     let first = c.in-Ok.first.0 in
     let is = c.in-Ok-foreground.ensures.ok in
     let here = ap (λ (j : Jobs). state_at j first) is ∙ c.one_job_changes.ensures.changed c.add.new.self first Background (Some Foreground) a.added in
-    made_first g.J.Job.fresh _ c.new.ensures.items (first_alone c.new-table.result c.add.new.self c.foreground.new.self c.in-Ok.first c.new-table.ensures a (λ id. refl) here (λ id other. ap (λ (j : Jobs). state_at j id) is ∙ c.one_job_changes.ensures.others c.add.new.self first id (Some Foreground) other)) c.requires
+    made_first g.J.Job.fresh _ c.new.ensures.items (first_alone c.new-table.result c.add.new.self c.foreground.new.self c.in-Ok.first c.new-table.ensures a
+    (λ id. refl) here (λ id other. ap (λ (j : Jobs). state_at j id) is ∙ c.one_job_changes.ensures.others c.add.new.self first id (Some Foreground) other))
+    c.requires

@@ -4,7 +4,13 @@ use Rattle.tn_session.specs.Turning.{ids_of}
 use Rattle.tn_session.proofs.making.make_jobs.Goals as goal
 
 pub loop-other-init : goal.loop-other-init
-loop-other-init g c = (c.in_ok-made.ensures.made, one_came _ _ _ _ _ _ c.in-Ok-Some.field-0-is c.in-Ok-Some.ensures.makes, ap (λ l. length (ids_of l)) c.in_ok-made.ensures.alone, gave_first _ _ _ _ _ _ (came _ _ _ c.in-Ok-Some.field-0-is c.in-Ok-Some.ensures.gives) c.in_ok-made.ensures.first c.in_ok-made.ensures.alone)
+loop-other-init g c = (
+  c.in_ok-made.ensures.made,
+  one_came _ _ _ _ _ _ c.in-Ok-Some.field-0-is c.in-Ok-Some.ensures.makes,
+  ap (λ l. length (ids_of l)) c.in_ok-made.ensures.alone,
+  gave_first _ _ _ _ _ _
+      (came _ _ _ c.in-Ok-Some.field-0-is c.in-Ok-Some.ensures.gives) c.in_ok-made.ensures.first c.in_ok-made.ensures.alone,
+)
 
 pub loop-other-preserved : goal.loop-other-preserved
 loop-other-preserved g c =

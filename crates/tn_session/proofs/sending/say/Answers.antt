@@ -4,5 +4,8 @@ use Rattle.tn_session.proofs.Mailbox.{sends, sender_share}
 use Rattle.tn_session.proofs.sending.say.Goals as goal
 
 pub send_as-requires-clause-rule : goal.send_as-requires-clause-rule
-send_as-requires-clause-rule g c =
-    (sends _ c.args.pass.id (view c.args.pass) (mail_of c.args.who c.args.message) c.requires.role.0 (sender_share c.args.who c.requires.role.0 (view c.args.pass) c.requires.role.1), λ items views kept at. tt)
+send_as-requires-clause-rule g c = (
+  sends _ c.args.pass.id (view c.args.pass) (mail_of c.args.who c.args.message) c.requires.role.0
+      (sender_share c.args.who c.requires.role.0 (view c.args.pass) c.requires.role.1),
+  λ items views kept at. tt,
+)

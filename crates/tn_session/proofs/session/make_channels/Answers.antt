@@ -34,8 +34,12 @@ pub returns : goal.returns
 returns c =
     let b = c.in_ok-to.ensures in
     let q = c.in_ok-put.ensures in
-    let v = ready_views (view c.in_ok-to.mails) (view c.another-net.new.pass) (view c.another-desk.new.pass) (view c.another-back.new.pass) (view c.another-net.result) (view c.another-desk.result) (view c.another-back.result) b.3 c.another-net.ensures.rule.0 c.another-net.ensures.rule.1 c.another-desk.ensures.rule.0 c.another-desk.ensures.rule.1 c.another-back.ensures.rule.0 c.another-back.ensures.rule.1 in
-    let h = ready_hands (view c.in_ok-put.hand) (view c.another-took.new.pass) (view c.another-took.result) q.3 c.another-took.ensures.rule.0 c.another-took.ensures.rule.1 in
+    let v = ready_views (view c.in_ok-to.mails) (view c.another-net.new.pass) (view c.another-desk.new.pass) (view c.another-back.new.pass)
+    (view c.another-net.result) (view c.another-desk.result)
+    (view c.another-back.result) b.3 c.another-net.ensures.rule.0 c.another-net.ensures.rule.1 c.another-desk.ensures.rule.0 c.another-desk.ensures.rule.1
+    c.another-back.ensures.rule.0 c.another-back.ensures.rule.1 in
+    let h = ready_hands (view c.in_ok-put.hand) (view c.another-took.new.pass)
+    (view c.another-took.result) q.3 c.another-took.ensures.rule.0 c.another-took.ensures.rule.1 in
     record {
       one_mailbox = b.0;
       mails = b.1;

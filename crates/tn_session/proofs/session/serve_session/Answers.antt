@@ -26,15 +26,18 @@ returns-clause-ran g c = IfOk-weaker c.run_begun.result _ _ (λ r ran.
     let s = whole.0 in
     let noted = whole.2 in
     let report = r.0 in
-    let front = taken_are_front s.taken s.took_first.0 s.run.puts s.run.history s.took_first.1 (puts_are_front s.wrote_opening canon c.args.editing jobs s.marked s.run s.runs) in
+    let front = taken_are_front s.taken s.took_first.0 s.run.puts s.run.history s.took_first.1
+    (puts_are_front s.wrote_opening canon c.args.editing jobs s.marked s.run s.runs) in
     let hears = c.pieces_are_heard.ensures s.wrote_opening canon c.args.editing jobs s.marked s.run s.runs in
-    let hung = λ (e : report.ended ≡ HangUp). c.all_goes_before_a_hang_up.ensures s.wrote_opening canon c.args.editing jobs posts.first.0 s.marked s.run s.runs (sym (ap (λ (r : Report). r.ended) s.report_is) ∙ e) is.numbered.foreground (may_come s) in
+    let hung = λ (e : report.ended ≡ HangUp). c.all_goes_before_a_hang_up.ensures s.wrote_opening canon c.args.editing jobs posts.first.0 s.marked s.run s.runs
+    (sym (ap (λ (r : Report). r.ended) s.report_is) ∙ e) is.numbered.foreground (may_come s) in
     let heard = heard_of_reader s hears hung in
     let all = λ (e : report.ended ≡ HangUp). took_all s (hung e) in
     let begin = run_after_opening s.wrote_opening (start canon c.args.editing jobs) in
     let said = server_said begin s.marked s.run s.written whole.1 noted.transcribed in
     let reads = server_reads begin s.marked s.run s.written said in
-    let caused = λ (f : SessionFault) (e : report.ended ≡ Fault f). c.faults_have_causes.ensures s.wrote_opening canon c.args.editing jobs s.marked s.run f s.runs (sym (ap (λ (r : Report). r.ended) s.report_is) ∙ e) in
+    let caused = λ (f : SessionFault) (e : report.ended ≡ Fault f).
+    c.faults_have_causes.ensures s.wrote_opening canon c.args.editing jobs s.marked s.run f s.runs (sym (ap (λ (r : Report). r.ended) s.report_is) ∙ e) in
     record {
       jobs = jobs;
       first = posts.first;
@@ -68,4 +71,5 @@ pub returns-clause-none : goal.returns-clause-none
 returns-clause-none g c = λ none. absurd (no_first _ none (some_are _ _ c.in_ok-begun.ensures.all))
 
 pub returns-clause-in_reach : goal.returns-clause-in_reach
-returns-clause-in_reach g c = IfOk-weaker c.run_begun.result _ _ (λ r reach e. never_begun (reach _ c.in_ok-begun.ensures.begun.at e)) c.run_begun.ensures.in_reach
+returns-clause-in_reach g c = IfOk-weaker c.run_begun.result _ _
+    (λ r reach e. never_begun (reach _ c.in_ok-begun.ensures.begun.at e)) c.run_begun.ensures.in_reach

@@ -28,7 +28,8 @@ invariant-loop g l =
     × (goes : GoesOn l.fn.term (messages_of handled) (known_writing g.W.Drain.contents g.W.Drain.told l.fn.writer l.writer) puts l.term)
     × (length (view l.step_credits.pass).given ≤ length (view l.fn.passes.step_credits.pass).given + steps_among handled)
     × (l.back_left ≡ has_left Back handled)
-    × ((c : Run) → LeadsTo c l.fn.term → StandsTold Back messages_of (Runs c) (λ r. term_stops r.progress) handled goes.marked (term_stops l.term.progress) l.told)
+    × ((c : Run) → LeadsTo c l.fn.term → StandsTold Back messages_of (Runs c) (λ r. term_stops r.progress) handled goes.marked
+    (term_stops l.term.progress) l.told)
     × NotesAll handled (map (λ s. s.1) goes.steps) (noted_of l.fn.output.transcript) (noted_of l.output.transcript))
     × (l.output.out.items ≡ []) × (l.lefts ≤ 3)
     × IsSeatAt (sends_on l.ends.give) l.give × StaysInReach l.fn.term l.term.progress.ended

@@ -7,6 +7,7 @@ use Rattle.tn_session.proofs.writing.write_front.Given as goal
 abbrev pub invariant-loop-write : goal.invariant-loop-write
 invariant-loop-write g l =
     let contents = g.W.Drain.contents in
-    (l.at ≤ length l.bytes) × Appends (contents l.fn.writer) (contents l.writer) (take l.at l.bytes) × HasMade l._write (g.W.Drain.told l.fn.writer) (g.W.Drain.told l.writer)
+    (l.at ≤ length l.bytes) × Appends (contents l.fn.writer) (contents l.writer) (take l.at l.bytes)
+    × HasMade l._write (g.W.Drain.told l.fn.writer) (g.W.Drain.told l.writer)
     × StaysOpen (g.W.Drain.sending l.fn.writer) (g.W.Drain.sending l.writer)
     × (l.bytes ≡ [] → g.W.Drain.sending l.writer ≡ g.W.Drain.sending l.fn.writer)

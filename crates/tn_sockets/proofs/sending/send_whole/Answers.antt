@@ -8,7 +8,10 @@ loop-write-preserved g c =
     let i = c.loop-write.invariant in
     let b = c.in-Ok.ensures.bound in (
       omega (arith, b, length-drop c.loop-write.at c.args.bytes.now),
-      rw (take-add c.loop-write.at c.in-Ok.n c.args.bytes.now) (appends_more _ _ _ _ _ i.1 (let all : take (length c.args.bytes.now - c.loop-write.at) (drop c.loop-write.at c.args.bytes.now) ≡ drop c.loop-write.at c.args.bytes.now = take_all _ _ (omega (arith, length-drop c.loop-write.at c.args.bytes.now)) in rw all at c.in-Ok.ensures.bytes)),
+      rw (take-add c.loop-write.at c.in-Ok.n c.args.bytes.now) (appends_more _ _ _ _ _ i.1
+          (let all : take (length c.args.bytes.now - c.loop-write.at) (drop c.loop-write.at c.args.bytes.now)
+          ≡ drop c.loop-write.at c.args.bytes.now = take_all _ _ (omega (arith, length-drop c.loop-write.at c.args.bytes.now))
+          in rw all at c.in-Ok.ensures.bytes)),
     )
 
 pub returns-then-at-bytes-clause-whole : goal.returns-then-at-bytes-clause-whole
@@ -18,11 +21,13 @@ returns-then-at-bytes-clause-whole g c =
 
 pub returns-in-Ok-eq0-clause-begun : goal.returns-in-Ok-eq0-clause-begun
 returns-in-Ok-eq0-clause-begun g c =
-    stops_now _ (g.W.Drain.contents c.loop-write.writer) _ c.loop-write.at c.in-Ok-eq0.field-0 c.args.bytes.now _ c.in-Ok-eq0.field-0-test c.loop-write.invariant.1 (ok_writes _ _ c.write_some.result c.in-Ok-eq0.field-0 _ c.in-Ok-eq0.is c.write_some.ensures.bytes)
+    stops_now _ (g.W.Drain.contents c.loop-write.writer) _ c.loop-write.at c.in-Ok-eq0.field-0 c.args.bytes.now _ c.in-Ok-eq0.field-0-test
+    c.loop-write.invariant.1 (ok_writes _ _ c.write_some.result c.in-Ok-eq0.field-0 _ c.in-Ok-eq0.is c.write_some.ensures.bytes)
 
 pub returns-in-Err-2-clause-begun : goal.returns-in-Err-2-clause-begun
 returns-in-Err-2-clause-begun g c =
-    stops_at _ _ c.loop-write.at c.args.bytes.now (appends_kept _ (g.W.Drain.contents c.loop-write.writer) _ (take c.loop-write.at c.args.bytes.now) c.loop-write.invariant.1 c.in-Err-2.ensures.bytes)
+    stops_at _ _ c.loop-write.at c.args.bytes.now (appends_kept _ (g.W.Drain.contents c.loop-write.writer) _
+    (take c.loop-write.at c.args.bytes.now) c.loop-write.invariant.1 c.in-Err-2.ensures.bytes)
 
 pub returns-clause-begun : goal.returns-clause-begun
 returns-clause-begun g c = stops_at _ _ c.loop-write.at c.args.bytes.now c.loop-write.invariant.1

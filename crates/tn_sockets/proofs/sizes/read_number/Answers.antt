@@ -5,7 +5,8 @@ use Rattle.tn_sockets.proofs.sizes.read_number.Goals as goal
 pub loop-character-preserved : goal.loop-character-preserved
 loop-character-preserved c =
     c.loop-character.invariant
-    ∙ reads_on c.args.characters.now c.loop-character.character-index c.loop-character.number c.in_ok-number.number c.loop-character-test.true c.in_ok-number.ensures
+    ∙ reads_on c.args.characters.now c.loop-character.character-index c.loop-character.number c.in_ok-number.number c.loop-character-test.true
+    c.in_ok-number.ensures
 
 pub returns : goal.returns
 returns c = c.loop-character.invariant ∙ all_read c.args.characters.now c.loop-character.character-index c.loop-character.number c.loop-character-test.false

@@ -61,7 +61,8 @@ impl Gate for Telling {
     }
 }
 
-/// Tells one size before each of its first keys, once the server has asked for it, and what is asked for before each.
+/// Tells one size before each of its first keys, once the server has asked for it, and what is asked for
+/// before each.
 #[derive(Drop)]
 struct Window {
     meeting: Arc<Meeting, Global>,
@@ -127,8 +128,8 @@ const CONTROLS: &[Option<Control>] = &[
     Some(Control::Ayt),
 ];
 
-/// WILL NAWS and the size at first; then each size that is another than before, and each command, in its place among
-/// the keys.
+/// WILL NAWS and the size at first; then each size that is another than before, and each command, in its
+/// place among the keys.
 const SENT: &[u8] = b"\xff\xfb\x1f\xff\xfa\x1f\x00\x50\x00\x18\xff\xf0\
     \xff\xfa\x1f\x00\x64\x00\x28\xff\xf0a\xff\xf3b\
     \xff\xfa\x1f\x00\x00\x00\x00\xff\xf0\xff\xf4cd\xff\xf6";

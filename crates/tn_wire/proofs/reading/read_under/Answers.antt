@@ -4,7 +4,8 @@ use Rattle.tn_wire.proofs.reading.read_under.Goals as goal
 
 pub returns-in-Ok-clause-short : goal.returns-in-Ok-clause-short
 returns-in-Ok-clause-short c =
-    says_short c.args.option c.as_slice.result.now c.in-Ok.payload c.in-Ok.ensures.ok (omega (arith, ap length c.as_slice.ensures, c.len.ensures, c.if-len-gt-MAX_PARAMETERS.false))
+    says_short c.args.option c.as_slice.result.now c.in-Ok.payload c.in-Ok.ensures.ok
+    (omega (arith, ap length c.as_slice.ensures, c.len.ensures, c.if-len-gt-MAX_PARAMETERS.false))
 
 pub returns-in-Err-Memory-clause-list : goal.returns-in-Err-Memory-clause-list
 returns-in-Err-Memory-clause-list c =

@@ -4,12 +4,18 @@ use Rattle.tn_words.proofs.commands.with_session_options.Goals as goal
 
 pub returns-clause-app : goal.returns-clause-app
 returns-clause-app c =
-    let a1 = with_one_more c.args.command c.in_ok-arg.field-0 c.whole_option.result _ _ c.in_ok-arg.ensures c.whole_option.ensures.local c.whole_option.ensures.rule refl in
-    let a2 = with_one_more c.in_ok-arg.field-0 c.in_ok-arg-2.field-0 c.line_option.result _ _ c.in_ok-arg-2.ensures c.line_option.ensures.local c.line_option.ensures.rule a1 in
-    let a3 = with_one_more c.in_ok-arg-2.field-0 c.in_ok-arg-3.field-0 c.whole_option-2.result _ _ c.in_ok-arg-3.ensures c.whole_option-2.ensures.local c.whole_option-2.ensures.rule a2 in
-    let a4 = with_one_more c.in_ok-arg-3.field-0 c.in_ok-arg-4.field-0 c.whole_option-3.result _ _ c.in_ok-arg-4.ensures c.whole_option-3.ensures.local c.whole_option-3.ensures.rule a3 in
-    let a5 = with_one_more c.in_ok-arg-4.field-0 c.in_ok-arg-5.field-0 c.flag_option.result _ _ c.in_ok-arg-5.ensures c.flag_option.ensures.local c.flag_option.ensures.rule a4 in
-    with_one_more c.in_ok-arg-5.field-0 c.in_ok-command.command c.flag_option-2.result _ _ c.in_ok-command.ensures c.flag_option-2.ensures.local c.flag_option-2.ensures.rule a5
+    let a1 = with_one_more c.args.command c.in_ok-arg.field-0 c.whole_option.result _ _ c.in_ok-arg.ensures c.whole_option.ensures.local
+    c.whole_option.ensures.rule refl in
+    let a2 = with_one_more c.in_ok-arg.field-0 c.in_ok-arg-2.field-0 c.line_option.result _ _ c.in_ok-arg-2.ensures c.line_option.ensures.local
+    c.line_option.ensures.rule a1 in
+    let a3 = with_one_more c.in_ok-arg-2.field-0 c.in_ok-arg-3.field-0 c.whole_option-2.result _ _ c.in_ok-arg-3.ensures c.whole_option-2.ensures.local
+    c.whole_option-2.ensures.rule a2 in
+    let a4 = with_one_more c.in_ok-arg-3.field-0 c.in_ok-arg-4.field-0 c.whole_option-3.result _ _ c.in_ok-arg-4.ensures c.whole_option-3.ensures.local
+    c.whole_option-3.ensures.rule a3 in
+    let a5 = with_one_more c.in_ok-arg-4.field-0 c.in_ok-arg-5.field-0 c.flag_option.result _ _ c.in_ok-arg-5.ensures c.flag_option.ensures.local
+    c.flag_option.ensures.rule a4 in
+    with_one_more c.in_ok-arg-5.field-0 c.in_ok-command.command c.flag_option-2.result _ _ c.in_ok-command.ensures c.flag_option-2.ensures.local
+    c.flag_option-2.ensures.rule a5
 
 pub returns-clause-local : goal.returns-clause-local
 returns-clause-local c =

@@ -4,10 +4,14 @@ use Rattle.tn_words.proofs.commands.with_terminal_options.Goals as goal
 
 pub returns-clause-app : goal.returns-clause-app
 returns-clause-app c =
-    let a1 = with_one_more c.args.command c.in_ok-arg.field-0 c.escape_option.result _ _ c.in_ok-arg.ensures c.escape_option.ensures.local c.escape_option.ensures.rule refl in
-    let a2 = with_one_more c.in_ok-arg.field-0 c.in_ok-arg-2.field-0 c.text_option.result _ _ c.in_ok-arg-2.ensures c.text_option.ensures.local c.text_option.ensures.rule a1 in
-    let a3 = with_one_more c.in_ok-arg-2.field-0 c.in_ok-arg-3.field-0 c.wait_option.result _ _ c.in_ok-arg-3.ensures c.wait_option.ensures.local c.wait_option.ensures.rule a2 in
-    with_one_more c.in_ok-arg-3.field-0 c.in_ok-command.command c.flag_option.result _ _ c.in_ok-command.ensures c.flag_option.ensures.local c.flag_option.ensures.rule a3
+    let a1 = with_one_more c.args.command c.in_ok-arg.field-0 c.escape_option.result _ _ c.in_ok-arg.ensures c.escape_option.ensures.local
+    c.escape_option.ensures.rule refl in
+    let a2 = with_one_more c.in_ok-arg.field-0 c.in_ok-arg-2.field-0 c.text_option.result _ _ c.in_ok-arg-2.ensures c.text_option.ensures.local
+    c.text_option.ensures.rule a1 in
+    let a3 = with_one_more c.in_ok-arg-2.field-0 c.in_ok-arg-3.field-0 c.wait_option.result _ _ c.in_ok-arg-3.ensures c.wait_option.ensures.local
+    c.wait_option.ensures.rule a2 in
+    with_one_more c.in_ok-arg-3.field-0 c.in_ok-command.command c.flag_option.result _ _ c.in_ok-command.ensures c.flag_option.ensures.local
+    c.flag_option.ensures.rule a3
 
 pub returns-clause-local : goal.returns-clause-local
 returns-clause-local c =

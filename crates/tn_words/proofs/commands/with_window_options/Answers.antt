@@ -4,9 +4,12 @@ use Rattle.tn_words.proofs.commands.with_window_options.Goals as goal
 
 pub returns-clause-app : goal.returns-clause-app
 returns-clause-app c =
-    let a1 = with_one_more c.args.command c.in_ok-arg.field-0 c.optional_number.result _ _ c.in_ok-arg.ensures c.optional_number.ensures.local c.optional_number.ensures.rule refl in
-    let a2 = with_one_more c.in_ok-arg.field-0 c.in_ok-arg-2.field-0 c.optional_number-2.result _ _ c.in_ok-arg-2.ensures c.optional_number-2.ensures.local c.optional_number-2.ensures.rule a1 in
-    with_one_more c.in_ok-arg-2.field-0 c.in_ok-command.command c.line_option.result _ _ c.in_ok-command.ensures c.line_option.ensures.local c.line_option.ensures.rule a2
+    let a1 = with_one_more c.args.command c.in_ok-arg.field-0 c.optional_number.result _ _ c.in_ok-arg.ensures c.optional_number.ensures.local
+    c.optional_number.ensures.rule refl in
+    let a2 = with_one_more c.in_ok-arg.field-0 c.in_ok-arg-2.field-0 c.optional_number-2.result _ _ c.in_ok-arg-2.ensures c.optional_number-2.ensures.local
+    c.optional_number-2.ensures.rule a1 in
+    with_one_more c.in_ok-arg-2.field-0 c.in_ok-command.command c.line_option.result _ _ c.in_ok-command.ensures c.line_option.ensures.local
+    c.line_option.ensures.rule a2
 
 pub returns-clause-local : goal.returns-clause-local
 returns-clause-local c =

@@ -1,4 +1,5 @@
-use Rattle.tn_words.proofs.Hosts.{host_asks, host_is_taken, port_asks, port_is_taken, both_ask, behind_asks, behind_is_taken, within_asks, neither_asks, two_ask}
+use Rattle.tn_words.proofs.Hosts.{host_asks, host_is_taken, port_asks, port_is_taken, both_ask, behind_asks, behind_is_taken, within_asks, neither_asks}
+use Rattle.tn_words.proofs.Hosts.{two_ask}
 use Rattle.tn_words.proofs.laws.hosts_and_ports.Goals as goal
 
 pub returns : goal.returns

@@ -6,7 +6,8 @@ use Rattle.tn_words.proofs.words.escape_text.Goals as goal
 
 pub returns-in-Some : goal.returns-in-Some
 returns-in-Some c =
-    sym (ap (λ o. unwrap_or o (codes "^]")) (given_some (found_of c.args.words.now) (codes "escape") c.get_str.result c.get_str.ensures c.in-Some.text c.in-Some.is))
+    sym (ap (λ o. unwrap_or o (codes "^]")) (given_some (found_of c.args.words.now)
+    (codes "escape") c.get_str.result c.get_str.ensures c.in-Some.text c.in-Some.is))
 
 pub returns-in-None : goal.returns-in-None
 returns-in-None c =

@@ -6,7 +6,8 @@ use Rattle.tn_words.proofs.words.is_flagged.Goals as goal
 pub returns-in-Some : goal.returns-in-Some
 returns-in-Some c =
     let f = found_of c.args.words.now in
-    c.eq.ensures ∙ flagged (rows_of f) c.args.name.now (Some c.in-Some.text.now) (given_some f c.args.name.now c.get_str.result c.get_str.ensures c.in-Some.text c.in-Some.is)
+    c.eq.ensures ∙ flagged (rows_of f) c.args.name.now (Some c.in-Some.text.now)
+    (given_some f c.args.name.now c.get_str.result c.get_str.ensures c.in-Some.text c.in-Some.is)
 
 pub returns-in-None : goal.returns-in-None
 returns-in-None c =

@@ -16,9 +16,12 @@ returns-in-Ok-clause-asked c =
 pub returns-in-Ok-clause-refuses : goal.returns-in-Ok-clause-refuses
 returns-in-Ok-clause-refuses c =
     let words = map (λ word. word.now) c.args.words.now in
-    IfErr-weaker c.asked_of.result _ _ (λ fault. refuses_lacking words c.in-Ok.matches fault (subst (λ (a : App). HasMatchesOf a words c.in-Ok.matches) c.in_ok-command.ensures c.in-Ok.ensures.matches)) c.asked_of.ensures.lacks
+    IfErr-weaker c.asked_of.result _ _ (λ fault. refuses_lacking words c.in-Ok.matches fault
+    (subst (λ (a : App). HasMatchesOf a words c.in-Ok.matches) c.in_ok-command.ensures c.in-Ok.ensures.matches)) c.asked_of.ensures.lacks
 
 pub returns-in-Err-clause-refuses : goal.returns-in-Err-clause-refuses
 returns-in-Err-clause-refuses c =
     let is = c.in_ok-command.ensures in
-    refused_by (app_of c.in_ok-command.command) (map (λ word. word.now) c.args.words.now) (kind_of c.in-Err.error) c.words_fault.result is c.in-Err.ensures.passes (c.in-Err.ensures.kinds (ap is_simple_and_free is ∙ is_free_tn)) c.words_fault.ensures
+    refused_by (app_of c.in_ok-command.command) (map (λ word. word.now) c.args.words.now)
+    (kind_of c.in-Err.error) c.words_fault.result is c.in-Err.ensures.passes
+    (c.in-Err.ensures.kinds (ap is_simple_and_free is ∙ is_free_tn)) c.words_fault.ensures

@@ -26,7 +26,8 @@ returns-in_default-count_in-clause-lacks c =
 
 pub serving_at-requires : goal.serving_at-requires
 serving_at-requires c = record {
-  host = given_some (found_of c.args.words.now) (codes "host") c.get_str.result c.get_str.ensures c.in-Some.host c.in-Some.is ∙ ap Some (sym c.in_ok-host.ensures.ok);
+  host = given_some (found_of c.args.words.now) (codes "host") c.get_str.result c.get_str.ensures c.in-Some.host c.in-Some.is
+      ∙ ap Some (sym c.in_ok-host.ensures.ok);
   to = c.in_ok-to.ensures.asked;
   line_end = sym c.service_line_end_in.ensures ∙ c.in-Some-service_line_end_in.is;
   ends_cut = sym c.ends_cut_in.ensures ∙ c.in-Some-ends_cut_in.is;

@@ -13,10 +13,12 @@ pub returns-in-Some-2-clause-asked : goal.returns-in-Some-2-clause-asked
 returns-in-Some-2-clause-asked c = record {
   text = c.in-Some.text.now;
   has = given_some (found_of c.args.words.now) (codes "to") c.get_str.result c.get_str.ensures c.in-Some.text c.in-Some.is;
-  writes = subst (λ read. IfSome read (λ address. WritesAddress c.in-Some.text.now (string_bytes address.host) address.port)) c.in-Some-2.is c.in_ok-address.ensures.some;
+  writes = subst (λ read. IfSome read (λ address. WritesAddress c.in-Some.text.now (string_bytes address.host) address.port)) c.in-Some-2.is
+      c.in_ok-address.ensures.some;
 }
 
 pub returns-in-None-clause-lacks : goal.returns-in-None-clause-lacks
 returns-in-None-clause-lacks c =
     let has = given_some (found_of c.args.words.now) (codes "to") c.get_str.result c.get_str.ensures c.in-Some.text c.in-Some.is in
-    lacks_by c.lacking.result c.lacking.ensures (no_address (rows_of (found_of c.args.words.now)) c.in-Some.text.now has (c.in_ok-address.ensures.none (ap Ok c.in-None.is)))
+    lacks_by c.lacking.result c.lacking.ensures (no_address (rows_of (found_of c.args.words.now)) c.in-Some.text.now has
+    (c.in_ok-address.ensures.none (ap Ok c.in-None.is)))

@@ -12,10 +12,13 @@ returns-in_default-clause-asked c =
 pub returns-then-not-is_path-clause-lacks : goal.returns-then-not-is_path-clause-lacks
 returns-then-not-is_path-clause-lacks c =
     let f = found_of c.args.words.now in
-    lacks_by c.lacking.result c.lacking.ensures (no_path (rows_of (found_of c.args.words.now)) (codes "until") c.in-Some.text.now (given_some f (codes "until") c.get_str.result c.get_str.ensures c.in-Some.text c.in-Some.is) (c.is_path.ensures.none c.if-not-is_path.true))
+    lacks_by c.lacking.result c.lacking.ensures (no_path (rows_of (found_of c.args.words.now)) (codes "until") c.in-Some.text.now
+    (given_some f (codes "until") c.get_str.result c.get_str.ensures c.in-Some.text c.in-Some.is) (c.is_path.ensures.none c.if-not-is_path.true))
 
 pub returns-clause-asked : goal.returns-clause-asked
 returns-clause-asked c =
     let f = found_of c.args.words.now in
-    let is = c.in_ok-path.ensures.ok in
-    (given_some f (codes "until") c.get_str.result c.get_str.ensures c.in-Some.text c.in-Some.is ∙ ap Some (sym is), subst IsPath (sym is) (c.is_path.ensures.path c.if-not-is_path.false))
+    let is = c.in_ok-path.ensures.ok in (
+      given_some f (codes "until") c.get_str.result c.get_str.ensures c.in-Some.text c.in-Some.is ∙ ap Some (sym is),
+      subst IsPath (sym is) (c.is_path.ensures.path c.if-not-is_path.false),
+    )

@@ -14,7 +14,8 @@ use types.Logic.{Logic, sem}
 use contract.Monad.{Fun, fact_use}
 use contract.Running.{tables, tables_of}
 use sound.WpLaws.{WpFn-mono}
-use types.Kit.{Item, ‵, raw, ◌⊛◌, given, at_ret, ◌$◌, ◌∵◌, !, qed, by, move, drop, learn, use0, use1, join, split, rewrite, fsplit, fjoin, fpick, feq_l, suffices, done}
+use types.Kit.{Item, ‵, raw, ◌⊛◌, given, at_ret, ◌$◌, ◌∵◌, !, qed, by, move, drop, learn, use0, use1, join, split, rewrite, fsplit, fjoin, fpick, feq_l}
+use types.Kit.{suffices, done}
 use types.Part.{whole, sub, agg}
 use types.Match.{live}
 use types.Run.{stop, fld, lit, bin, no_more, and_then, of_opd, first, branches, exec, returns, enter}
@@ -58,7 +59,8 @@ module _ {M : Type 1} {𝓤 : Ura M} (𝓛 : Logic 𝓤) (at_mem : Memory → SP
   open 𝓛 use {H}
 
   walk : (z : (walk_of 𝓛 F.ended stayed (F.clauses 𝓛 at_mem run)).Ghost)
-      → ent 𝓤 ((walk_of 𝓛 F.ended stayed (F.clauses 𝓛 at_mem run)).pre z) (WpFn 𝓤 H 𝓣.C 𝓣.Λ code.function (z.0.4.0 ++ []) ((walk_of 𝓛 F.ended stayed (F.clauses 𝓛 at_mem run)).post z))
+      → ent 𝓤 ((walk_of 𝓛 F.ended stayed (F.clauses 𝓛 at_mem run)).pre z)
+      (WpFn 𝓤 H 𝓣.C 𝓣.Λ code.function (z.0.4.0 ++ []) ((walk_of 𝓛 F.ended stayed (F.clauses 𝓛 at_mem run)).post z))
   walk z =
       let Post = (walk_of 𝓛 F.ended stayed (F.clauses 𝓛 at_mem run)).post z in
       let h = z.0.3.0 in let vs = z.0.4.0 in
@@ -68,7 +70,8 @@ module _ {M : Type 1} {𝓤 : Ura M} (𝓛 : Logic 𝓤) (at_mem : Memory → SP
       opt_cases ! h.held
       (λ is. rewrite ! 0 Held is refl $
       use1 𝓛 (‵ (fsep (fex (Valss (RawPtr ∷ P E ∷ [])) (within (shape (owning E)) (h.at, (h.alloc, tt)) vs)) (feq Ptr h.at null_ptr))) (id⊢ 𝓤 _) $
-      fsplit ! $ move ! (1 ∷ []) $ feq_l ! (λ en. fpick ! (λ vss. fsplit ! $ feq_l ! (λ ev. fsplit ! $ feq_l ! (λ ep. fsplit ! $ handle_tells E.al ! h.alloc vss.1.0 (λ hv eh fa. drop ! $ drop ! $
+      fsplit ! $ move ! (1 ∷ []) $ feq_l ! (λ en. fpick ! (λ vss.
+      fsplit ! $ feq_l ! (λ ev. fsplit ! $ feq_l ! (λ ep. fsplit ! $ handle_tells E.al ! h.alloc vss.1.0 (λ hv eh fa. drop ! $ drop ! $
       let w : Val = vstruct (vcons (vint w64 0) (vcons hv vnil)) in
       by ! (subst (λ (us : List Val). ent 𝓤 (types.Kit.⋆ 𝓛 []) (WpFn 𝓤 H 𝓣.C 𝓣.Λ code.function (us ++ []) Post))
       (sym (ev ∙ (λ j. vstruct (of_list ((ep ∙ ap (λ (π : Ptr). ptr_val π ∷ []) en) j ++ (eh j ++ []))) ∷ [])))
@@ -89,7 +92,8 @@ module _ {M : Type 1} {𝓤 : Ura M} (𝓛 : Logic 𝓤) (at_mem : Memory → SP
       box_out E ! v vs (λ b o hv e ws fa. move ! (1 ∷ []) $
       let Token = token E.al v.alloc (bare (τ E)) (block_ptr b o) in
       use1 𝓛 (given (Testable (block_ptr b o)) (‵ Token))
-      (fact_use 𝓤 (Testable (block_ptr b o)) (dealloc_token-Testable 𝓛 v.alloc (bare (τ E)) (block_ptr b o)) (guard_i 𝓤 (Testable (block_ptr b o)) (sem 𝓛 Token))) $ learn ! (λ t.
+      (fact_use 𝓤 (Testable (block_ptr b o)) (dealloc_token-Testable 𝓛 v.alloc (bare (τ E)) (block_ptr b o))
+      (guard_i 𝓤 (Testable (block_ptr b o)) (sem 𝓛 Token))) $ learn ! (λ t.
       move ! (1 ∷ []) $ box_in E ! v b o v.value e refl $ use1 𝓛 (‵ (Row.own_val made (word E hv b o ∷ []))) (id⊢ 𝓤 _) $
       let w = word E hv b o in let out : Val = live 1 (vcons w vnil) in let typed = box_typed E hv b o fa in
       let Γ : List (Item 𝓤) = ‵ (Row.own_val made (w ∷ [])) ∷ [] in
@@ -111,5 +115,6 @@ unfolding tables_of
 into_unboxed_spec 𝓤 𝓛 𝓜 𝓡 wired =
     let 𝓣 : Tables 𝓤 𝓛.H = tables_of 𝓤 𝓛.H 𝓜 (tables 𝓤 𝓛.H 𝓜 𝓡 𝓡.env) in
     entered 𝓤 𝓛.H (triple_of 𝓛 F.signature (F.spec 𝓛 𝓜.mem 𝓡.returns)) 𝓣.C 𝓣.Λ #self code.function (code.unfolded 𝓤 𝓛.H 𝓜 𝓡 wired)
-    (walk_Meets 𝓛 F.ended stayed (Goes-dropped 𝓛 0 From yes (λ κs x f. refl), tt) (F.clauses 𝓛 𝓜.mem 𝓡.returns) (WpFn 𝓤 𝓛.H 𝓣.C 𝓣.Λ code.function) (WpFn-mono 𝓤 𝓛.H 𝓛.laws 𝓣 code.function)
+    (walk_Meets 𝓛 F.ended stayed (Goes-dropped 𝓛 0 From yes (λ κs x f. refl), tt) (F.clauses 𝓛 𝓜.mem 𝓡.returns) (WpFn 𝓤 𝓛.H 𝓣.C 𝓣.Λ code.function)
+    (WpFn-mono 𝓤 𝓛.H 𝓛.laws 𝓣 code.function)
     (walk 𝓛 𝓜.mem 𝓡.returns 𝓣))

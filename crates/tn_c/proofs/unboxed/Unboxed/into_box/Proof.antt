@@ -18,7 +18,8 @@ use types.Logic.{Logic}
 use contract.Monad.{Fun, fact}
 use contract.Running.{tables, tables_of}
 use sound.WpLaws.{fm_of, WpFn-mono}
-use types.Kit.{Item, at_ret, ‵, raw, ◌⊛◌, some, later, ◌$◌, ◌∵◌, !, qed, by, move, drop, use1, join, split, split3, pick, rewrite, fsplit, fjoin, feq_i, suffices, await, done}
+use types.Kit.{Item, at_ret, ‵, raw, ◌⊛◌, some, later, ◌$◌, ◌∵◌, !, qed, by, move, drop, use1, join, split, split3, pick, rewrite, fsplit, fjoin, feq_i}
+use types.Kit.{suffices, await, done}
 use types.Part.{whole, sub}
 use types.Run.{stop, fld, no_more, and_then, of_opd, returns, enter, first, blocks, exec}
 use types.ByLocal.{alloc_all, pass_all, free_all, look_at, get, get_in, sets, lands_last, env}
@@ -96,7 +97,8 @@ module _ (E : Bx) where
         use1 𝓛 (later (some (λ (r : D E). (tokens ⊛ ‵ ((B E).own_val r (u ∷ [])))
         ⊛ some (λ (_ : Unit {0} × (Unit {0} × Unit {0})). ‵ (fsep ftrue (fsep ftrue ftrue))
         ⊛ (raw (fact 𝓤 (r.value ≡ value)) ⊛ raw (fact 𝓤 (r.alloc ≡ handle))))))) (id⊢ 𝓤 _) $
-        await ! tt $ pick ! (λ r. split ! $ move ! (1 ∷ []) $ pick ! (λ _. split3 ! $ drop ! $ heard ! (r.value ≡ value) (λ same. drop ! $ split ! $ move ! (1 ∷ []) $
+        await ! tt $ pick ! (λ r. split ! $ move ! (1 ∷ []) $ pick !
+        (λ _. split3 ! $ drop ! $ heard ! (r.value ≡ value) (λ same. drop ! $ split ! $ move ! (1 ∷ []) $
         box_out E ! r (u ∷ []) (λ b' o' bits' at' is' fits'. box_in E ! r b' o' r.value at' refl $
         rewrite ! 0 (λ (us : List Val). ‵ ((B E).own_val r us)) (sym is') refl $
         let typed : T (has_ty (box_ty E) u) × WT u = subst (λ (v : Val). T (has_ty (box_ty E) v) × WT v) (sym (ap only is')) (box_typed E bits' b' o' fits') in
@@ -111,6 +113,8 @@ into_box_spec 𝓤 𝓛 𝓜 𝓡 wired X Z X-laws Z-laws g d drops allocator dr
     let E : Bx = record { row = X; laws = X-laws; al = record { row = Z; laws = Z-laws; g = g; d = d; drops = drops } } in
     let 𝓣 : Tables 𝓤 𝓛.H = tables_of 𝓤 𝓛.H 𝓜 (tables 𝓤 𝓛.H 𝓜 𝓡 𝓡.env) in
     let known = callee_met.met 𝓤 𝓛 𝓜 𝓡 (code.calls-std_alloc::boxed::Box::from_raw 𝓡.env wired) X Z X-laws Z-laws g d drops allocator drops-met in
-    entered 𝓤 𝓛.H (triple_of 𝓛 (ending E).signature (F.spec X Z g d drops 𝓛 𝓜.mem 𝓡.returns)) 𝓣.C 𝓣.Λ (#self (args E)) (body E) (code.unfolded 𝓤 𝓛.H 𝓜 𝓡 wired (X, (Z, tt)) d drops)
-    (walk_Meets 𝓛 (ending E) (left E) (Goes-blank 𝓛 2 (plain (λ _. Parts E)) no (λ κs x f. tt), tt) (said E 𝓛 𝓜.mem 𝓡.returns 𝓣) (WpFn 𝓤 𝓛.H 𝓣.C 𝓣.Λ (body E)) (WpFn-mono 𝓤 𝓛.H 𝓛.laws 𝓣 (body E))
+    entered 𝓤 𝓛.H (triple_of 𝓛 (ending E).signature (F.spec X Z g d drops 𝓛 𝓜.mem 𝓡.returns)) 𝓣.C 𝓣.Λ (#self (args E)) (body E)
+    (code.unfolded 𝓤 𝓛.H 𝓜 𝓡 wired (X, (Z, tt)) d drops)
+    (walk_Meets 𝓛 (ending E) (left E) (Goes-blank 𝓛 2 (plain (λ _. Parts E)) no (λ κs x f. tt), tt) (said E 𝓛 𝓜.mem 𝓡.returns 𝓣) (WpFn 𝓤 𝓛.H 𝓣.C 𝓣.Λ (body E))
+    (WpFn-mono 𝓤 𝓛.H 𝓛.laws 𝓣 (body E))
     (walk E 𝓛 𝓜.mem 𝓡.returns 𝓣 known))

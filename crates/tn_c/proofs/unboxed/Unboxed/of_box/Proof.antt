@@ -19,7 +19,8 @@ use types.Logic.{Logic, sem}
 use contract.Monad.{Fun, fact}
 use contract.Running.{tables, tables_of}
 use sound.WpLaws.{fm_of, WpFn-mono}
-use types.Kit.{Item, ‵, raw, ◌⊛◌, some, later, ◌$◌, ◌∵◌, !, qed, by, move, drop, use1, join, split, split3, pick, rewrite, fsplit, fjoin, fpick, feq_l, suffices, await, done}
+use types.Kit.{Item, ‵, raw, ◌⊛◌, some, later, ◌$◌, ◌∵◌, !, qed, by, move, drop, use1, join, split, split3, pick, rewrite, fsplit, fjoin, fpick, feq_l}
+use types.Kit.{suffices, await, done}
 use types.Part.{whole, sub, agg}
 use types.Run.{stop, fld, no_more, and_then, of_opd, returns, enter}
 use types.ByLocal.{alloc_all, pass_all, free_all, look_at, get, get_in, sets, lands_as}
@@ -115,7 +116,10 @@ unfolding tables_of
 of_box_spec 𝓤 𝓛 𝓜 𝓡 wired X Z X-laws Z-laws g d drops glue allocator drops-met glue-met =
     let E : Bx = record { row = X; laws = X-laws; al = record { row = Z; laws = Z-laws; g = g; d = d; drops = drops } } in
     let 𝓣 : Tables 𝓤 𝓛.H = tables_of 𝓤 𝓛.H 𝓜 (tables 𝓤 𝓛.H 𝓜 𝓡 𝓡.env) in
-    let known = callee_met.met 𝓤 𝓛 𝓜 𝓡 (code.calls-std_alloc::boxed::Box::into_raw_with_allocator 𝓡.env wired) X Z X-laws Z-laws g d drops glue allocator drops-met glue-met in
-    entered 𝓤 𝓛.H (triple_of 𝓛 (ending E glue).signature (F.spec X Z g d drops glue 𝓛 𝓜.mem 𝓡.returns)) 𝓣.C 𝓣.Λ (#self (dropping E glue)) (body E glue) (code.unfolded 𝓤 𝓛.H 𝓜 𝓡 wired (X, (Z, tt)) d drops glue)
-    (walk_Meets 𝓛 (ending E glue) (left E glue) (Goes-blank 𝓛 2 (plain (λ _. B E)) no (λ κs x f. tt), tt) (said E glue 𝓛 𝓜.mem 𝓡.returns 𝓣) (WpFn 𝓤 𝓛.H 𝓣.C 𝓣.Λ (body E glue)) (WpFn-mono 𝓤 𝓛.H 𝓛.laws 𝓣 (body E glue))
+    let known = callee_met.met 𝓤 𝓛 𝓜 𝓡 (code.calls-std_alloc::boxed::Box::into_raw_with_allocator 𝓡.env wired) X Z X-laws Z-laws g d drops glue allocator
+    drops-met glue-met in
+    entered 𝓤 𝓛.H (triple_of 𝓛 (ending E glue).signature (F.spec X Z g d drops glue 𝓛 𝓜.mem 𝓡.returns)) 𝓣.C 𝓣.Λ (#self (dropping E glue)) (body E glue)
+    (code.unfolded 𝓤 𝓛.H 𝓜 𝓡 wired (X, (Z, tt)) d drops glue)
+    (walk_Meets 𝓛 (ending E glue) (left E glue) (Goes-blank 𝓛 2 (plain (λ _. B E)) no (λ κs x f. tt), tt) (said E glue 𝓛 𝓜.mem 𝓡.returns 𝓣)
+    (WpFn 𝓤 𝓛.H 𝓣.C 𝓣.Λ (body E glue)) (WpFn-mono 𝓤 𝓛.H 𝓛.laws 𝓣 (body E glue))
     (walk E glue 𝓛 𝓜.mem 𝓡.returns 𝓣 known))

@@ -14,9 +14,11 @@ loop-typed-preserved c =
     let i = c.loop-typed.typed in
     record {
       within = omega (arith, c.in_ok-typed.ensures.within, length-take (length keys - i) (drop i keys), length-drop i keys, c.loop-typed.invariant.within);
-      types = types_front c.args.self.now c.loop-typed.self c.front.new.self keys i c.in_ok-typed.field-0 c.loop-typed.invariant.types c.in_ok-typed.ensures.types;
+      types = types_front c.args.self.now c.loop-typed.self c.front.new.self keys i c.in_ok-typed.field-0 c.loop-typed.invariant.types
+          c.in_ok-typed.ensures.types;
     }
 
 pub returns : goal.returns
 returns c =
-    subst (λ keys. Types keys c.args.self.now c.loop-typed.self) (take_all c.loop-typed.typed c.args.keys.now c.loop-typed-test.false) c.loop-typed.invariant.types
+    subst (λ keys. Types keys c.args.self.now c.loop-typed.self)
+    (take_all c.loop-typed.typed c.args.keys.now c.loop-typed-test.false) c.loop-typed.invariant.types

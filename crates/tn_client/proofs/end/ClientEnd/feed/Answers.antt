@@ -10,7 +10,8 @@ returns-in-Ok-clause-feeds c =
     let here = c.self-2.view_is ∙ c.self-1.given.1 (sym same.end) in
     let out = c.out-1.given.1 (sym same.out) in
     let screen = c.screen-1.given.1 (sym same.screen) in
-    rw (← c.self.view_is) (feeds_of _ _ _ _ _ _ _ _ c.feed_to-fed.new.sink refl (rw c.replace-decoder.ensures.value at c.in-Ok.ensures.ok) (ap (λ (e : End). record e { decoder = c.feed_to-fed.new.self }) here) (ap (λ o. o.items) out) (ap (λ s. s.items) screen))
+    rw (← c.self.view_is) (feeds_of _ _ _ _ _ _ _ _ c.feed_to-fed.new.sink refl (rw c.replace-decoder.ensures.value at c.in-Ok.ensures.ok)
+    (ap (λ (e : End). record e { decoder = c.feed_to-fed.new.self }) here) (ap (λ o. o.items) out) (ap (λ s. s.items) screen))
 
 pub returns-in-Err-clause-memory : goal.returns-in-Err-clause-memory
 returns-in-Err-clause-memory c = λ _.
@@ -18,4 +19,6 @@ returns-in-Err-clause-memory c = λ _.
     let same = same_loan c.feed_to-fed.result _ _ _ _ _ f.ok f.refused f.memory f.failed_hands in
     let out = c.out-1.given.1 (sym same.out) in
     let screen = c.screen-1.given.1 (sym same.screen) in
-    rw (← c.self.view_is) (breaks_of c.feed_to-fed.result _ c.in-Err.is _ _ _ _ _ _ c.feed_to-fed.new.sink refl (rw c.replace-decoder.ensures.value at f.refused) (rw c.replace-decoder.ensures.value at f.memory) (rw c.replace-decoder.ensures.value at f.failed) f.failed_hands (ap (λ o. o.items) out) (ap (λ s. s.items) screen))
+    rw (← c.self.view_is) (breaks_of c.feed_to-fed.result _ c.in-Err.is _ _ _ _ _ _ c.feed_to-fed.new.sink refl
+    (rw c.replace-decoder.ensures.value at f.refused) (rw c.replace-decoder.ensures.value at f.memory)
+    (rw c.replace-decoder.ensures.value at f.failed) f.failed_hands (ap (λ o. o.items) out) (ap (λ s. s.items) screen))

@@ -12,9 +12,12 @@ returns-in-Err-clause-err c =
     let sends : sends_where c.self.inside.forward c.args.role c.in_ok-effect.effect ≡ true =
     sym c.is_sent_ahead.ensures ∙ c.if-not-is_sent_ahead.false in
     elim c.match-effect.branch [
-      | in-Gives+in-Text-2 w ↦ undone _ _ _ _ _ _ _ c.in_ok-effect.ensures.line (c.self-2.view_is ∙ c.in-Err.ensures.err) c.erase-erased.ensures.line w.self-is c.in_ok-effect.ensures.effect sends ∙ c.self.view_is
-      | in-Gives+in-Eof-2 w ↦ undone _ _ _ _ _ _ _ c.in_ok-effect.ensures.line (c.self-2.view_is ∙ c.in-Err.ensures.err) c.erase-erased.ensures.line w.self-is c.in_ok-effect.ensures.effect sends ∙ c.self.view_is
-      | in-Nothing-2 w ↦ undone _ _ _ _ _ _ _ c.in_ok-effect.ensures.line (c.self-2.view_is ∙ c.in-Err.ensures.err) c.erase-erased.ensures.line w.self-is c.in_ok-effect.ensures.effect sends ∙ c.self.view_is
+      | in-Gives+in-Text-2 w ↦ undone _ _ _ _ _ _ _ c.in_ok-effect.ensures.line
+          (c.self-2.view_is ∙ c.in-Err.ensures.err) c.erase-erased.ensures.line w.self-is c.in_ok-effect.ensures.effect sends ∙ c.self.view_is
+      | in-Gives+in-Eof-2 w ↦ undone _ _ _ _ _ _ _ c.in_ok-effect.ensures.line
+          (c.self-2.view_is ∙ c.in-Err.ensures.err) c.erase-erased.ensures.line w.self-is c.in_ok-effect.ensures.effect sends ∙ c.self.view_is
+      | in-Nothing-2 w ↦ undone _ _ _ _ _ _ _ c.in_ok-effect.ensures.line
+          (c.self-2.view_is ∙ c.in-Err.ensures.err) c.erase-erased.ensures.line w.self-is c.in_ok-effect.ensures.effect sends ∙ c.self.view_is
     ]
 
 pub returns-in-Err-clause-grows : goal.returns-in-Err-clause-grows

@@ -8,4 +8,5 @@ returns-in-Ok-clause-ok c =
 
 pub returns-in-Err-clause-err : goal.returns-in-Err-clause-err
 returns-in-Err-clause-err c =
-    refused_item c.args.self.now _ c.args.item (record { end = refl; out = refl; screen = refl }) c.in-Err.ensures.cut c.in-Err.ensures.err c.in-Err.ensures.grows
+    refused_item c.args.self.now _ c.args.item (record { end = refl; out = refl; screen = refl }) c.in-Err.ensures.cut c.in-Err.ensures.err
+    c.in-Err.ensures.grows

@@ -7,4 +7,5 @@ pub returns-then-is_empty-clause-ok : goal.returns-then-is_empty-clause-ok
 returns-then-is_empty-clause-ok c = rw (← c.self.view_is) (ends_nothing _ (eqb-true _ _ (sym c.if-is_empty.ensures)))
 
 pub returns-clause-ok : goal.returns-clause-ok
-returns-clause-ok c = rw (← c.self.view_is) (ends_held _ _ (eqb-false _ _ (sym c.if-is_empty.ensures)) c.self.invariant refl (rw c.as_slice.ensures.value at c.in_ok-append_data.ensures.ok) c.clear.ensures)
+returns-clause-ok c = rw (← c.self.view_is) (ends_held _ _ (eqb-false _ _ (sym c.if-is_empty.ensures)) c.self.invariant refl
+    (rw c.as_slice.ensures.value at c.in_ok-append_data.ensures.ok) c.clear.ensures)

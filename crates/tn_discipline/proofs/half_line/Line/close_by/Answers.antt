@@ -10,5 +10,6 @@ returns-in_err-close-clause-only_a_text c =
     let p = err_from_is_err_and c.from_residual.result c.from_residual.ensures.1 in
     let old = c.args.self.now in
     let r = c.args.role in
-    let some : 0 < length (with_byte old.held (closing_byte r)) = subst (λ b. 0 < length (with_byte old.held b)) c.closing.ensures c.in_err-close.ensures.only_a_text in
+    let some : 0 < length (with_byte old.held (closing_byte r)) =
+    subst (λ b. 0 < length (with_byte old.held b)) c.closing.ensures c.in_err-close.ensures.only_a_text in
     rw p.1 (gives_text old r (with_byte old.held (closing_byte r)) (closing_effect old r c.requires) some)

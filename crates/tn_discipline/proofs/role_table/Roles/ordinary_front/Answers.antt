@@ -14,5 +14,6 @@ loop-key-preserved c =
     sym (c.self.invariant.0.agrees (get_or keys i 0) c.index.result.now fits) ∙ sym c.index.ensures ∙ c.in-Ordinary.is ∙ ap Ordinary c.if-byte-key.true in
     record {
       count = ap (λ n. n + 1) c.loop-key.invariant.count;
-      plain = rw (take_more keys i 0 c.loop-key-test.true) (All-push (IsPlain c.self.inside.settings) (take i keys) (get_or keys i 0) c.loop-key.invariant.plain here);
+      plain = rw (take_more keys i 0 c.loop-key-test.true) (All-push (IsPlain c.self.inside.settings) (take i keys)
+          (get_or keys i 0) c.loop-key.invariant.plain here);
     }

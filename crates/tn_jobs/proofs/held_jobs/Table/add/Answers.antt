@@ -15,14 +15,22 @@ returns-then-id-ge-MAX_JOBS-clause-fault c =
     let jobs = c.self.inside.jobs.items in
     let none : HasNoGap jobs = rw c.deref.ensures.value at c.in_default.ensures in
     let all = held_all jobs none in
-    rw (← c.self.view_is) (full_is jobs (omega (arith, all, c.len-id.ensures, c.self.inside.jobs.ok.0, c.if-id-ge-MAX_JOBS.true, c.self.invariant.0.at_most_sixteen)))
+    rw (← c.self.view_is) (full_is jobs (omega (
+      arith,
+      all,
+      c.len-id.ensures,
+      c.self.inside.jobs.ok.0,
+      c.if-id-ge-MAX_JOBS.true,
+      c.self.invariant.0.at_most_sixteen,
+    )))
 
 pub invariant_of-self-2 : goal.invariant_of-self-2
 invariant_of-self-2 c =
     let jobs = c.self.inside.jobs.items in
     let room : length jobs < 16 = omega (arith, c.len-id.ensures, c.self.inside.jobs.ok.0, c.if-id-ge-MAX_JOBS.false) in
     elim c.match-push.branch [
-      | in-Ok w ↦ let pushed = rw w.in-Ok.is at c.push.ensures.items in rw pushed (sound_more jobs c.self.invariant.0 room, names_more jobs c.self.inside.foreground c.self.invariant.1)
+      | in-Ok w ↦ let pushed = rw w.in-Ok.is at c.push.ensures.items
+          in rw pushed (sound_more jobs c.self.invariant.0 room, names_more jobs c.self.inside.foreground c.self.invariant.1)
       | in-Err w ↦ let same = rw w.in-Err.is at c.push.ensures.items in rw same c.self.invariant
     ]
 

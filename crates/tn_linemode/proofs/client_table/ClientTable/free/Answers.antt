@@ -14,4 +14,5 @@ returns-in-Some-holder c =
 
 pub returns-in_default-holder : goal.returns-in_default-holder
 returns-in_default-holder c =
-    rw (c.in-Some.is, ← c.self.view_is) (without-none c.self.inside.chars c.in-Some.byte (λ f held. c.in_default-holder.not-Some f ((c.holder.ensures.found f).1 held)))
+    rw (c.in-Some.is, ← c.self.view_is) (without-none c.self.inside.chars c.in-Some.byte
+    (λ f held. c.in_default-holder.not-Some f ((c.holder.ensures.found f).1 held)))

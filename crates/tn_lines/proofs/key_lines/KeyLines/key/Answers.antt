@@ -32,7 +32,8 @@ returns-then-is_interrupt c =
     let left : new.left ≡ leaves old.line.held r = b.left ∙ a.left ∙ c.is_leaving-self.ensures ∙ ap (λ (h : List ℕ). leaves h r) c.held.ensures.value in
     let one = moves_one old mid r said shown a.roles a.line_end a.line a.ended refl refl in
     let two = moves_one mid new Kill said_more shown_more b.roles b.line_end b.line b.ended refl refl in
-    let both = moves_both old mid new (roles_from r) (Kill ∷ []) (effect_entries (effect_of old.line r)) (effect_entries (effect_of mid.line Kill)) said said_more shown shown_more one two in (
+    let both = moves_both old mid new (roles_from r) (Kill ∷ []) (effect_entries (effect_of old.line r))
+    (effect_entries (effect_of mid.line Kill)) said said_more shown shown_more one two in (
       said ++ said_more,
       shown ++ shown_more,
       record {
@@ -57,5 +58,6 @@ returns c =
       said,
       shown,
       record { says = a.says; shows = a.shows },
-      types_taken old new c.args.key r (roles_from r) (effect_entries (effect_of old.line r)) said shown c.if-self.false c.role-role.ensures (acts_of-other r is) left one,
+      types_taken old new c.args.key r (roles_from r) (effect_entries (effect_of old.line r)) said shown c.if-self.false c.role-role.ensures
+          (acts_of-other r is) left one,
     )

@@ -11,8 +11,10 @@ loop-key-init c =
 pub loop-key-preserved : goal.loop-key-preserved
 loop-key-preserved c =
     let got = c.in_ok-key.ensures in
-    types_next c.args.self.now c.loop-key.self c.key.new.self c.args.keys.now c.loop-key.key-index c.loop-key.output c.key.new.output got.0 got.1 c.loop-key-test.true c.loop-key.invariant got.2 got.3
+    types_next c.args.self.now c.loop-key.self c.key.new.self c.args.keys.now c.loop-key.key-index c.loop-key.output c.key.new.output got.0 got.1
+    c.loop-key-test.true c.loop-key.invariant got.2 got.3
 
 pub returns : goal.returns
 returns c =
-    subst (λ (keys : List ℕ). Types c.args.self.now keys c.loop-key.output.said.items c.loop-key.output.shown.items c.loop-key.self) (take_all c.loop-key.key-index c.args.keys.now c.loop-key-test.false) c.loop-key.invariant
+    subst (λ (keys : List ℕ). Types c.args.self.now keys c.loop-key.output.said.items c.loop-key.output.shown.items c.loop-key.self)
+    (take_all c.loop-key.key-index c.args.keys.now c.loop-key-test.false) c.loop-key.invariant

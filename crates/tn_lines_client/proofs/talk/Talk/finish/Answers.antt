@@ -5,4 +5,5 @@ use Rattle.tn_lines_client.proofs.talk.Talk.finish.Goals as goal
 
 pub returns-then-is_to_finish : goal.returns-then-is_to_finish
 returns-then-is_to_finish g c = λ keys service screen warned kind at first had.
-    kept_more kind at first keys keys service service _ _ screen warned c.args.self.now _ (keeps_same keys) (keeps_same service) c.finish.ensures.contents refl refl refl refl refl refl had
+    kept_more kind at first keys keys service service _ _ screen warned c.args.self.now _ (keeps_same keys)
+    (keeps_same service) c.finish.ensures.contents refl refl refl refl refl refl had

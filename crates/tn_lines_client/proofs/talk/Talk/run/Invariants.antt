@@ -5,5 +5,7 @@ use Rattle.tn_lines_client.proofs.talk.Talk.run.Given as goal
 abbrev pub invariant-loop : goal.invariant-loop
 invariant-loop g l =
     (goal.iterator-loop g).can_next l.iterator' × (goal.iterator-loop g).is_finite l.iterator'
-    × GoesOn (streams (g.K.Source.remaining l.fn.keys) (g.N.Source.remaining l.fn.service) (g.W.Drain.contents l.fn.writer) (g.S.Drain.contents l.fn.screen) (g.A.Await.warned l.fn.ready)) l.fn.self
-    (streams (g.K.Source.remaining l.keys) (g.N.Source.remaining l.service) (g.W.Drain.contents l.writer) (g.S.Drain.contents l.screen) (g.A.Await.warned l.ready)) l.self
+    × GoesOn (streams (g.K.Source.remaining l.fn.keys) (g.N.Source.remaining l.fn.service) (g.W.Drain.contents l.fn.writer) (g.S.Drain.contents l.fn.screen)
+    (g.A.Await.warned l.fn.ready)) l.fn.self
+    (streams (g.K.Source.remaining l.keys) (g.N.Source.remaining l.service) (g.W.Drain.contents l.writer) (g.S.Drain.contents l.screen)
+    (g.A.Await.warned l.ready)) l.self

@@ -6,7 +6,8 @@ use Rattle.tn_lines_client.proofs.talk.Talk.take_bytes.Goals as goal
 pub returns-in-Ok-eq0 : goal.returns-in-Ok-eq0
 returns-in-Ok-eq0 g c = λ keys told kind at first had.
     kept_more kind at first keys keys _ _ told told _ _ c.args.self.now _ (keeps_same keys)
-    (reads_zero _ _ c.read_some.result c.in-Ok-eq0.field-0 _ c.in-Ok-eq0.is c.in-Ok-eq0.field-0-test c.read_some.ensures.bytes) (keeps_same told) refl refl refl refl refl refl had
+    (reads_zero _ _ c.read_some.result c.in-Ok-eq0.field-0 _ c.in-Ok-eq0.is c.in-Ok-eq0.field-0-test c.read_some.ensures.bytes)
+    (keeps_same told) refl refl refl refl refl refl had
 
 pub returns-in_ok-show-in-Ok : goal.returns-in_ok-show-in-Ok
 returns-in_ok-show-in-Ok g c = λ keys told kind at first had.
@@ -14,8 +15,10 @@ returns-in_ok-show-in-Ok g c = λ keys told kind at first had.
 
 pub returns-in-Err : goal.returns-in-Err
 returns-in-Err g c = λ keys told kind at first had.
-    kept_more kind at first keys keys _ _ told told _ _ c.args.self.now _ (keeps_same keys) c.in-Err.ensures.bytes (keeps_same told) refl refl refl refl refl refl had
+    kept_more kind at first keys keys _ _ told told _ _ c.args.self.now _ (keeps_same keys) c.in-Err.ensures.bytes
+    (keeps_same told) refl refl refl refl refl refl had
 
 pub returns-in-Err-2 : goal.returns-in-Err-2
 returns-in-Err-2 g c = λ keys told kind at first had.
-    kept_more kind at first keys keys _ _ told told _ _ c.args.self.now _ (keeps_same keys) c.in-Err-2.ensures.bytes (keeps_same told) refl refl refl refl refl refl had
+    kept_more kind at first keys keys _ _ told told _ _ c.args.self.now _ (keeps_same keys) c.in-Err-2.ensures.bytes
+    (keeps_same told) refl refl refl refl refl refl had

@@ -20,4 +20,5 @@ returns-in-Ok g c =
 
 pub returns-in-Err : goal.returns-in-Err
 returns-in-Err g c = λ service told warned kind at first had.
-    kept_more kind at first _ _ service service told told _ warned c.args.self.now _ c.in-Err.ensures.bytes (keeps_same service) (keeps_same told) refl refl refl refl refl refl had
+    kept_more kind at first _ _ service service told told _ warned c.args.self.now _ c.in-Err.ensures.bytes (keeps_same service)
+    (keeps_same told) refl refl refl refl refl refl had

@@ -15,4 +15,5 @@ returns-in-Ok g c = λ keys service screen warned kind at first had.
 
 pub returns-in-Err : goal.returns-in-Err
 returns-in-Err g c = λ keys service screen warned kind at first had.
-    kept_more kind at first keys keys service service _ _ screen warned c.args.self.now _ (keeps_same keys) (keeps_same service) c.in-Err.ensures.bytes refl refl refl refl refl refl had
+    kept_more kind at first keys keys service service _ _ screen warned c.args.self.now _ (keeps_same keys)
+    (keeps_same service) c.in-Err.ensures.bytes refl refl refl refl refl refl had

@@ -1,4 +1,4 @@
-use Rattle.tn_machines.proofs.server.Hanging.{hangs_up}
+use Rattle.tn_machines.proofs.of_terminal.Hanging.{hangs_up}
 use Rattle.tn_machines.proofs.server.laws.all_goes_before_a_hang_up.Goals as goal
 
 pub returns : goal.returns

@@ -1,4 +1,4 @@
-use Rattle.tn_machines.proofs.server.Ending.{fault_cause}
+use Rattle.tn_machines.proofs.of_terminal.Ending.{fault_cause}
 use Rattle.tn_machines.proofs.server.laws.faults_have_causes.Goals as goal
 
 pub returns : goal.returns

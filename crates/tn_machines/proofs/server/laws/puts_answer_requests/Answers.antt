@@ -1,4 +1,4 @@
-use Rattle.tn_machines.proofs.server.Requesting.{puts_answer}
+use Rattle.tn_machines.proofs.of_terminal.Requesting.{puts_answer}
 use Rattle.tn_machines.proofs.server.laws.puts_answer_requests.Goals as goal
 
 pub returns : goal.returns

@@ -27,5 +27,7 @@ loop-at-preserved c = record {
   within = omega arith;
   advances =
       rw (take_more c.args.bytes.now c.loop-at.at 0 c.loop-at-test.true)
-      (StepAdvances-append (Inside (gathered_of c.args.self.now)) (Inside (gathered_of c.loop-at.self)) (Inside (gathered_of c.keep.new.self)) _ _ [] [] c.loop-at.invariant.advances (inside_plain (gathered_of c.loop-at.self) (gathered_of c.keep.new.self) _ c.if-byte.false c.in_ok-keep.ensures.ok));
+      (StepAdvances-append (Inside (gathered_of c.args.self.now)) (Inside (gathered_of c.loop-at.self))
+      (Inside (gathered_of c.keep.new.self)) _ _ [] [] c.loop-at.invariant.advances
+      (inside_plain (gathered_of c.loop-at.self) (gathered_of c.keep.new.self) _ c.if-byte.false c.in_ok-keep.ensures.ok));
 }

@@ -8,11 +8,13 @@ pub returns-in-Byte-clause-err : goal.returns-in-Byte-clause-err
 returns-in-Byte-clause-err g c = rw c.in-Byte.is (on_err_weaker _ (refuses_first g.S.Sink.takes g.S.Sink.gives_up _ [] _ _) c.item.ensures.err)
 
 pub returns-in_err-item-in-CrByte-clause-err : goal.returns-in_err-item-in-CrByte-clause-err
-returns-in_err-item-in-CrByte-clause-err g c = rw c.in-CrByte.is (on_err _ _ (refuses_first g.S.Sink.takes g.S.Sink.gives_up _ ((Byte c.in-CrByte.byte ∷ []) ∷ []) _ _ c.in_err-item-in-CrByte.ensures.err))
+returns-in_err-item-in-CrByte-clause-err g c = rw c.in-CrByte.is
+    (on_err _ _ (refuses_first g.S.Sink.takes g.S.Sink.gives_up _ ((Byte c.in-CrByte.byte ∷ []) ∷ []) _ _ c.in_err-item-in-CrByte.ensures.err))
 
 pub returns-in_ok-item-in-CrByte-clause-err : goal.returns-in_ok-item-in-CrByte-clause-err
 returns-in_ok-item-in-CrByte-clause-err g c =
-    rw c.in-CrByte.is (on_err_weaker _ (refuses_second g.S.Sink.takes g.S.Sink.gives_up _ _ _ _ _ c.in_ok-item-in-CrByte.ensures.ok) c.item-in-CrByte-2.ensures.err)
+    rw c.in-CrByte.is (on_err_weaker _ (refuses_second g.S.Sink.takes g.S.Sink.gives_up _ _ _ _ _ c.in_ok-item-in-CrByte.ensures.ok)
+    c.item-in-CrByte-2.ensures.err)
 
 pub returns-in-Newline-clause-err : goal.returns-in-Newline-clause-err
 returns-in-Newline-clause-err g c = rw c.in-Newline.is (on_err_weaker _ (refuses_first g.S.Sink.takes g.S.Sink.gives_up _ [] _ _) c.item-in-Newline.ensures.err)

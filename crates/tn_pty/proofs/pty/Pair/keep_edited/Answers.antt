@@ -11,8 +11,17 @@ pub returns-clause-pair : goal.returns-clause-pair
 returns-clause-pair c =
     let p = c.self.inside in
     let bytes = take c.joining_front-count.result c.args.bytes.now in
-    let view : Terminal = record { settings = p.roles; line = p.line; entries = p.entries.items; queue = p.queue; width = p.width; height = p.height; closed = p.closed } in
-    let joins : All (JoinsEdited p.roles.chars) bytes = subst (λ (s : Settings). All (JoinsEdited s.chars) bytes) c.settings.ensures c.joining_front-count.ensures.joins in
+    let view : Terminal = record {
+      settings = p.roles;
+      line = p.line;
+      entries = p.entries.items;
+      queue = p.queue;
+      width = p.width;
+      height = p.height;
+      closed = p.closed;
+    } in
+    let joins : All (JoinsEdited p.roles.chars) bytes = subst (λ (s : Settings). All (JoinsEdited s.chars) bytes) c.settings.ensures
+    c.joining_front-count.ensures.joins in
     after_joining view bytes c.keep_run-kept.new.self joins c.keep_run-kept.ensures.each
     ∙ ap (λ (t : Terminal). after_all Edited t bytes) c.self.view_is
 
@@ -20,6 +29,15 @@ pub returns-clause-accepted : goal.returns-clause-accepted
 returns-clause-accepted c =
     let p = c.self.inside in
     let bytes = take c.joining_front-count.result c.args.bytes.now in
-    let view : Terminal = record { settings = p.roles; line = p.line; entries = p.entries.items; queue = p.queue; width = p.width; height = p.height; closed = p.closed } in
-    let joins : All (JoinsEdited p.roles.chars) bytes = subst (λ (s : Settings). All (JoinsEdited s.chars) bytes) c.settings.ensures c.joining_front-count.ensures.joins in
+    let view : Terminal = record {
+      settings = p.roles;
+      line = p.line;
+      entries = p.entries.items;
+      queue = p.queue;
+      width = p.width;
+      height = p.height;
+      closed = p.closed;
+    } in
+    let joins : All (JoinsEdited p.roles.chars) bytes = subst (λ (s : Settings). All (JoinsEdited s.chars) bytes) c.settings.ensures
+    c.joining_front-count.ensures.joins in
     subst (λ (t : Terminal). AcceptsAll Edited t bytes) c.self.view_is (accepts_quiet Edited view bytes c.if-self.false (joining_quiet p.roles bytes joins))

@@ -13,7 +13,8 @@ returns-then-echo-clause-advances c =
     let old = c.args.self.now in
     let r = role_of_key old.settings c.args.key in
     let line : c.show_echo.new.self.line ≡ line_after old.line r = grind (arith, common_steps) in
-    subst (λ roles. Advances old.line roles (gain_of old.line r) c.show_echo.new.self.line) (roles_of-one old.settings c.args.key) (rw line (advances old.line r))
+    subst (λ roles. Advances old.line roles (gain_of old.line r) c.show_echo.new.self.line) (roles_of-one old.settings c.args.key)
+    (rw line (advances old.line r))
 
 pub returns-else-echo-clause-advances : goal.returns-else-echo-clause-advances
 returns-else-echo-clause-advances c =

@@ -12,10 +12,12 @@ loop-taken-preserved c =
     record {
       within = omega (arith, c.in-Ok.ensures.within, length-take (length bytes - i) (drop i bytes), length-drop i bytes, before.within);
       pair = after_more c.args.input old c.loop-taken.self c.take_front.new.self bytes i before.pair before.accepted c.in-Ok.count c.in-Ok.ensures.pair;
-      accepted = accepts_more c.args.input old c.loop-taken.self c.take_front.new.self bytes i before.pair before.accepted c.in-Ok.count c.in-Ok.ensures.accepted;
+      accepted = accepts_more c.args.input old c.loop-taken.self c.take_front.new.self bytes i before.pair before.accepted c.in-Ok.count
+          c.in-Ok.ensures.accepted;
     }
 
 pub returns-in-Err-clause-refused : goal.returns-in-Err-clause-refused
 returns-in-Err-clause-refused c =
     let before = c.loop-taken.invariant in
-    stops_more c.args.input c.args.self.now c.loop-taken.self c.take_front.new.self c.args.bytes.now c.loop-taken.taken before.pair before.accepted c.in-Err.fault c.in-Err.ensures.refused
+    stops_more c.args.input c.args.self.now c.loop-taken.self c.take_front.new.self c.args.bytes.now c.loop-taken.taken before.pair before.accepted
+    c.in-Err.fault c.in-Err.ensures.refused

@@ -15,7 +15,15 @@ returns-then-settings c =
     let keys = c.args.keys.now in
     let old = c.args.self.now in
     let p = c.self.inside in
-    let view : Terminal = record { settings = p.roles; line = p.line; entries = p.entries.items; queue = p.queue; width = p.width; height = p.height; closed = p.closed } in
+    let view : Terminal = record {
+      settings = p.roles;
+      line = p.line;
+      entries = p.entries.items;
+      queue = p.queue;
+      width = p.width;
+      height = p.height;
+      closed = p.closed;
+    } in
     let plain : ArePlain view keys = subst (λ (t : Terminal). ArePlain t keys) (sym c.self.view_is) c.requires in
     let kept = c.keep_run-kept in
     let flag : p.roles.flags.echo ≡ true = ap (λ (s : Settings). s.flags.echo) (sym c.settings.ensures) ∙ c.if-settings.true in
@@ -32,7 +40,15 @@ returns-else-echo c =
     let echo = c.args.echo in
     let keys = c.args.keys.now in
     let p = c.self.inside in
-    let view : Terminal = record { settings = p.roles; line = p.line; entries = p.entries.items; queue = p.queue; width = p.width; height = p.height; closed = p.closed } in
+    let view : Terminal = record {
+      settings = p.roles;
+      line = p.line;
+      entries = p.entries.items;
+      queue = p.queue;
+      width = p.width;
+      height = p.height;
+      closed = p.closed;
+    } in
     let plain : ArePlain view keys = subst (λ (t : Terminal). ArePlain t keys) (sym c.self.view_is) c.requires in
     let kept = c.keep_run-kept in
     elim c.else-echo.branch [

@@ -13,8 +13,17 @@ pub returns-then-shows-clause-accepted : goal.returns-then-shows-clause-accepted
 returns-then-shows-clause-accepted c =
     let p = c.self.inside in
     let keys = take c.ordinary_front-count.result c.args.keys.now in
-    let view : Terminal = record { settings = p.roles; line = p.line; entries = p.entries.items; queue = p.queue; width = p.width; height = p.height; closed = p.closed } in
-    subst (λ (t : Terminal). AcceptsAll (Keys c.args.echo) t keys) c.self.view_is (accepts_plain c.args.echo view keys c.if-self.false c.ordinary_front-count.ensures.plain)
+    let view : Terminal = record {
+      settings = p.roles;
+      line = p.line;
+      entries = p.entries.items;
+      queue = p.queue;
+      width = p.width;
+      height = p.height;
+      closed = p.closed;
+    } in
+    subst (λ (t : Terminal). AcceptsAll (Keys c.args.echo) t keys) c.self.view_is
+    (accepts_plain c.args.echo view keys c.if-self.false c.ordinary_front-count.ensures.plain)
 
 pub returns-clause-pair : goal.returns-clause-pair
 returns-clause-pair c =
@@ -22,8 +31,17 @@ returns-clause-pair c =
     let p = c.self.inside in
     let n = c.edit_run.result in
     let typed = take n c.args.keys.now in
-    let view : Terminal = record { settings = p.roles; line = p.line; entries = p.entries.items; queue = p.queue; width = p.width; height = p.height; closed = p.closed } in
-    let off : (echo && view.settings.flags.echo) ≡ false = ap (λ (t : Terminal). echo && t.settings.flags.echo) c.self.view_is ∙ sym c.shows-shows.ensures ∙ c.if-shows.false in
+    let view : Terminal = record {
+      settings = p.roles;
+      line = p.line;
+      entries = p.entries.items;
+      queue = p.queue;
+      width = p.width;
+      height = p.height;
+      closed = p.closed;
+    } in
+    let off : (echo && view.settings.flags.echo) ≡ false = ap (λ (t : Terminal). echo && t.settings.flags.echo) c.self.view_is ∙ sym c.shows-shows.ensures
+    ∙ c.if-shows.false in
     let quiet : All (IsQuiet view.settings) typed = c.edit_run.ensures.quiet in
     same_parts view c.edit_run.new.self (line_after_all p.line (each_role p.roles typed)) view.entries view.entries view.queue view.queue
     c.edit_run.ensures.line refl refl
@@ -35,6 +53,14 @@ returns-clause-accepted c =
     let p = c.self.inside in
     let n = c.edit_run.result in
     let typed = take n c.args.keys.now in
-    let view : Terminal = record { settings = p.roles; line = p.line; entries = p.entries.items; queue = p.queue; width = p.width; height = p.height; closed = p.closed } in
+    let view : Terminal = record {
+      settings = p.roles;
+      line = p.line;
+      entries = p.entries.items;
+      queue = p.queue;
+      width = p.width;
+      height = p.height;
+      closed = p.closed;
+    } in
     let quiet : All (IsQuiet view.settings) typed = c.edit_run.ensures.quiet in
     subst (λ (t : Terminal). AcceptsAll (Keys c.args.echo) t typed) c.self.view_is (accepts_quiet (Keys c.args.echo) view typed c.if-self.false quiet)

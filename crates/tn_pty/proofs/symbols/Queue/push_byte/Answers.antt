@@ -20,7 +20,8 @@ invariant_of-self c =
     let room : length p.bytes.items < p.bytes.capacity = omega arith in
     let marks : length p.marks.items < p.marks.capacity = omega (arith, c.self.invariant.0, c.self.invariant.1, c.self.invariant.2, feeds-le p.bytes.items) in
     let first : put.new.self ≡ buffer (p.bytes.items ++ c.args.byte ∷ []) p.bytes.capacity = pushed put.result put.ensures.variant put.ensures.ok room in
-    let second : mark.new.self ≡ buffer (p.marks.items ++ c.args.newline ∷ []) p.marks.capacity = pushed mark.result mark.ensures.variant mark.ensures.ok marks in (
+    let second : mark.new.self ≡ buffer (p.marks.items ++ c.args.newline ∷ []) p.marks.capacity =
+    pushed mark.result mark.ensures.variant mark.ensures.ok marks in (
       ap (λ (b : Buffer ℕ). b.capacity) first ∙ c.self.invariant.0,
       ap (λ (m : Buffer Bool). m.capacity) second ∙ c.self.invariant.1,
       ap (λ (m : Buffer Bool). length m.items) second
@@ -49,7 +50,8 @@ returns-then-byte-eq10 c =
     let room : length p.bytes.items < p.bytes.capacity = omega arith in
     let marks : length p.marks.items < p.marks.capacity = omega (arith, c.self.invariant.0, c.self.invariant.1, c.self.invariant.2, feeds-le p.bytes.items) in
     let first : put.new.self ≡ buffer (p.bytes.items ++ c.args.byte ∷ []) p.bytes.capacity = pushed put.result put.ensures.variant put.ensures.ok room in
-    let second : mark.new.self ≡ buffer (p.marks.items ++ c.args.newline ∷ []) p.marks.capacity = pushed mark.result mark.ensures.variant mark.ensures.ok marks in
+    let second : mark.new.self ≡ buffer (p.marks.items ++ c.args.newline ∷ []) p.marks.capacity =
+    pushed mark.result mark.ensures.variant mark.ensures.ok marks in
     let size : length c.args.self.now ≡ length p.bytes.items = ap length (sym c.self.view_is) ∙ length-marked p.bytes.items p.marks.items in
     ap (λ (b : Buffer ℕ). marked_symbols b.items mark.new.self.items) first
     ∙ ap (λ (m : Buffer Bool). marked_symbols (p.bytes.items ++ c.args.byte ∷ []) m.items) second

@@ -20,7 +20,8 @@ invariant_of-self c =
     let more = replicate (feeds bytes) c.args.newlines in
     let size : length c.args.self.now ≡ length p.bytes.items = ap length (sym c.self.view_is) ∙ length-marked p.bytes.items p.marks.items in
     let all : take put.result bytes ≡ bytes = take_all put.result bytes (omega (arith, c.requires, size, c.self.invariant.0, put.ensures.count)) in
-    let first : put.new.self ≡ buffer (p.bytes.items ++ bytes) p.bytes.capacity = put.ensures.items ∙ ap (λ xs. buffer (p.bytes.items ++ xs) p.bytes.capacity) all in
+    let first : put.new.self ≡ buffer (p.bytes.items ++ bytes) p.bytes.capacity =
+    put.ensures.items ∙ ap (λ xs. buffer (p.bytes.items ++ xs) p.bytes.capacity) all in
     let count : length (p.marks.items ++ more) ≡ feeds (p.bytes.items ++ bytes) =
     omega (arith, c.self.invariant.2, feeds-append p.bytes.items bytes, length-append p.marks.items more, length-replicate (feeds bytes) c.args.newlines) in (
       ap (λ (b : Buffer ℕ). b.capacity) first ∙ c.self.invariant.0,
@@ -36,7 +37,8 @@ returns c =
     let more = replicate (feeds bytes) c.args.newlines in
     let size : length c.args.self.now ≡ length p.bytes.items = ap length (sym c.self.view_is) ∙ length-marked p.bytes.items p.marks.items in
     let all : take put.result bytes ≡ bytes = take_all put.result bytes (omega (arith, c.requires, size, c.self.invariant.0, put.ensures.count)) in
-    let first : put.new.self ≡ buffer (p.bytes.items ++ bytes) p.bytes.capacity = put.ensures.items ∙ ap (λ xs. buffer (p.bytes.items ++ xs) p.bytes.capacity) all in
+    let first : put.new.self ≡ buffer (p.bytes.items ++ bytes) p.bytes.capacity =
+    put.ensures.items ∙ ap (λ xs. buffer (p.bytes.items ++ xs) p.bytes.capacity) all in
     ap (λ (b : Buffer ℕ). marked_symbols b.items c.push_marks.new.marks.items) first
     ∙ ap (λ (m : Buffer Bool). marked_symbols (p.bytes.items ++ bytes) m.items) c.push_marks.ensures
     ∙ marked-append bytes more p.bytes.items p.marks.items c.self.invariant.2

@@ -9,7 +9,15 @@ pub returns-clause-cause : goal.returns-clause-cause
 returns-clause-cause c =
     let p = c.self.inside in
     let r = c.raw_key.result in
-    let old : End = record { decoder = p.decoder; terms = record { options = p.terms.options; wish = p.terms.wish }; modes = p.terms.modes; table = p.table; terminal = p.pair; pulled = p.pulled; failed = p.failed } in
+    let old : End = record {
+      decoder = p.decoder;
+      terms = record { options = p.terms.options; wish = p.terms.wish };
+      modes = p.terms.modes;
+      table = p.table;
+      terminal = p.pair;
+      pulled = p.pulled;
+      failed = p.failed;
+    } in
     let edit : edits p.terms.modes.current ≡ false = cc in
     subst (λ (e : End). IfErr r (λ fault. IsKeyCause e.terminal (role_of_typed e c.args.byte) fault)) c.self.view_is
     (refused_key old c.raw_key.new.self c.args.byte r edit c.raw_key.ensures.refused)

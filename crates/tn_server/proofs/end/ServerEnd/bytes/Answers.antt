@@ -14,7 +14,15 @@ returns-then-edit c =
     let p = c.self.inside in
     let bytes = c.args.bytes.now in
     let r = c.edited_run.result in
-    let old : End = record { decoder = p.decoder; terms = record { options = p.terms.options; wish = p.terms.wish }; modes = p.terms.modes; table = p.table; terminal = p.pair; pulled = p.pulled; failed = p.failed } in
+    let old : End = record {
+      decoder = p.decoder;
+      terms = record { options = p.terms.options; wish = p.terms.wish };
+      modes = p.terms.modes;
+      table = p.table;
+      terminal = p.pair;
+      pulled = p.pulled;
+      failed = p.failed;
+    } in
     let new : End = record old { terminal = c.edited_run.new.self } in
     let edit : edits p.terms.modes.current ≡ true = ap edits (sym c.current-mode.ensures) ∙ sym c.edit.ensures ∙ c.if-edit.true in
     let input : Edited ≡ input_at old = ap (λ (e : Bool). input_of e (echoes p.terms.options)) (sym edit) in
@@ -36,7 +44,15 @@ returns c =
     let p = c.self.inside in
     let bytes = c.args.bytes.now in
     let r = c.type_run.result in
-    let old : End = record { decoder = p.decoder; terms = record { options = p.terms.options; wish = p.terms.wish }; modes = p.terms.modes; table = p.table; terminal = p.pair; pulled = p.pulled; failed = p.failed } in
+    let old : End = record {
+      decoder = p.decoder;
+      terms = record { options = p.terms.options; wish = p.terms.wish };
+      modes = p.terms.modes;
+      table = p.table;
+      terminal = p.pair;
+      pulled = p.pulled;
+      failed = p.failed;
+    } in
     let new : End = record old { terminal = c.type_run.new.self } in
     let edit : edits p.terms.modes.current ≡ false = ap edits (sym c.current-mode.ensures) ∙ sym c.edit.ensures ∙ c.if-edit.false in
     let input : Keys c.echoes-echo.result ≡ input_at old = ap Keys c.echoes-echo.ensures ∙ ap (λ (e : Bool). input_of e (echoes p.terms.options)) (sym edit) in

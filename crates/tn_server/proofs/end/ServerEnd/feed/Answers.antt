@@ -9,7 +9,8 @@ returns-in-Ok-clause-ok c =
     let same = same_loan c.feed_to-fed.result _ _ _ _ _ f.ok f.refused f.memory f.failed_hands in
     let here = c.self-2.view_is ∙ c.self-1.given.1 (sym same.end) in
     let out = c.out-1.given.1 (sym same.out) in
-    rw (← c.self.view_is) (feeds_of _ _ _ _ _ _ _ c.feed_to-fed.new.sink refl (rw c.replace-decoder.ensures.value at c.in-Ok.ensures.ok) (ap (λ (e : End). record e { decoder = c.feed_to-fed.new.self }) here) (ap (λ o. o.items) out))
+    rw (← c.self.view_is) (feeds_of _ _ _ _ _ _ _ c.feed_to-fed.new.sink refl (rw c.replace-decoder.ensures.value at c.in-Ok.ensures.ok)
+    (ap (λ (e : End). record e { decoder = c.feed_to-fed.new.self }) here) (ap (λ o. o.items) out))
 
 pub returns-in-Err-clause-halts : goal.returns-in-Err-clause-halts
 returns-in-Err-clause-halts c = λ _.
@@ -17,7 +18,10 @@ returns-in-Err-clause-halts c = λ _.
     let same = same_loan c.feed_to-fed.result _ _ _ _ _ f.ok f.refused f.memory f.failed_hands in
     let here = c.self-2.view_is ∙ c.self-1.given.1 (sym same.end) in
     let out = c.out-1.given.1 (sym same.out) in
-    rw (← c.self.view_is) (halts_of c.feed_to-fed.result _ c.in-Err.is _ _ _ _ _ _ _ c.feed_to-fed.new.sink refl refl (rw c.replace-decoder.ensures.value at f.refused) (rw c.replace-decoder.ensures.value at f.memory) (rw c.replace-decoder.ensures.value at f.failed) f.failed_hands (ap (λ (e : End). record e { decoder = c.feed_to-fed.new.self; failed = true }) here) (ap (λ o. o.items) out))
+    rw (← c.self.view_is) (halts_of c.feed_to-fed.result _ c.in-Err.is _ _ _ _ _ _ _ c.feed_to-fed.new.sink refl refl
+    (rw c.replace-decoder.ensures.value at f.refused) (rw c.replace-decoder.ensures.value at f.memory)
+    (rw c.replace-decoder.ensures.value at f.failed) f.failed_hands (ap (λ (e : End). record e { decoder = c.feed_to-fed.new.self; failed = true }) here)
+    (ap (λ o. o.items) out))
 
 pub returns-in-Err-clause-failed : goal.returns-in-Err-clause-failed
 returns-in-Err-clause-failed c =

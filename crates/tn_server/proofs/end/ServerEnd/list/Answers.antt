@@ -9,7 +9,8 @@ use Rattle.tn_server.proofs.end.ServerEnd.list.Goals as goal
 pub put_list-requires : goal.put_list-requires
 unfolding server_answers
 put_list-requires c =
-    answers_few server_next server_answer c.self.inside.table c.as_slice.result.now _ _ _ _ (c.deref.ensures.value ∙ c.in_ok-is_asked.ensures.answers) c.new-answers.ensures.items c.as_slice.ensures c.requires
+    answers_few server_next server_answer c.self.inside.table c.as_slice.result.now _ _ _ _
+    (c.deref.ensures.value ∙ c.in_ok-is_asked.ensures.answers) c.new-answers.ensures.items c.as_slice.ensures c.requires
 
 pub returns-in_err-is_asked-clause-some : goal.returns-in_err-is_asked-clause-some
 unfolding server_answers
@@ -22,7 +23,8 @@ pub returns-in_err-put_list-clause-some : goal.returns-in_err-put_list-clause-so
 unfolding server_answers
 returns-in_err-put_list-clause-some c =
     let p = err_from_is_err_and c.from_residual-in_err-put_list.result c.from_residual-in_err-put_list.ensures.1 in
-    let some = answered_some server_next server_answer c.self.inside.table c.as_slice.result.now _ _ (c.deref.ensures.value ∙ c.in_ok-is_asked.ensures.answers) c.new-answers.ensures.items c.in_err-put_list.ensures.some in
+    let some = answered_some server_next server_answer c.self.inside.table c.as_slice.result.now _ _
+    (c.deref.ensures.value ∙ c.in_ok-is_asked.ensures.answers) c.new-answers.ensures.items c.in_err-put_list.ensures.some in
     rw p.1 (rw c.as_slice.ensures at some)
 
 pub returns-in_err-announce-clause-some : goal.returns-in_err-announce-clause-some

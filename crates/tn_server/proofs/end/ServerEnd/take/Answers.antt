@@ -6,7 +6,8 @@ use Rattle.tn_server.proofs.lemmas.Ends.{waits_are}
 use Rattle.tn_server.proofs.end.ServerEnd.take.Goals as goal
 
 pub returns-in-Some-clause-ok : goal.returns-in-Some-clause-ok
-returns-in-Some-clause-ok c = rw (← c.self.view_is) (goes_took _ c.take.new.self c.in-Some.entry c.args.out.now.items c.in-Some.ensures.some c.in-Some.ensures.rest)
+returns-in-Some-clause-ok c = rw (← c.self.view_is) (goes_took _ c.take.new.self c.in-Some.entry c.args.out.now.items c.in-Some.ensures.some
+    c.in-Some.ensures.rest)
 
 pub returns-in-Some-clause-entry : goal.returns-in-Some-clause-entry
 returns-in-Some-clause-entry c = λ h s.
@@ -18,8 +19,10 @@ returns-in-Some-clause-entry c = λ h s.
 
 pub returns-then-not-owes_ga-clause-ok : goal.returns-then-not-owes_ga-clause-ok
 returns-then-not-owes_ga-clause-ok c =
-    rw (← c.self.view_is, c.in_default.ensures.none.1) (goes_idle _ false c.args.out.now.items c.args.out.now.items c.in_default.ensures.none.0 (sym c.if-not-owes_ga.true ∙ c.owes_ga.ensures) (sym (append-nil c.args.out.now.items)))
+    rw (← c.self.view_is, c.in_default.ensures.none.1) (goes_idle _ false c.args.out.now.items c.args.out.now.items c.in_default.ensures.none.0
+    (sym c.if-not-owes_ga.true ∙ c.owes_ga.ensures) (sym (append-nil c.args.out.now.items)))
 
 pub returns-clause-ok : goal.returns-clause-ok
 returns-clause-ok c =
-    rw (← c.self.view_is, c.in_default.ensures.none.1) (goes_idle _ true c.args.out.now.items c.put_cmd.new.out.items c.in_default.ensures.none.0 (sym c.if-not-owes_ga.false ∙ c.owes_ga.ensures) c.in_ok-put_cmd.ensures.ok)
+    rw (← c.self.view_is, c.in_default.ensures.none.1) (goes_idle _ true c.args.out.now.items c.put_cmd.new.out.items c.in_default.ensures.none.0
+    (sym c.if-not-owes_ga.false ∙ c.owes_ga.ensures) c.in_ok-put_cmd.ensures.ok)

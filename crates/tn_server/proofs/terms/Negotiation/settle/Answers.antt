@@ -13,8 +13,11 @@ returns-in_err-ask_echo-clause-err c =
     let p = err_from_is_err_and c.from_residual-in_err-ask_echo.result c.from_residual-in_err-ask_echo.ensures.1 in
     let was = c.args.was_on in
     let n = c.args.self.now in
-    rw p.1 (cut_after_two _ (new_table_items was (linemode n.options) c.args.table.now) (mode_items (told_now was n)) (echo_items (is_due was c.args.is_set n) (wants_echo (masks_by was n).asked c.args.flags.now) n.options) c.args.out.now.items c.put_table.new.out.items c.put_mode.new.out.items c.ask_echo.new.out.items refl
-    (rw c.has_linemode-is_on.ensures at c.in_ok-put_table.ensures.ok) (rw c.ask_mode-told.ensures.told at c.in_ok-put_mode.ensures.ok) c.in_err-ask_echo.ensures.err)
+    rw p.1 (cut_after_two _ (new_table_items was (linemode n.options) c.args.table.now) (mode_items (told_now was n))
+    (echo_items (is_due was c.args.is_set n) (wants_echo (masks_by was n).asked c.args.flags.now) n.options) c.args.out.now.items c.put_table.new.out.items
+    c.put_mode.new.out.items c.ask_echo.new.out.items refl
+    (rw c.has_linemode-is_on.ensures at c.in_ok-put_table.ensures.ok)
+    (rw c.ask_mode-told.ensures.told at c.in_ok-put_mode.ensures.ok) c.in_err-ask_echo.ensures.err)
 
 pub returns-clause-out : goal.returns-clause-out
 returns-clause-out c = grind (arith, common_steps)

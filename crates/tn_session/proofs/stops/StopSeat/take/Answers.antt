@@ -4,4 +4,8 @@ use Rattle.tn_queue.proofs.lemmas.Queue as channel
 use Rattle.tn_session.proofs.stops.StopSeat.take.Goals as goal
 
 pub try_recv_as-requires-clause-rule : goal.try_recv_as-requires-clause-rule
-try_recv_as-requires-clause-rule g c = (channel.takes c.args.self.now.pass.id (view c.args.self.now.pass) c.requires.role.0 (ap (λ v. v.taken) c.requires.role.1), channel.leaves c.args.self.now.pass.id (view c.args.self.now.pass))
+try_recv_as-requires-clause-rule g c = (
+  channel.takes c.args.self.now.pass.id (view c.args.self.now.pass) c.requires.role.0
+      (ap (λ v. v.taken) c.requires.role.1),
+  channel.leaves c.args.self.now.pass.id (view c.args.self.now.pass),
+)

@@ -15,7 +15,10 @@ pub another-requires-clause-rule : goal.another-requires-clause-rule
 another-requires-clause-rule c = channel.cut_taker c.learn_as.new.pass.id (view c.learn_as.new.pass)
 
 pub returns-clause-same : goal.returns-clause-same
-returns-clause-same c = same_words (view c.args.self.pass) (view c.in-Some.field-0.pass) (view c.absorb.new.pass) (view c.learn_as.new.pass) (view c.another.new.pass) c.requires.told.0 c.requires.told.1 c.absorb.ensures.rule c.learn_as.ensures.channel.2 c.another.ensures.rule.0
+returns-clause-same c = same_words (view c.args.self.pass) (view c.in-Some.field-0.pass) (view c.absorb.new.pass) (view c.learn_as.new.pass)
+    (view c.another.new.pass) c.requires.told.0 c.requires.told.1 c.absorb.ensures.rule c.learn_as.ensures.channel.2 c.another.ensures.rule.0
 
 pub returns-clause-told : goal.returns-clause-told
-returns-clause-told c took none = told_first (view c.args.self.pass) (view c.in-Some.field-0.pass) (view c.absorb.new.pass) c.learn_as.ensures.rule.0 c.absorb.ensures.rule c.learn_as.ensures.rule.1 (subst (λ o. has_stopped o ≡ true) c.in-Some.is took) none
+returns-clause-told c took none = told_first (view c.args.self.pass) (view c.in-Some.field-0.pass)
+    (view c.absorb.new.pass) c.learn_as.ensures.rule.0 c.absorb.ensures.rule c.learn_as.ensures.rule.1
+    (subst (λ o. has_stopped o ≡ true) c.in-Some.is took) none

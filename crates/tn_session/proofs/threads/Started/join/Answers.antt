@@ -11,5 +11,8 @@ returns-clause-net g c =
     let promise = c.args.self.net.promise in
     let left = c.in_ok-net.field-0 in
     let known = known_typing g.Rd.Source.remaining g.Rd.Source.foretold g.Rd.Source.sizes g.Rd.Source.controls promise.reader.value in
-    let kept = c.in_ok-net.ensures in
-    (kept.0, λ none. subst (λ b. TypingSends promise.who b known (view left.pass)) (unseated left.stops (subst (λ o. StopsStay o left.stops) none kept.2)) kept.1)
+    let kept = c.in_ok-net.ensures in (
+      kept.0,
+      λ none. subst (λ b. TypingSends promise.who b known (view left.pass))
+          (unseated left.stops (subst (λ o. StopsStay o left.stops) none kept.2)) kept.1,
+    )

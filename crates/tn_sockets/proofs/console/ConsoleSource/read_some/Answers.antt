@@ -1,5 +1,5 @@
 use Rattle.std.proofs.Common.{[], ◌++◌, ap}
-use Rattle.tn_sockets.proofs.Taking.{given_only}
+use Rattle.tn_sockets.proofs.Giving.{given_only}
 use Rattle.tn_sockets.specs.Passing.{given_of, handed_on}
 use Rattle.tn_sockets.proofs.console.ConsoleSource.read_some.Goals as goal
 
@@ -7,7 +7,8 @@ pub returns-then-is_left-clause-inputs : goal.returns-then-is_left-clause-inputs
 returns-then-is_left-clause-inputs g c =
     let old = c.args.self.now in
     let new = c.leave.new.self in
-    given_only (g.K.Read.remaining old.typing.keys) (g.K.Read.remaining new.typing.keys) old.escaping new.escaping old.asked new.asked old.kept.items new.kept.items (given_of c.leave.result c.leave.new.buf)
+    given_only (g.K.Read.remaining old.typing.keys) (g.K.Read.remaining new.typing.keys) old.escaping new.escaping old.asked new.asked old.kept.items
+    new.kept.items (given_of c.leave.result c.leave.new.buf)
     (ap (λ t. g.K.Read.remaining t.keys) c.leave.ensures.typing) c.leave.ensures.escaping c.leave.ensures.inputs
 
 pub returns-in-Size-clause-inputs : goal.returns-in-Size-clause-inputs
@@ -15,5 +16,6 @@ returns-in-Size-clause-inputs g c =
     let old = c.args.self.now in
     let new = c.take_size.new.self in
     let size = c.take_size.ensures in
-    given_only (g.K.Read.remaining old.typing.keys) (g.K.Read.remaining new.typing.keys) old.escaping new.escaping old.asked new.asked old.kept.items new.kept.items []
+    given_only (g.K.Read.remaining old.typing.keys) (g.K.Read.remaining new.typing.keys) old.escaping new.escaping old.asked new.asked old.kept.items
+    new.kept.items []
     (ap (λ k. g.K.Read.remaining k) size.keys) size.escaping (λ i. handed_on [] (size.asked i) ++ (size.kept i).items)

@@ -11,7 +11,8 @@ returns-then-not-is_given_up-clause-sent g c =
     let n = c.in-Some-next in
     broken (view c.args.self.now.pass) (view c.loop.self.pass) (view c.next-in-loop.new.self.pass) c.in-Some-piece.bytes c.deref-in-loop.result.now
     (contents c.args.self.now.writer) (contents c.loop.self.writer) (contents c.next-in-loop.new.self.writer) (contents c.send_whole.new.writer)
-    c.loop.invariant.2 (n.ensures.took ∙ ap (λ (x : Piece). taken_more (view c.loop.self.pass) x) c.in-Some-piece.is) (ap contents n.ensures.writer) c.deref-in-loop.ensures.value c.in-Err.ensures.begun
+    c.loop.invariant.2 (n.ensures.took ∙ ap (λ (x : Piece). taken_more (view c.loop.self.pass) x) c.in-Some-piece.is)
+    (ap contents n.ensures.writer) c.deref-in-loop.ensures.value c.in-Err.ensures.begun
 
 pub returns-in-Err-clause-sent : goal.returns-in-Err-clause-sent
 returns-in-Err-clause-sent g c =
@@ -19,7 +20,8 @@ returns-in-Err-clause-sent g c =
     let n = c.in-Some-next in
     let sent = broken (view c.args.self.now.pass) (view c.loop.self.pass) (view c.next-in-loop.new.self.pass) c.in-Some-piece.bytes c.deref-in-loop.result.now
     (contents c.args.self.now.writer) (contents c.loop.self.writer) (contents c.next-in-loop.new.self.writer) (contents c.send_whole.new.writer)
-    c.loop.invariant.2 (n.ensures.took ∙ ap (λ (x : Piece). taken_more (view c.loop.self.pass) x) c.in-Some-piece.is) (ap contents n.ensures.writer) c.deref-in-loop.ensures.value c.in-Err.ensures.begun in
+    c.loop.invariant.2 (n.ensures.took ∙ ap (λ (x : Piece). taken_more (view c.loop.self.pass) x) c.in-Some-piece.is)
+    (ap contents n.ensures.writer) c.deref-in-loop.ensures.value c.in-Err.ensures.begun in
     discarded (view c.args.self.now.pass) (view c.next-in-loop.new.self.pass) (view c.discard.new.self.pass)
     (contents c.args.self.now.writer) (contents c.send_whole.new.writer) (contents c.discard.new.self.writer) (contents c.finish-in-Err.new.self)
     sent c.discard.ensures.took (ap contents c.discard.ensures.writer) c.finish-in-Err.ensures.contents
@@ -30,12 +32,14 @@ returns-in_default-piece-clause-whole g c _ =
     let n = c.in-Some-next in
     all_ended (view c.args.self.now.pass) (view c.loop.self.pass) (view c.next-in-loop.new.self.pass)
     (contents c.args.self.now.writer) (contents c.loop.self.writer) (contents c.next-in-loop.new.self.writer) (contents c.finish.new.self)
-    c.loop.invariant.2 (n.ensures.took ∙ ap (λ (x : Piece). taken_more (view c.loop.self.pass) x) c.in_default-piece.is) (ap contents n.ensures.writer) c.finish.ensures.contents
+    c.loop.invariant.2 (n.ensures.took ∙ ap (λ (x : Piece). taken_more (view c.loop.self.pass) x) c.in_default-piece.is)
+    (ap contents n.ensures.writer) c.finish.ensures.contents
 
 pub returns-in_default-piece-clause-sent : goal.returns-in_default-piece-clause-sent
 returns-in_default-piece-clause-sent g c =
     let contents = g.W.Drain.contents in
-    end_written (view c.args.self.now.pass) (view c.next-in-loop.new.self.pass) (contents c.args.self.now.writer) (contents c.finish.new.self) (returns-in_default-piece-clause-whole g c refl)
+    end_written (view c.args.self.now.pass) (view c.next-in-loop.new.self.pass) (contents c.args.self.now.writer) (contents c.finish.new.self)
+    (returns-in_default-piece-clause-whole g c refl)
 
 pub loop-preserved : goal.loop-preserved
 loop-preserved g c =
@@ -45,5 +49,6 @@ loop-preserved g c =
       tt,
       all_more (view c.args.self.now.pass) (view c.loop.self.pass) (view c.next-in-loop.new.self.pass) c.in-Some-piece.bytes c.deref-in-loop.result.now
           (contents c.args.self.now.writer) (contents c.loop.self.writer) (contents c.next-in-loop.new.self.writer) (contents c.send_whole.new.writer)
-          c.loop.invariant.2 (n.ensures.took ∙ ap (λ (x : Piece). taken_more (view c.loop.self.pass) x) c.in-Some-piece.is) (ap contents n.ensures.writer) c.deref-in-loop.ensures.value c.in_default-send_whole.ensures.whole,
+          c.loop.invariant.2 (n.ensures.took ∙ ap (λ (x : Piece). taken_more (view c.loop.self.pass) x) c.in-Some-piece.is)
+          (ap contents n.ensures.writer) c.deref-in-loop.ensures.value c.in_default-send_whole.ensures.whole,
     )

@@ -10,7 +10,8 @@ returns-then-is_server_steady c =
       λ t. record {
         linemode = c.is_linemode_agreed.ensures.0 c.if-not-is_linemode_agreed.false;
         mask = c.are_masks_agreed.ensures.0 c.if-not-are_masks_agreed.false;
-        chars = subst (λ (w : World). w.server.table ≡ w.client.table) c.self.view_is (stands.table ∙ sym (c.chars.ensures c.self.invariant.history stands) ∙ same ∙ c.chars-2.ensures.value);
+        chars = subst (λ (w : World). w.server.table ≡ w.client.table) c.self.view_is
+            (stands.table ∙ sym (c.chars.ensures c.self.invariant.history stands) ∙ same ∙ c.chars-2.ensures.value);
         server_steady = c.is_server_steady.ensures.0 c.if-is_server_steady.true;
         client_steady = c.is_client_steady.ensures.0 t;
       },

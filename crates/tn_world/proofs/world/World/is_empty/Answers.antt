@@ -12,8 +12,10 @@ returns c =
     let stands = c.self.invariant.server in
     let same = ap (λ (w : World). w.server.terminal.entries) c.self.view_is in (
       λ t. subst (λ (w : World). IsEmpty w) c.self.view_is (record {
-        half = ap (λ (v : Server). v.half) (core_at h c.self.inside.server stands) ∙ sym (c.half.ensures h stands) ∙ empty_where c.is_empty.result c.half.result.now c.is_empty.ensures c.if-not-is_empty.false;
-        held = sym c.half-else-not-is_empty.ensures.value ∙ empty_where c.is_empty-else-not-is_empty.result c.half-else-not-is_empty.result.now c.is_empty-else-not-is_empty.ensures c.if-not-is_empty-2.false;
+        half = ap (λ (v : Server). v.half) (core_at h c.self.inside.server stands) ∙ sym (c.half.ensures h stands)
+            ∙ empty_where c.is_empty.result c.half.result.now c.is_empty.ensures c.if-not-is_empty.false;
+        held = sym c.half-else-not-is_empty.ensures.value ∙ empty_where c.is_empty-else-not-is_empty.result c.half-else-not-is_empty.result.now
+            c.is_empty-else-not-is_empty.ensures c.if-not-is_empty-2.false;
         ahead = sym c.ahead.ensures.value ∙ c.if-ahead-ne0.false;
         counts = subst (λ (w : World). IsUncounted w) (sym c.self.view_is) (c.is_uncounted.ensures.0 c.if-not-is_uncounted.false);
         waiting = same ∙ c.none_waits.ensures.0 t;

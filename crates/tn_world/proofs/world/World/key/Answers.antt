@@ -4,7 +4,8 @@ use Rattle.tn_world.proofs.Bodies.{key_sound, key_refused}
 use Rattle.tn_world.proofs.world.World.key.Goals as goal
 
 pub invariant_of-self-2 : goal.invariant_of-self-2
-invariant_of-self-2 c = key_sound _ _ _ _ _ _ c.in_ok-key.ensures.accepted c.in_ok-key.ensures.goes c.in_ok-key.ensures.keeps c.in_ok-key.ensures.sends c.self.invariant
+invariant_of-self-2 c = key_sound _ _ _ _ _ _ c.in_ok-key.ensures.accepted c.in_ok-key.ensures.goes c.in_ok-key.ensures.keeps c.in_ok-key.ensures.sends
+    c.self.invariant
 
 pub returns-in_err-key-clause-err : goal.returns-in_err-key-clause-err
 returns-in_err-key-clause-err c =

@@ -14,5 +14,6 @@ invariant_of-self c =
     elim c.match-fed.branch [
       | in-Ok w ↦ returns_sound _ _ n _ _ _ _ w.in-Ok.ensures.accepted piece left w.in-Ok.ensures.feeds c.self.invariant
       | in-Err w ↦
-          breaks_or_again _ _ _ _ _ _ _ w.in-Err.ensures.fault (λ is. w.in-Err.ensures.memory (ap Err is)) (λ is. w.in-Err.ensures.failed (ap Err is)) (λ is. w.in-Err.ensures.failed_out (ap Err is)) w.in-Err.ensures.err c.self.invariant
+          breaks_or_again _ _ _ _ _ _ _ w.in-Err.ensures.fault (λ is. w.in-Err.ensures.memory (ap Err is)) (λ is. w.in-Err.ensures.failed (ap Err is))
+          (λ is. w.in-Err.ensures.failed_out (ap Err is)) w.in-Err.ensures.err c.self.invariant
     ]

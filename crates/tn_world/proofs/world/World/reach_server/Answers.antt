@@ -15,5 +15,6 @@ invariant_of-self c =
     elim c.match-fed.branch [
       | in-Ok w ↦ reaches_sound _ _ n _ _ _ w.in-Ok.ensures.accepted piece left w.in-Ok.ensures.ok c.self.invariant
       | in-Err w ↦
-          halts_sound _ _ _ _ _ _ (λ is. w.in-Err.ensures.failed_stays (ap Err is)) (λ is. w.in-Err.ensures.failed_appends (ap Err is)) w.in-Err.ensures.halts w.in-Err.ensures.of_piece w.in-Err.ensures.err c.self.invariant
+          halts_sound _ _ _ _ _ _ (λ is. w.in-Err.ensures.failed_stays (ap Err is))
+          (λ is. w.in-Err.ensures.failed_appends (ap Err is)) w.in-Err.ensures.halts w.in-Err.ensures.of_piece w.in-Err.ensures.err c.self.invariant
     ]

@@ -6,7 +6,8 @@ use Rattle.tn_world.proofs.world.World.round.Goals as goal
 pub returns-in-Ok-reach_server-clause-done : goal.returns-in-Ok-reach_server-clause-done
 returns-in-Ok-reach_server-clause-done c =
     let there : c.bytes_in-count.result ≡ length c.args.self.now.to_client = c.bytes_in-count.ensures ∙ ap (λ (w : World). length w.to_client) c.self.view_is in
-    let back : c.bytes_in-count-2.result ≡ length c.reach_client.new.self.to_server = c.bytes_in-count-2.ensures ∙ ap (λ (w : World). length w.to_server) c.self-2.view_is in
+    let back : c.bytes_in-count-2.result ≡ length c.reach_client.new.self.to_server =
+    c.bytes_in-count-2.ensures ∙ ap (λ (w : World). length w.to_server) c.self-2.view_is in
     record {
       mid = c.reach_client.new.self;
       to_client = subst (λ (n : ℕ). RunsEvent c.args.self.now (ToClient n) c.reach_client.new.self) there c.in-Ok.ensures.ok;

@@ -10,13 +10,18 @@ pub loop-at-init : goal.loop-at-init
 loop-at-init c = record { runs = refl }
 
 pub loop-at-preserved : goal.loop-at-preserved
-loop-at-preserved c = record { runs = runs_more c.args.self.now c.loop-at.self c.happen.new.self c.args.events.now c.loop-at.at c.index-events-at.result c.loop-at-test.true c.index-events-at.is c.loop-at.invariant.runs c.in-Ok.ensures.ok }
+loop-at-preserved c = record {
+  runs = runs_more c.args.self.now c.loop-at.self c.happen.new.self c.args.events.now c.loop-at.at c.index-events-at.result
+      c.loop-at-test.true c.index-events-at.is c.loop-at.invariant.runs c.in-Ok.ensures.ok;
+}
 
 pub returns-in-Err-clause-ends : goal.returns-in-Err-clause-ends
-returns-in-Err-clause-ends c = runs_stop c.args.self.now c.loop-at.self c.happen.new.self c.args.events.now c.loop-at.at c.index-events-at.result c.in-Err.cause c.loop-at-test.true c.index-events-at.is c.loop-at.invariant.runs c.in-Err.ensures.err
+returns-in-Err-clause-ends c = runs_stop c.args.self.now c.loop-at.self c.happen.new.self c.args.events.now c.loop-at.at c.index-events-at.result c.in-Err.cause
+    c.loop-at-test.true c.index-events-at.is c.loop-at.invariant.runs c.in-Err.ensures.err
 
 pub returns-in-Err-clause-causes : goal.returns-in-Err-clause-causes
-returns-in-Err-clause-causes c = shows_cause c.args.self.now c.happen.new.self c.args.events.now c.loop-at.at c.in-Err.cause (subst (λ (w : World). HasPast w) c.self.view_is c.self.invariant) (returns-in-Err-clause-ends c)
+returns-in-Err-clause-causes c = shows_cause c.args.self.now c.happen.new.self c.args.events.now c.loop-at.at c.in-Err.cause
+    (subst (λ (w : World). HasPast w) c.self.view_is c.self.invariant) (returns-in-Err-clause-ends c)
 
 pub returns-in-Err-clause-follows : goal.returns-in-Err-clause-follows
 returns-in-Err-clause-follows c = end_follows c.args.self.now c.happen.new.self c.args.events.now c.loop-at.at c.in-Err.cause (returns-in-Err-clause-ends c)
@@ -35,8 +40,10 @@ returns-clause-headline c = λ s f quiet. headline s c.loop-at.self (returns-cla
 
 pub returns-in-Err-clause-output_before : goal.returns-in-Err-clause-output_before
 returns-in-Err-clause-output_before c = λ text output runs.
-    ends_grow c.args.self.now c.happen.new.self c.args.events.now c.loop-at.at c.in-Err.cause text (subst (λ (w : World). HasPast w) c.self.view_is c.self.invariant) runs (returns-in-Err-clause-ends c) output
+    ends_grow c.args.self.now c.happen.new.self c.args.events.now c.loop-at.at c.in-Err.cause text
+    (subst (λ (w : World). HasPast w) c.self.view_is c.self.invariant) runs (returns-in-Err-clause-ends c) output
 
 pub returns-clause-output : goal.returns-clause-output
 returns-clause-output c = λ text output runs.
-    runs_grow c.args.self.now c.loop-at.self c.args.events.now text (subst (λ (w : World). HasPast w) c.self.view_is c.self.invariant) runs (returns-clause-runs c) output
+    runs_grow c.args.self.now c.loop-at.self c.args.events.now text (subst (λ (w : World). HasPast w) c.self.view_is c.self.invariant) runs
+    (returns-clause-runs c) output

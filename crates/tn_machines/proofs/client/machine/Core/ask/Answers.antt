@@ -1,4 +1,4 @@
-use Rattle.tn_machines.proofs.client.Doing.{does_not_send}
+use Rattle.tn_machines.proofs.of_core.Doing.{does_not_send}
 use Rattle.tn_machines.proofs.client.machine.Core.ask.Goals as goal
 
 pub returns-in-Net-clause-ok : goal.returns-in-Net-clause-ok

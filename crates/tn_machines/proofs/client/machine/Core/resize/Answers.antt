@@ -1,7 +1,7 @@
 use Rattle.std.proofs.Common.{refl, ap, Err}
 use Rattle.std.proofs.lemmas.Result.{err_from_is_err_and}
-use Rattle.tn_machines.proofs.client.Doing.{does_resize, stops_resize}
-use Rattle.tn_machines.proofs.client.Refusing.{resize_cause}
+use Rattle.tn_machines.proofs.of_core.Doing.{does_resize, stops_resize}
+use Rattle.tn_machines.proofs.of_core.Refusing.{resize_cause}
 use Rattle.tn_machines.proofs.client.machine.Core.resize.Goals as goal
 
 pub returns-clause-ok : goal.returns-clause-ok
@@ -17,4 +17,5 @@ returns-in_err-resize-clause-err c =
 pub returns-in_err-resize-clause-cause : goal.returns-in_err-resize-clause-cause
 returns-in_err-resize-clause-cause c =
     let p = err_from_is_err_and c.from_residual.result c.from_residual.ensures.1 in
-    rw (p.1, p.2) (resize_cause c.args.from c.args.size c.args.self.now _ c.requires c.in_err-resize.ensures.fault (λ e. c.in_err-resize.ensures.grows (ap Err e)))
+    rw (p.1, p.2) (resize_cause c.args.from c.args.size c.args.self.now _ c.requires c.in_err-resize.ensures.fault
+    (λ e. c.in_err-resize.ensures.grows (ap Err e)))

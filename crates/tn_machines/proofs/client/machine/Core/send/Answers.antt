@@ -3,8 +3,8 @@ use Rattle.std.proofs.lemmas.Result.{err_from_is_err_and}
 use Rattle.tn_client.specs.Calls.{Advances, Sends}
 use Rattle.tn_client.specs.Events.{sent}
 use Rattle.tn_client.specs.declared.commands.UserCommand.{UserCommand}
-use Rattle.tn_machines.proofs.client.Doing.{does_send, stops_send}
-use Rattle.tn_machines.proofs.client.Refusing.{send_cause}
+use Rattle.tn_machines.proofs.of_core.Doing.{does_send, stops_send}
+use Rattle.tn_machines.proofs.of_core.Refusing.{send_cause}
 use Rattle.tn_machines.proofs.client.machine.Core.send.Goals as goal
 
 pub returns-clause-ok : goal.returns-clause-ok

@@ -1,4 +1,4 @@
-use Rattle.tn_machines.proofs.server.Turning.{turn_idle, turn_whole, turn_refused}
+use Rattle.tn_machines.proofs.of_terminal.Turning.{turn_idle, turn_whole, turn_refused}
 use Rattle.tn_machines.proofs.server.terminal.Term.handle.Goals as goal
 
 pub returns-then-self-clause-turns : goal.returns-then-self-clause-turns
@@ -9,4 +9,5 @@ returns-in-Ok-clause-turns c = turn_whole c.args.self.now c.act.new.self c.args.
 
 pub returns-in-Err-clause-turns : goal.returns-in-Err-clause-turns
 returns-in-Err-clause-turns c =
-    turn_refused c.args.self.now c.act.new.self c.fails-last.new.self c.args.message _ _ _ _ _ c.fails-last.result c.requires c.if-self.false c.in-Err.ensures.err c.fails-last.ensures.progress c.fails-last.ensures.put c.in-Err.ensures.cause
+    turn_refused c.args.self.now c.act.new.self c.fails-last.new.self c.args.message _ _ _ _ _ c.fails-last.result c.requires c.if-self.false
+    c.in-Err.ensures.err c.fails-last.ensures.progress c.fails-last.ensures.put c.in-Err.ensures.cause

@@ -1,5 +1,5 @@
 use Rattle.std.proofs.Common.{[]}
-use Rattle.tn_machines.proofs.server.Handling.{handled_refused, stops_refused}
+use Rattle.tn_machines.proofs.of_terminal.Handling.{handled_refused, stops_refused}
 use Rattle.tn_machines.specs.server.Run.{ends_by}
 use Rattle.tn_machines.specs.declared.faults.Ended.TheVariants.{Fault}
 use Rattle.tn_machines.specs.declared.faults.SessionFault.TheVariants as fault
@@ -7,11 +7,13 @@ use Rattle.tn_machines.proofs.server.terminal.Term.refused.Goals as goal
 
 pub returns-in-Ok-clause-ok : goal.returns-in-Ok-clause-ok
 returns-in-Ok-clause-ok c =
-    handled_refused c.args.self.now c.ends_by.new.self c.flush-pulled.new.self c.halt-put.new.self _ _ c.halt-put.result c.requires (c.ends_by.ensures.does _) c.in-Ok.ensures.ok (c.halt-put.ensures.is, c.halt-put.ensures.put)
+    handled_refused c.args.self.now c.ends_by.new.self c.flush-pulled.new.self c.halt-put.new.self _ _ c.halt-put.result c.requires
+    (c.ends_by.ensures.does _) c.in-Ok.ensures.ok (c.halt-put.ensures.is, c.halt-put.ensures.put)
 
 pub returns-in-Err-clause-err : goal.returns-in-Err-clause-err
 returns-in-Err-clause-err c =
-    stops_refused c.args.self.now c.ends_by.new.self c.flush-pulled.new.self c.halt-put.new.self _ _ c.halt-put.result c.requires (c.ends_by.ensures.does _) c.in-Err.ensures.err (c.halt-put.ensures.is, c.halt-put.ensures.put)
+    stops_refused c.args.self.now c.ends_by.new.self c.flush-pulled.new.self c.halt-put.new.self _ _ c.halt-put.result c.requires
+    (c.ends_by.ensures.does _) c.in-Err.ensures.err (c.halt-put.ensures.is, c.halt-put.ensures.put)
 
 pub returns-in-Err-clause-grows : goal.returns-in-Err-clause-grows
 returns-in-Err-clause-grows c = λ d at. c.in-Err.ensures.grows (ends_by (Fault fault.Memory) d) ((c.ends_by.ensures.does []).leads d at)

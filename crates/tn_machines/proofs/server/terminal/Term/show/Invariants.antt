@@ -6,7 +6,8 @@ use Rattle.tn_machines.proofs.server.terminal.Term.show.Given as goal
 
 abbrev pub invariant-loop-rest : goal.invariant-loop-rest
 invariant-loop-rest l =
-    (done : List (List ℕ)) × (concat done ++ l.rest ≡ l.text) × All IsPart done × AdvancesRun (show done) l.initial.self l.initial.out.items l.out.items [] l.self × (l.self.progress ≡ l.initial.self.progress)
+    (done : List (List ℕ)) × (concat done ++ l.rest ≡ l.text) × All IsPart done
+    × AdvancesRun (show done) l.initial.self l.initial.out.items l.out.items [] l.self × (l.self.progress ≡ l.initial.self.progress)
 
 abbrev pub decreases-loop-rest : goal.decreases-loop-rest
 decreases-loop-rest l = length l.rest

@@ -1,5 +1,6 @@
 -- Where a hang-up ends the run, all entries were put before the end.
-use Rattle.std.proofs.Common.{◌≡◌, ◌≢◌, ℕ, ◌+◌, nat_lt, Bool, true, false, ◌&&◌, Option, Some, None, List, [], ◌∷◌, ◌++◌, length, drop, map, refl, sym, ap, ◌∙◌, subst, append-nil, append_assoc, drop-drop, if◌then◌else◌}
+use Rattle.std.proofs.Common.{◌≡◌, ◌≢◌, ℕ, ◌+◌, nat_lt, Bool, true, false, ◌&&◌, Option, Some, None, List, [], ◌∷◌, ◌++◌, length, drop, map, refl, sym, ap, ◌∙◌}
+use Rattle.std.proofs.Common.{subst, append-nil, append_assoc, drop-drop, if◌then◌else◌}
 use Rattle.std.specs.List.{FoldsTo}
 use Rattle.tn_discipline.specs.Canon.{Canon}
 use Rattle.tn_discipline.specs.declared.reads.Entry.{Entry}
@@ -18,7 +19,8 @@ use Rattle.tn_machines.specs.server.Giving.{entries_put, Gives}
 use Rattle.tn_machines.specs.Pieces.{bytes_in}
 use Rattle.tn_machines.specs.server.Hearing.{heard, at_end_after, MayCome, MayAllCome, KeepsOn, AllKeepOn, HangsUp}
 use Rattle.tn_machines.specs.server.Marks.{Turns, Runs, put_or_not, run_after_opening}
-use Rattle.tn_machines.specs.server.Run.{Run, Acts, ActsUnless, flush, feed, ask, ask_if, answer, end_if, hang_up, move, stop_job, end_job, in_foreground, verdict, verdict_at, has_text, tostop, after_said, halt_if, is_end, show, start}
+use Rattle.tn_machines.specs.server.Run.{Run, Acts, ActsUnless, flush, feed, ask, ask_if, answer, end_if, hang_up, move, stop_job, end_job, in_foreground}
+use Rattle.tn_machines.specs.server.Run.{verdict, verdict_at, has_text, tostop, after_said, halt_if, is_end, show, start}
 use Rattle.tn_machines.specs.declared.faults.Ended.{Ended}
 use Rattle.tn_machines.specs.declared.faults.Ended.TheVariants as ended
 use Rattle.tn_machines.specs.declared.faults.SessionFault.{SessionFault}
@@ -88,7 +90,8 @@ none_some o es e f = cc
 abbrev Ends : Bool → List (Option Entry) → List Entry → Type 0
 Ends at_end puts all = (es : List Entry) → before_end puts ≡ Some es → (at_end ≡ true) × (es ≡ all)
 
-ends_more : (at_end : Bool) (ps qs : List (Option Entry)) (all : List Entry) → Ends at_end ps all → (before_end ps ≡ None → Ends at_end (ps ++ qs) all) → Ends at_end (ps ++ qs) all
+ends_more : (at_end : Bool) (ps qs : List (Option Entry)) (all : List Entry) → Ends at_end ps all → (before_end ps ≡ None → Ends at_end (ps ++ qs) all)
+    → Ends at_end (ps ++ qs) all
 ends_more at_end ps qs all old new = by (before_end ps) refl
   where
     by : (o : Option (List Entry)) → before_end ps ≡ o → Ends at_end (ps ++ qs) all
@@ -98,9 +101,11 @@ ends_more at_end ps qs all old new = by (before_end ps) refl
 all_put : (ps : List (Option Entry)) (h : History) → Gives ps h → waiting h ≡ [] → entries_put ps ≡ entries h
 all_put ps h g none = sym (append-nil (entries_put ps)) ∙ ap (λ (es : List Entry). entries_put ps ++ es) (sym none) ∙ g.all
 
-ends_if : (at_end b : Bool) (ps : List (Option Entry)) (h : History) → Gives ps h → (b ≡ true → (at_end ≡ true) × (waiting h ≡ [])) → Ends at_end ps (entries h) → Ends at_end (ps ++ end_if b) (entries h)
+ends_if : (at_end b : Bool) (ps : List (Option Entry)) (h : History) → Gives ps h → (b ≡ true → (at_end ≡ true) × (waiting h ≡ [])) → Ends at_end ps (entries h)
+    → Ends at_end (ps ++ end_if b) (entries h)
 ends_if at_end true ps h g on old =
-    ends_more at_end ps (None ∷ []) (entries h) old (λ none es is. ((on refl).0, some_is es (entries_put ps) (sym is ∙ end_put ps none) ∙ all_put ps h g (on refl).1))
+    ends_more at_end ps (None ∷ []) (entries h) old (λ none es is.
+    ((on refl).0, some_is es (entries_put ps) (sym is ∙ end_put ps none) ∙ all_put ps h g (on refl).1))
 ends_if at_end false ps h g on old = let P : List (Option Entry) → Type 0 = λ qs. Ends at_end qs (entries h) in subst P (sym (append-nil ps)) old
 
 ends_entry : (at_end : Bool) (ps : List (Option Entry)) (w : Entry) (all : List Entry) → Ends at_end ps all → Ends at_end (ps ++ Some w ∷ []) all
@@ -230,7 +235,8 @@ record IsAsked (c new : Run) : Type 0 where
   jobs : new.jobs ≡ c.jobs
   stream : new.stream ≡ c.stream
 
-answered : (c : Run) (ws : List Entry) → waiting c.history ≡ ws → Gives c.puts c.history → Ends c.progress.at_end c.puts (entries c.history) → IsAsked c (answer (record c { history = grown c.history took }) ws)
+answered : (c : Run) (ws : List Entry) → waiting c.history ≡ ws → Gives c.puts c.history → Ends c.progress.at_end c.puts (entries c.history)
+    → IsAsked c (answer (record c { history = grown c.history took }) ws)
 answered c [] e g old = record {
   on = refl;
   at_end = refl;
@@ -253,7 +259,9 @@ asked_if true c asks g old = answered c (waiting c.history) refl g old
 asked_if false c asks g old = record { on = refl; at_end = refl; asks = λ a. absurd (false_true (sym asks ∙ a)); ends = old; jobs = refl; stream = refl }
 
 -- and then all is pulled
-calm_asked : (id : ℕ) (m : Message) (c d e new : Run) → new ≡ flush e → Gives new.puts new.history → IsAsked d e → d.progress.over ≡ false → d.progress.at_end ≡ at_end_after c.progress.at_end m → state_at d.jobs id ≡ Some job.Foreground → d.stream ≡ c.stream ++ bytes_in m → KeepsOn id m → CalmOn id m c new
+calm_asked : (id : ℕ) (m : Message) (c d e new : Run) → new ≡ flush e → Gives new.puts new.history → IsAsked d e → d.progress.over ≡ false
+    → d.progress.at_end ≡ at_end_after c.progress.at_end m → state_at d.jobs id ≡ Some job.Foreground → d.stream ≡ c.stream ++ bytes_in m → KeepsOn id m
+    → CalmOn id m c new
 calm_asked id m c d e new is gives a on at_end front stream keeps =
     let P : Run → Type 0 = λ u. Gives u.puts u.history in
     calm_as id m c (flush e) new is (record {
@@ -289,7 +297,8 @@ apart : (id at : ℕ) (c : Run) → state_at c.jobs id ≡ Some job.Foreground �
 apart id at c front off same =
     true_false (sym (ap (λ (s : Option JobState). is_foreground s) front) ∙ ap (in_foreground c) same ∙ off)
 
-calm_jobs : (id at : ℕ) (c : Run) (state : Option JobState) → OthersStay → Calm id c → in_foreground c at ≡ false → Calm id (record c { jobs = with_state c.jobs at state })
+calm_jobs : (id at : ℕ) (c : Run) (state : Option JobState) → OthersStay → Calm id c → in_foreground c at ≡ false
+    → Calm id (record c { jobs = with_state c.jobs at state })
 calm_jobs id at c state others s off = record {
   on = s.on;
   gives = record { all = s.gives.all; taken = s.gives.taken };
@@ -323,7 +332,8 @@ record SaidOn (id : ℕ) (c new : Run) : Type 0 where
   at_end : new.progress.at_end ≡ c.progress.at_end
   stream : new.stream ≡ c.stream
 
-said_on : (id at : ℕ) (parts : List (List ℕ)) (v : Option Verdict) (c : Run) → OthersStay → Calm id c → ended_of (after_said at parts v c) ≡ ended.HangUp → SaidOn id c (after_said at parts v c)
+said_on : (id at : ℕ) (parts : List (List ℕ)) (v : Option Verdict) (c : Run) → OthersStay → Calm id c → ended_of (after_said at parts v c) ≡ ended.HangUp
+    → SaidOn id c (after_said at parts v c)
 said_on id at parts None c others s e = record { calm = calm_flush id c s; at_end = refl; stream = refl }
 said_on id at parts (Some v) c others s e =
     let m = move at v.next c in
@@ -333,9 +343,11 @@ said_on id at parts (Some v) c others s e =
     subst P (sym one.no_end) (record { calm = calm_flush id (show parts m) (calm_show id parts m one.calm); at_end = one.at_end; stream = one.stream })
 
 -- the end of the job in the foreground would have ended the session
-done_ends : (id : ℕ) (text : List ℕ) (parts : List (List ℕ)) (c : Run) → state_at c.jobs id ≡ Some job.Foreground → ended_of (after_said id parts (verdict c id text next.Done) c) ≡ ended.HangUp → ⊥
+done_ends : (id : ℕ) (text : List ℕ) (parts : List (List ℕ)) (c : Run) → state_at c.jobs id ≡ Some job.Foreground
+    → ended_of (after_said id parts (verdict c id text next.Done) c) ≡ ended.HangUp → ⊥
 done_ends id text parts c front e =
-    let v : verdict c id text next.Done ≡ Some (record { write = has_text text; next = job.Ended }) = ap (λ (s : Option JobState). verdict_at s (has_text text) next.Done (tostop c)) front in
+    let v : verdict c id text next.Done ≡ Some (record { write = has_text text; next = job.Ended }) =
+    ap (λ (s : Option JobState). verdict_at s (has_text text) next.Done (tostop c)) front in
     let there : in_foreground c id ≡ true = ap (λ (s : Option JobState). is_foreground s) front in
     let d : Bool → Run = λ b. flush (show parts (end_job id b c)) in
     let P : Option Verdict → Type 0 = λ u. ended_of (after_said id parts u c) ≡ ended.HangUp in
@@ -344,12 +356,14 @@ done_ends id text parts c front e =
 
 -- ANY MESSAGE
 
-calm_acts : (id : ℕ) (c new : Run) (m : Message) → OthersStay → Acts c m new → ended_of new ≡ ended.HangUp → MayCome c.progress.at_end m → Calm id c → CalmOn id m c new
+calm_acts : (id : ℕ) (c new : Run) (m : Message) → OthersStay → Acts c m new → ended_of new ≡ ended.HangUp → MayCome c.progress.at_end m → Calm id c
+    → CalmOn id m c new
 calm_acts id c new (Piece piece) others a e may s =
     let fed = feed piece a.0 c in
     let gives = gives_gets c.puts c.history a.0 s.gives in
     let ends = no_end c.progress.at_end c.puts (entries c.history) (entries fed.history) may s.ends in
-    calm_asked id (Piece piece) c fed (ask_if c.progress.asks fed) new a.2 (gives_acts c new (Piece piece) a s.gives) (asked_if c.progress.asks fed refl gives ends) s.on refl s.front refl tt
+    calm_asked id (Piece piece) c fed (ask_if c.progress.asks fed) new a.2 (gives_acts c new (Piece piece) a s.gives)
+    (asked_if c.progress.asks fed refl gives ends) s.on refl s.front refl tt
 calm_acts id c new HangUp others a e may s =
     calm_as id HangUp c (flush (hang_up c)) new a (record {
       calm = record {
@@ -365,7 +379,8 @@ calm_acts id c new HangUp others a e may s =
     })
 calm_acts id c new ReadFailed others a e may s = absurd (not_fault (ended_of c) fault.Read (sym (ap ended_of a) ∙ e))
 calm_acts id c new Take others a e may s =
-    calm_asked id Take c c (ask c) new a (gives_acts c new Take a s.gives) (answered c (waiting c.history) refl s.gives s.ends) s.on refl s.front (sym (append-nil c.stream)) tt
+    calm_asked id Take c c (ask c) new a (gives_acts c new Take a s.gives) (answered c (waiting c.history) refl s.gives s.ends) s.on refl s.front
+    (sym (append-nil c.stream)) tt
 calm_acts id c new (Said job text after) others a e may s =
     let f = sym (ap ended_of a.2) ∙ e in
     let one = said_on id job.0 a.0 (verdict c job.0 text after) c others s f in
@@ -398,7 +413,8 @@ record AllCalm (id : ℕ) (ms : List Message) (c new : Run) : Type 0 where
   keeps : AllKeepOn id ms
   stream : new.stream ≡ c.stream ++ heard ms
 
-all_calm : (id : ℕ) (marked : List (Message × Mark)) (c new : Run) → OthersStay → FoldsTo Turns c marked new → ended_of new ≡ ended.HangUp → MayAllCome c.progress.at_end (messages marked) → Calm id c → AllCalm id (messages marked) c new
+all_calm : (id : ℕ) (marked : List (Message × Mark)) (c new : Run) → OthersStay → FoldsTo Turns c marked new → ended_of new ≡ ended.HangUp
+    → MayAllCome c.progress.at_end (messages marked) → Calm id c → AllCalm id (messages marked) c new
 all_calm id [] c new others f e may s =
     let P : Run → Type 0 = λ u. AllCalm id [] c u in
     subst P f (record { calm = s; keeps = tt; stream = sym (append-nil c.stream) })
@@ -415,14 +431,22 @@ all_calm id ((m, k) ∷ marked) c new others f e may s =
     }
 
 started : (id : ℕ) (canon : Canon) (editing : Editing) (jobs : Jobs) → state_at jobs id ≡ Some job.Foreground → Calm id (start canon editing jobs)
-started id canon editing jobs front = record { on = refl; gives = gives_start canon editing; asks = λ a. absurd (false_true a); ends = λ es is. absurd (none_some None es refl is); front = front }
+started id canon editing jobs front = record {
+  on = refl;
+  gives = gives_start canon editing;
+  asks = λ a. absurd (false_true a);
+  ends = λ es is. absurd (none_some None es refl is);
+  front = front;
+}
 
 -- where the opening words were not written, the session has failed
 opened : (b : Bool) (canon : Canon) (editing : Editing) (jobs : Jobs) → ended_of (run_after_opening b (start canon editing jobs)) ≡ ended.HangUp → b ≡ true
 opened true canon editing jobs e = refl
 opened false canon editing jobs e = absurd (not_fault ended.HangUp fault.Write e)
 
-pub hangs_up : (b : Bool) (canon : Canon) (editing : Editing) (jobs : Jobs) (id : ℕ) (marked : List (Message × Mark)) (new : Run) → OthersStay → Runs (run_after_opening b (start canon editing jobs)) marked new → ended_of new ≡ ended.HangUp → state_at jobs id ≡ Some job.Foreground → MayAllCome false (messages marked) → HangsUp id (messages marked) new
+pub hangs_up : (b : Bool) (canon : Canon) (editing : Editing) (jobs : Jobs) (id : ℕ) (marked : List (Message × Mark)) (new : Run) → OthersStay
+    → Runs (run_after_opening b (start canon editing jobs)) marked new → ended_of new ≡ ended.HangUp → state_at jobs id ≡ Some job.Foreground
+    → MayAllCome false (messages marked) → HangsUp id (messages marked) new
 hangs_up b canon editing jobs id marked new others runs e front may =
     let begin = opened b canon editing jobs (runs_ended marked (run_after_opening b (start canon editing jobs)) new runs e) in
     let P : Bool → Type 0 = λ o. Runs (run_after_opening o (start canon editing jobs)) marked new in

@@ -7,7 +7,7 @@ use Rattle.tn_nvt.specs.declared.items.Item.{Item}
 use Rattle.tn_server.specs.Events.{History}
 use Rattle.tn_server.specs.Replies.{items_said}
 use Rattle.tn_server.specs.declared.faults.ServerFault.{ServerFault}
-use Rattle.tn_machines.proofs.server.Doing.{is_over}
+use Rattle.tn_machines.proofs.of_terminal.Doing.{is_over}
 use Rattle.tn_machines.specs.server.Counting.{after_end, after_halt}
 use Rattle.tn_machines.specs.server.Marks.{put_or_not}
 use Rattle.tn_machines.specs.server.Reaching.{DoesWhole, StopsWithin, RefusesFor, IsTurn}
@@ -28,7 +28,8 @@ false_true : false ≡ true → ⊥
 false_true e = cc
 
 -- nothing has any effect
-pub turn_idle : (old : Term) (message : Message) (bytes : List ℕ) (put : Put) → bytes ≡ [] → old.progress.over ≡ true → puts_of put ≡ idle_puts message → IsTurn Whole old message bytes put Nothing old
+pub turn_idle : (old : Term) (message : Message) (bytes : List ℕ) (put : Put) → bytes ≡ [] → old.progress.over ≡ true → puts_of put ≡ idle_puts message
+    → IsTurn Whole old message bytes put Nothing old
 turn_idle old message bytes put none off is = record {
   leads = λ c at.
       let P : Bool → Type 0 = λ b. ActsUnless b c message (idle message c) in (
@@ -46,10 +47,13 @@ turn_idle old message bytes put none off is = record {
 }
 
 -- the bytes of a message that was done wholly
-all_said : (h k : History) (x y : List ℕ) (said : List Item) → x ≡ [] → y ≡ x ++ spells said → items_said k ≡ items_said h ++ said → spells (items_said k) ≡ spells (items_said h) ++ (y ++ [])
-all_said h k x y said none is e = all_spelled (items_said h) (items_said k) said e ∙ ap (λ (bs : List ℕ). spells (items_said h) ++ (bs ++ [])) (sym (from_none x y (spells said) none is))
+all_said : (h k : History) (x y : List ℕ) (said : List Item) → x ≡ [] → y ≡ x ++ spells said → items_said k ≡ items_said h ++ said
+    → spells (items_said k) ≡ spells (items_said h) ++ (y ++ [])
+all_said h k x y said none is e = all_spelled (items_said h) (items_said k) said e
+    ∙ ap (λ (bs : List ℕ). spells (items_said h) ++ (bs ++ [])) (sym (from_none x y (spells said) none is))
 
-pub turn_whole : (old new : Term) (message : Message) (x y : List ℕ) (put : Put) → x ≡ [] → old.progress.over ≡ false → DoesWhole old message x y put new → IsTurn Whole old message y put Nothing new
+pub turn_whole : (old new : Term) (message : Message) (x y : List ℕ) (put : Put) → x ≡ [] → old.progress.over ≡ false → DoesWhole old message x y put new
+    → IsTurn Whole old message y put Nothing new
 turn_whole old new message x y put none on h = record {
   leads = λ c at.
       let l = h.leads c at in (
@@ -70,7 +74,9 @@ same_history : (given : Bool) (m : Message) (c whole : Run) → (put_or_not give
 same_history true m c whole = refl
 same_history false m c whole = refl
 
-pub turn_refused : (old mid new : Term) (message : Message) (f : ServerFault) (given : Bool) (x y : List ℕ) (put last : Put) → x ≡ [] → old.progress.over ≡ false → StopsWithin old message given x y put mid → new.progress ≡ after_halt (after_end (Fault (fault.Server f)) mid.progress) → puts_of last ≡ end_if mid.progress.asks → RefusesFor old message f → IsTurn (Refused f given) old message y put last new
+pub turn_refused : (old mid new : Term) (message : Message) (f : ServerFault) (given : Bool) (x y : List ℕ) (put last : Put) → x ≡ []
+    → old.progress.over ≡ false → StopsWithin old message given x y put mid → new.progress ≡ after_halt (after_end (Fault (fault.Server f)) mid.progress)
+    → puts_of last ≡ end_if mid.progress.asks → RefusesFor old message f → IsTurn (Refused f given) old message y put last new
 turn_refused old mid new message f given x y put last none on h is puts cause = record {
   leads = λ c at.
       let l = h.leads c at in
@@ -83,7 +89,8 @@ turn_refused old mid new message f given x y put last none on h is puts cause = 
         ap (λ (ps : List (Option Entry)). ps ++ end_if done.progress.asks) l.5 ∙ append_assoc c.puts (puts_of put) (end_if done.progress.asks)
             ∙ ap (λ (ps : List (Option Entry)). c.puts ++ (puts_of put ++ ps)) (ap (λ (p : Progress). end_if p.asks) (sym l.4) ∙ sym puts),
         l.2,
-        ap (λ (k : History). spells (items_said k)) (same_history given message c l.0) ∙ l.3 ∙ ap (λ (bs : List ℕ). spells (items_said c.history) ++ (bs ++ l.2)) (sym (from_none x y h.part none h.appended)),
+        ap (λ (k : History). spells (items_said k)) (same_history given message c l.0) ∙ l.3
+            ∙ ap (λ (bs : List ℕ). spells (items_said c.history) ++ (bs ++ l.2)) (sym (from_none x y h.part none h.appended)),
         λ w. absurd (false_true w),
       );
   over = λ e. ap (λ (p : Progress). p.over) is;

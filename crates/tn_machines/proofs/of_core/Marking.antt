@@ -4,7 +4,7 @@ use Rattle.tn_client.specs.Events.{History}
 use Rattle.tn_client.specs.Replies.{items_said}
 use Rattle.tn_client.specs.Screen.{text_shown}
 use Rattle.tn_client.specs.declared.faults.ClientFault.{ClientFault}
-use Rattle.tn_machines.proofs.client.Doing.{is_over}
+use Rattle.tn_machines.proofs.of_core.Doing.{is_over}
 use Rattle.tn_machines.specs.client.Counting.{after_failure}
 use Rattle.tn_machines.specs.client.Reaching.{DoesWhole, StopsWithin, RefusesFor, SendsPrefix, IsTurn, sent_bytes}
 use Rattle.tn_machines.specs.client.Run.{Run, ActsUnless, fail, sent_after}
@@ -42,7 +42,9 @@ turn_idle old told bytes text none blank off = record {
     nothing_more xs ys e = sym (append-nil xs) ∙ ap (λ (zs : List ℕ). xs ++ zs) (sym (append-nil ys ∙ e))
 
 -- what goes to the network is what the history says, up to where that was closed
-sends_as : (b all : Bool) (c next : Run) (bytes part rest : List ℕ) → next.sent ≡ sent_after b c.sent next.history → (b ≡ false → c.sent ≡ c.history) → bytes ≡ sent_bytes b part → spells (items_said next.history) ≡ spells (items_said c.history) ++ (part ++ rest) → (all ≡ true → rest ≡ []) → SendsPrefix c next bytes all
+sends_as : (b all : Bool) (c next : Run) (bytes part rest : List ℕ) → next.sent ≡ sent_after b c.sent next.history → (b ≡ false → c.sent ≡ c.history)
+    → bytes ≡ sent_bytes b part → spells (items_said next.history) ≡ spells (items_said c.history) ++ (part ++ rest) → (all ≡ true → rest ≡ [])
+    → SendsPrefix c next bytes all
 sends_as true all c next bytes part rest is latest e said none =
     let S : List ℕ = spells (items_said c.sent) in (
       [],
@@ -51,21 +53,25 @@ sends_as true all c next bytes part rest is latest e said none =
     )
 sends_as false all c next bytes part rest is latest e said none = (
   rest,
-  ap (λ (h : History). spells (items_said h)) is ∙ said ∙ ap (λ (h : History). spells (items_said h) ++ (part ++ rest)) (sym (latest refl)) ∙ ap (λ (zs : List ℕ). spells (items_said c.sent) ++ (zs ++ rest)) (sym e),
+  ap (λ (h : History). spells (items_said h)) is ∙ said ∙ ap (λ (h : History). spells (items_said h) ++ (part ++ rest)) (sym (latest refl))
+      ∙ ap (λ (zs : List ℕ). spells (items_said c.sent) ++ (zs ++ rest)) (sym e),
   none,
 )
 
-pub turn_whole : (old new : Core) (told : Told) (x y u v bytes : List ℕ) → x ≡ [] → u ≡ [] → old.progress.over ≡ false → bytes ≡ sent_bytes old.progress.closed y → DoesWhole old told x y u v new → IsTurn Whole old told bytes v new
+pub turn_whole : (old new : Core) (told : Told) (x y u v bytes : List ℕ) → x ≡ [] → u ≡ [] → old.progress.over ≡ false
+    → bytes ≡ sent_bytes old.progress.closed y → DoesWhole old told x y u v new → IsTurn Whole old told bytes v new
 turn_whole old new told x y u v bytes none blank on drops h = record {
   leads = λ c at.
       let l = h.leads c at in
       let shut : old.progress.closed ≡ c.progress.closed = ap (λ (p : Progress). p.closed) at.progress in
       let part = from_none x y (spells h.said) none h.appended in
-      let gives : bytes ≡ sent_bytes c.progress.closed (spells h.said) = drops ∙ ap (λ (b : Bool). sent_bytes b y) shut ∙ ap (sent_bytes c.progress.closed) part in (
+      let gives : bytes ≡ sent_bytes c.progress.closed (spells h.said) =
+      drops ∙ ap (λ (b : Bool). sent_bytes b y) shut ∙ ap (sent_bytes c.progress.closed) part in (
         l.0,
         l.1,
         l.2,
-        sends_as c.progress.closed true c l.0 bytes (spells h.said) [] l.3 (at.live on).latest gives (all_spelled (items_said c.history) (items_said l.0.history) h.said l.4) (λ w. refl),
+        sends_as c.progress.closed true c l.0 bytes (spells h.said) [] l.3 (at.live on).latest gives
+            (all_spelled (items_said c.history) (items_said l.0.history) h.said l.4) (λ w. refl),
         ([], l.5 ∙ ap (λ (bs : List ℕ). text_shown c.history ++ bs) (sym (append-nil v ∙ from_none u v h.text blank h.displayed)), λ w. refl),
       );
   over = λ e. absurd (true_false e);
@@ -73,7 +79,9 @@ turn_whole old new told x y u v bytes none blank on drops h = record {
   idle = λ e. absurd (true_false (sym e ∙ on));
 }
 
-pub turn_refused : (old mid new : Core) (told : Told) (f : ClientFault) (x y u v bytes : List ℕ) → x ≡ [] → u ≡ [] → old.progress.over ≡ false → bytes ≡ sent_bytes old.progress.closed y → StopsWithin old told x y u v mid → new ≡ record mid { progress = after_failure (fault.Client f) mid.progress } → RefusesFor old told f → IsTurn (Refused f) old told bytes v new
+pub turn_refused : (old mid new : Core) (told : Told) (f : ClientFault) (x y u v bytes : List ℕ) → x ≡ [] → u ≡ [] → old.progress.over ≡ false
+    → bytes ≡ sent_bytes old.progress.closed y → StopsWithin old told x y u v mid → new ≡ record mid { progress = after_failure (fault.Client f) mid.progress }
+    → RefusesFor old told f → IsTurn (Refused f) old told bytes v new
 turn_refused old mid new told f x y u v bytes none blank on drops h is cause = record {
   leads = λ c at.
       let l = h.leads c at in

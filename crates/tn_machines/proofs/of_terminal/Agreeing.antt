@@ -13,12 +13,14 @@ use Rattle.tn_server.specs.Events.{History, next, took, items}
 use Rattle.tn_server.specs.Lines.{waiting}
 use Rattle.tn_server.specs.Screen.{queue}
 use Rattle.tn_server.specs.declared.wishes.Editing.{Editing}
-use Rattle.tn_machines.proofs.server.Alike.{Alike, alike_self, alike_gets, alike_took, alike_flushed, alike_parts, none_left, same_entries}
+use Rattle.tn_machines.proofs.of_terminal.Alike.{Alike, alike_self, alike_gets, alike_took, alike_flushed, alike_parts, none_left, same_entries}
 use Rattle.tn_machines.proofs.lemmas.server.Hearing.{move_keeps}
 use Rattle.tn_machines.specs.server.Agreeing.{Agree}
 use Rattle.tn_machines.specs.server.Counting as counting
 use Rattle.tn_machines.specs.server.Marks.{Turns, Runs, put_or_not, asks_at, run_after_opening}
-use Rattle.tn_machines.specs.server.Run.{Run, Acts, ActsUnless, Cuts, Reads, flush, feed, ask, ask_if, answer, end_if, hang_up, ends_by, move, stop_job, end_job, in_foreground, verdict, verdict_at, has_text, after_said, writes, halt, halt_if, is_end, show, fail, idle, idle_puts, flushed_history, start}
+use Rattle.tn_machines.specs.server.Run.{Run, Acts, ActsUnless, Cuts, Reads, flush, feed, ask, ask_if, answer, end_if, hang_up, ends_by, move, stop_job}
+use Rattle.tn_machines.specs.server.Run.{end_job, in_foreground, verdict, verdict_at, has_text, after_said, writes, halt, halt_if, is_end, show, fail, idle}
+use Rattle.tn_machines.specs.server.Run.{idle_puts, flushed_history, start}
 use Rattle.tn_machines.specs.declared.faults.Ended.{Ended}
 use Rattle.tn_machines.specs.declared.faults.Ended.TheVariants.{Fault, Done}
 use Rattle.tn_machines.specs.declared.faults.SessionFault.{SessionFault}
@@ -75,7 +77,8 @@ same_ask_if : (b e : Bool) (c d : Run) → b ≡ e → Same c d → Same (ask_if
 same_ask_if b e c d is s = let P : Bool → Type 0 = λ u. Same (ask_if b c) (ask_if u d) in subst P is (one b)
   where
     one : (b : Bool) → Same (ask_if b c) (ask_if b d)
-    one true = same_answer (record c { history = next c.history took }) (record d { history = next d.history took }) (waiting c.history) (waiting d.history) (waiting_by c.history d.history s.ends) (with_histories c d (next c.history took) (next d.history took) (alike_took c.history d.history s.ends) s)
+    one true = same_answer (record c { history = next c.history took }) (record d { history = next d.history took }) (waiting c.history) (waiting d.history)
+        (waiting_by c.history d.history s.ends) (with_histories c d (next c.history took) (next d.history took) (alike_took c.history d.history s.ends) s)
     one false = s
 
 same_feed : (piece : List ℕ) (xs ys : List Item) (c d : Run) → Reads c piece xs → Reads d piece ys → Same c d → Same (feed piece xs c) (feed piece ys d)
@@ -129,7 +132,13 @@ same_move id (job.Stopped why) c d s =
   where
     one : (b : Bool) → Same (stop_job id why b c) (stop_job id why b d)
     one true = record { ends = s.ends; stream = s.stream; puts = s.puts; jobs = s.jobs; progress = ap counting.after_stop s.progress }
-    one false = record { ends = s.ends; stream = s.stream; puts = s.puts; jobs = ap (λ (jobs : Jobs). with_state jobs id (Some (job.Stopped why))) s.jobs; progress = s.progress }
+    one false = record {
+      ends = s.ends;
+      stream = s.stream;
+      puts = s.puts;
+      jobs = ap (λ (jobs : Jobs). with_state jobs id (Some (job.Stopped why))) s.jobs;
+      progress = s.progress;
+    }
 same_move id job.Ended c d s =
     let P : Bool → Type 0 = λ b. Same (end_job id (in_foreground c id) c) (end_job id b d) in
     subst P (foreground_by c d id s) (one (in_foreground c id))
@@ -155,20 +164,23 @@ same_halt_if b e c d is s = let P : Bool → Type 0 = λ u. Same (halt_if b c) (
 abbrev Pulled : Run → Type 0
 Pulled c = queue c.history ≡ []
 
-same_show : (b : Bool) (text : List ℕ) (parts others : List (List ℕ)) (c d : Run) → Cuts b text parts → Cuts b text others → Pulled c → Same c d → Same (show parts c) (show others d)
+same_show : (b : Bool) (text : List ℕ) (parts others : List (List ℕ)) (c d : Run) → Cuts b text parts → Cuts b text others → Pulled c → Same c d
+    → Same (show parts c) (show others d)
 same_show true text parts others c d p q none s =
     with_histories c d (in_parts c.history parts) (in_parts d.history others) (alike_parts c.history d.history parts others text none p.0 p.1 q.0 q.1 s.ends) s
 same_show false text parts others c d p q none s =
     let P : List (List ℕ) × List (List ℕ) → Type 0 = λ u. Same (show u.0 c) (show u.1 d) in
     subst P (λ i. (sym p i, sym q i)) (with_histories c d c.history d.history s.ends s)
 
-same_said : (id : ℕ) (text : List ℕ) (v : Option Verdict) (parts others : List (List ℕ)) (c d : Run) → Cuts (writes v) text parts → Cuts (writes v) text others → Pulled c → Same c d → Same (after_said id parts v c) (after_said id others v d)
+same_said : (id : ℕ) (text : List ℕ) (v : Option Verdict) (parts others : List (List ℕ)) (c d : Run) → Cuts (writes v) text parts → Cuts (writes v) text others
+    → Pulled c → Same c d → Same (after_said id parts v c) (after_said id others v d)
 same_said id text None parts others c d p q none s = same_flush c d s
 same_said id text (Some v) parts others c d p q none s =
     let m = move id v.next c in
     let n = move id v.next d in
     let shown = same_show v.write text parts others m n p q (ap queue (move_keeps id v.next c).history ∙ none) (same_move id v.next c d s) in
-    same_halt_if (is_end v.next && in_foreground c id) (is_end v.next && in_foreground d id) (flush (show parts m)) (flush (show others n)) (ap (λ (b : Bool). is_end v.next && b) (foreground_by c d id s)) (same_flush (show parts m) (show others n) shown)
+    same_halt_if (is_end v.next && in_foreground c id) (is_end v.next && in_foreground d id) (flush (show parts m)) (flush (show others n))
+    (ap (λ (b : Bool). is_end v.next && b) (foreground_by c d id s)) (same_flush (show parts m) (show others n) shown)
 
 -- ONE MESSAGE
 
@@ -177,7 +189,8 @@ same_acts (Piece piece) c d c' d' none a b s =
     let fed = feed piece a.0 c in
     let other = feed piece b.0 d in
     let asked = same_ask_if c.progress.asks d.progress.asks fed other (ap (λ (p : Progress). p.asks) s.progress) (same_feed piece a.0 b.0 c d a.1 b.1 s) in
-    same_as (flush (ask_if c.progress.asks fed)) (flush (ask_if d.progress.asks other)) c' d' a.2 b.2 (same_flush (ask_if c.progress.asks fed) (ask_if d.progress.asks other) asked)
+    same_as (flush (ask_if c.progress.asks fed)) (flush (ask_if d.progress.asks other)) c' d' a.2 b.2
+    (same_flush (ask_if c.progress.asks fed) (ask_if d.progress.asks other) asked)
 same_acts HangUp c d c' d' none a b s = same_as (flush (hang_up c)) (flush (hang_up d)) c' d' a b (same_flush (hang_up c) (hang_up d) (same_hang_up c d s))
 same_acts ReadFailed c d c' d' none a b s =
     let e = ends_by (Fault fault.Read) c in
@@ -195,14 +208,21 @@ same_acts (Said id text after) c d c' d' none a b s =
 same_acts Refused c d c' d' none a b s =
     let e = flush (ends_by (Fault fault.Memory) c) in
     let f = flush (ends_by (Fault fault.Memory) d) in
-    same_as (halt e) (halt f) c' d' a b (same_halt e f (same_flush (ends_by (Fault fault.Memory) c) (ends_by (Fault fault.Memory) d) (same_ends_by (Fault fault.Memory) c d s)))
+    same_as (halt e) (halt f) c' d' a b (same_halt e f (same_flush (ends_by (Fault fault.Memory) c) (ends_by (Fault fault.Memory) d)
+    (same_ends_by (Fault fault.Memory) c d s)))
 same_acts Left c d c' d' none a b s = same_as (flush c) (flush d) c' d' a b (same_flush c d s)
 same_acts (Resized size) c d c' d' none a b s = same_as (flush c) (flush d) c' d' a b (same_flush c d s)
 same_acts (Asked control) c d c' d' none a b s = same_as (flush c) (flush d) c' d' a b (same_flush c d s)
 
 same_handles : (o p : Bool) (m : Message) (c d c' d' : Run) → o ≡ p → Pulled c → ActsUnless o c m c' → ActsUnless p d m d' → Same c d → Same c' d'
 same_handles true true m c d c' d' e none a b s =
-    same_as (idle m c) (idle m d) c' d' a b (record { ends = s.ends; stream = s.stream; puts = ap (λ (ps : List (Option Entry)). ps ++ idle_puts m) s.puts; jobs = s.jobs; progress = s.progress })
+    same_as (idle m c) (idle m d) c' d' a b (record {
+      ends = s.ends;
+      stream = s.stream;
+      puts = ap (λ (ps : List (Option Entry)). ps ++ idle_puts m) s.puts;
+      jobs = s.jobs;
+      progress = s.progress;
+    })
 same_handles false false m c d c' d' e none a b s = same_acts m c d c' d' none a b s
 same_handles true false m c d c' d' e none a b s = cc
 same_handles false true m c d c' d' e none a b s = cc
@@ -222,7 +242,8 @@ said_pulled id parts (Some v) c =
     halt_if_pulled (is_end v.next && in_foreground c id) (flush d) (none_left d.history)
 
 acts_pulled : (m : Message) (c new : Run) → Acts c m new → Pulled new
-acts_pulled (Piece piece) c new a = pulled_as (flush (ask_if c.progress.asks (feed piece a.0 c))) new a.2 (none_left (ask_if c.progress.asks (feed piece a.0 c)).history)
+acts_pulled (Piece piece) c new a = pulled_as (flush (ask_if c.progress.asks (feed piece a.0 c))) new a.2
+    (none_left (ask_if c.progress.asks (feed piece a.0 c)).history)
 acts_pulled HangUp c new a = pulled_as (flush (hang_up c)) new a (none_left c.history)
 acts_pulled ReadFailed c new a = pulled_as (flush (hang_up (ends_by (Fault fault.Read) c))) new a (none_left c.history)
 acts_pulled Take c new a = pulled_as (flush (ask c)) new a (none_left (ask c).history)
@@ -282,7 +303,8 @@ same_turns m (mark.Refused f put) c d c' d' a b s =
     let x = put_or_not put m c a.1 in
     let y = put_or_not put m d b.1 in
     record {
-      same = same_as (fail (fault.Server f) x) (fail (fault.Server f) y) c' d' a.3 b.3 (same_fail (fault.Server f) x y (same_put_or_not put m c d a.1 b.1 s.same w));
+      same = same_as (fail (fault.Server f) x) (fail (fault.Server f) y) c' d' a.3 b.3
+          (same_fail (fault.Server f) x y (same_put_or_not put m c d a.1 b.1 s.same w));
       pulled = pulled_as (fail (fault.Server f) x) c' a.3 (unput_pulled put m c a.1 (handles_pulled c.progress.over m c a.1 a.2 s.pulled));
     }
 
@@ -297,7 +319,8 @@ opened_pulled : (b : Bool) (canon : Canon) (editing : Editing) (jobs : Jobs) →
 opened_pulled true canon editing jobs = refl
 opened_pulled false canon editing jobs = refl
 
-pub agree : (b : Bool) (canon : Canon) (editing : Editing) (jobs : Jobs) (marked : List (Message × Mark)) (one two : Run) → Runs (run_after_opening b (start canon editing jobs)) marked one → Runs (run_after_opening b (start canon editing jobs)) marked two → Agree one two
+pub agree : (b : Bool) (canon : Canon) (editing : Editing) (jobs : Jobs) (marked : List (Message × Mark)) (one two : Run)
+    → Runs (run_after_opening b (start canon editing jobs)) marked one → Runs (run_after_opening b (start canon editing jobs)) marked two → Agree one two
 agree b canon editing jobs marked one two f g =
     let c = run_after_opening b (start canon editing jobs) in
     let s = same_runs marked c c one two f g (record { same = same_self c; pulled = opened_pulled b canon editing jobs }) in

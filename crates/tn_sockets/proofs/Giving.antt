@@ -8,7 +8,8 @@ use Rattle.tn_sockets.specs.Passing.{GivesInputs, handed_on}
 use Rattle.tn_streams.specs.declared.control.Control.{Control}
 
 -- nothing was read: what was kept is given or kept
-pub kept_only : (old new : Option (List ℕ)) (escaping : Escaping) (asked telling : Option Control) (kept left : List Input) (given : List ℕ) → Keeps old new → handed_on given telling ++ left ≡ handed_on [] asked ++ kept → GivesInputs old new escaping escaping asked kept given telling left
+pub kept_only : (old new : Option (List ℕ)) (escaping : Escaping) (asked telling : Option Control) (kept left : List Input) (given : List ℕ) → Keeps old new
+    → handed_on given telling ++ left ≡ handed_on [] asked ++ kept → GivesInputs old new escaping escaping asked kept given telling left
 kept_only old new escaping asked telling kept left given same gives = record {
   bytes = [];
   typed = consumes_none old new same;
@@ -20,7 +21,9 @@ kept_only old new escaping asked telling kept left given same gives = record {
 }
 
 -- what was read is given then
-pub given_then : (old new : Option (List ℕ)) (was now : Escaping) (asked middle telling : Option Control) (kept mid left : List Input) (given : List ℕ) → GivesInputs old new was now asked kept [] middle mid → handed_on given telling ++ left ≡ handed_on [] middle ++ mid → GivesInputs old new was now asked kept given telling left
+pub given_then : (old new : Option (List ℕ)) (was now : Escaping) (asked middle telling : Option Control) (kept mid left : List Input) (given : List ℕ)
+    → GivesInputs old new was now asked kept [] middle mid → handed_on given telling ++ left ≡ handed_on [] middle ++ mid
+    → GivesInputs old new was now asked kept given telling left
 given_then old new was now asked middle telling kept mid left given read gives = record {
   bytes = read.bytes;
   typed = read.typed;
@@ -32,7 +35,9 @@ given_then old new was now asked middle telling kept mid left given read gives =
 }
 
 -- the same, where the reader and the escape character stay as they are
-pub given_only : (old new : Option (List ℕ)) (was now : Escaping) (asked telling : Option Control) (kept left : List Input) (given : List ℕ) → new ≡ old → now ≡ was → handed_on given telling ++ left ≡ handed_on [] asked ++ kept → GivesInputs old new was now asked kept given telling left
+pub given_only : (old new : Option (List ℕ)) (was now : Escaping) (asked telling : Option Control) (kept left : List Input) (given : List ℕ) → new ≡ old
+    → now ≡ was → handed_on given telling ++ left ≡ handed_on [] asked ++ kept → GivesInputs old new was now asked kept given telling left
 given_only old new was now asked telling kept left given same stays gives =
     let still = kept_only old old was asked telling kept left given (keeps_same old) gives in
-    subst (λ (o : Option (List ℕ)). GivesInputs old o was now asked kept given telling left) (sym same) (subst (λ (e : Escaping). GivesInputs old old was e asked kept given telling left) (sym stays) still)
+    subst (λ (o : Option (List ℕ)). GivesInputs old o was now asked kept given telling left) (sym same)
+    (subst (λ (e : Escaping). GivesInputs old old was e asked kept given telling left) (sym stays) still)

@@ -1,5 +1,6 @@
 -- Each call is refused for its cause.
-use Rattle.std.proofs.Common.{◌≡◌, ◌⊎◌, inl, inr, ℕ, Bool, true, false, List, [], ◌∷◌, ◌++◌, map, take, Option, Result, Ok, Err, OnErr, IfErr, refl, sym, ap, ◌∙◌, subst, append-nil, arith, ◌<◌, All}
+use Rattle.std.proofs.Common.{◌≡◌, ◌⊎◌, inl, inr, ℕ, Bool, true, false, List, [], ◌∷◌, ◌++◌, map, take, Option, Result, Ok, Err, OnErr, IfErr, refl, sym, ap}
+use Rattle.std.proofs.Common.{◌∙◌, subst, append-nil, arith, ◌<◌, All}
 use Rattle.std.specs.List.{concat}
 use Rattle.tn_discipline.specs.declared.echo.Symbol.{Symbol}
 use Rattle.tn_discipline.specs.declared.reads.Entry.{Entry}
@@ -26,10 +27,11 @@ use Rattle.tn_server.specs.Screen.{queue}
 use Rattle.tn_server.specs.Terms.{settings}
 use Rattle.tn_server.specs.declared.faults.ServerFault.{ServerFault}
 use Rattle.tn_server.specs.declared.faults.ServerFault.TheVariants as server
-use Rattle.tn_machines.proofs.server.Breaking.{read_past, kept_history}
-use Rattle.tn_machines.proofs.server.Handling.{same_verdict}
+use Rattle.tn_machines.proofs.of_terminal.Breaking.{read_past, kept_history}
+use Rattle.tn_machines.proofs.of_terminal.Handling.{same_verdict}
 use Rattle.tn_machines.specs.server.Reaching.{LeadsTo, RefusesFor, AdvancesRun, Feeds}
-use Rattle.tn_machines.specs.server.Refusing.{SymbolsWait, SymbolsWaitWithin, WaitsWithText, WaitsWithRequest, WaitsIf, RefusesAtItem, RefusesAtByte, IsRefusalCause}
+use Rattle.tn_machines.specs.server.Refusing.{SymbolsWait, SymbolsWaitWithin, WaitsWithText, WaitsWithRequest, WaitsIf, RefusesAtItem, RefusesAtByte}
+use Rattle.tn_machines.specs.server.Refusing.{IsRefusalCause}
 use Rattle.tn_machines.specs.server.Run.{Run, Reads, Cuts, ask, feed, move, show, stop_job, end_job, in_foreground, verdict_at, has_text, writes}
 use Rattle.tn_machines.specs.declared.messages.Message.{Message}
 use Rattle.tn_machines.specs.declared.messages.Message.TheVariants.{Piece, HangUp, ReadFailed, Take, Said, Refused, Left, Resized, Asked}
@@ -48,7 +50,9 @@ symbols_wait h says none = says (ap (λ (q : List Symbol). map_of (take 4096 q))
     map_of q = map data_of q
 
 -- of a text in parts, one more was written
-pub wait_within : (done : List (List ℕ)) (part left text : List ℕ) (old mid : Term) (x y : List ℕ) → concat done ++ (part ++ left) ≡ text → AdvancesRun (show done) old x y [] mid → ((c : Run) → LeadsTo c mid → SymbolsWait (next c.history (wrote part))) → (c : Run) → LeadsTo c old → SymbolsWaitWithin c.history text
+pub wait_within : (done : List (List ℕ)) (part left text : List ℕ) (old mid : Term) (x y : List ℕ) → concat done ++ (part ++ left) ≡ text
+    → AdvancesRun (show done) old x y [] mid → ((c : Run) → LeadsTo c mid → SymbolsWait (next c.history (wrote part))) → (c : Run) → LeadsTo c old
+    → SymbolsWaitWithin c.history text
 wait_within done part left text old mid x y whole does waits c at = (done, part, left, whole, waits (show done c) (does.leads c at))
 
 none_taken : (n : ℕ) → take {A = ℕ} n [] ≡ []
@@ -59,7 +63,8 @@ wrote_none : (h : History) → queue (next h (wrote [])) ≡ queue h
 wrote_none h = ap (λ (bs : List ℕ). queue h ++ output_symbols (settings h).flags bs) (none_taken (fitting_count (queue h) [])) ∙ append-nil (queue h)
 
 -- a text was written, and then symbols wait
-pub wait_after : (b : Bool) (parts : List (List ℕ)) (text : List ℕ) (old mid : Term) (x y : List ℕ) → Cuts b text parts → AdvancesRun (show parts) old x y [] mid → ((c : Run) → LeadsTo c mid → SymbolsWait c.history) → (c : Run) → LeadsTo c old → WaitsWithText b c.history text
+pub wait_after : (b : Bool) (parts : List (List ℕ)) (text : List ℕ) (old mid : Term) (x y : List ℕ) → Cuts b text parts
+    → AdvancesRun (show parts) old x y [] mid → ((c : Run) → LeadsTo c mid → SymbolsWait c.history) → (c : Run) → LeadsTo c old → WaitsWithText b c.history text
 wait_after true parts text old mid x y cuts does waits c at =
     let k = in_parts c.history parts in
     (parts, [], [], append-nil (concat parts) ∙ cuts.0, λ none. waits (show parts c) (does.leads c at) (sym (wrote_none k) ∙ none))
@@ -81,27 +86,34 @@ kept_move id job.Ended c = end (in_foreground c id)
     end false = refl
 
 -- the job was moved before
-pub wait_moved : (id : ℕ) (state : JobState) (b : Bool) (text : List ℕ) (old mid : Term) (x y : List ℕ) → AdvancesRun (move id state) old x y [] mid → ((c : Run) → LeadsTo c mid → WaitsWithText b c.history text) → (c : Run) → LeadsTo c old → WaitsWithText b c.history text
+pub wait_moved : (id : ℕ) (state : JobState) (b : Bool) (text : List ℕ) (old mid : Term) (x y : List ℕ) → AdvancesRun (move id state) old x y [] mid
+    → ((c : Run) → LeadsTo c mid → WaitsWithText b c.history text) → (c : Run) → LeadsTo c old → WaitsWithText b c.history text
 wait_moved id state b text old mid x y does waits c at =
     subst (λ (h : History). WaitsWithText b h text) (kept_move id state c) (waits (move id state c) (does.leads c at))
 
 -- a request was answered before, and that shows nothing
-pub wait_asked : (old mid : Term) (x y : List ℕ) (put : List (Option Entry)) → AdvancesRun ask old x y put mid → ((c : Run) → LeadsTo c mid → SymbolsWait c.history) → (c : Run) → LeadsTo c old → SymbolsWait c.history
+pub wait_asked : (old mid : Term) (x y : List ℕ) (put : List (Option Entry)) → AdvancesRun ask old x y put mid
+    → ((c : Run) → LeadsTo c mid → SymbolsWait c.history) → (c : Run) → LeadsTo c old → SymbolsWait c.history
 wait_asked old mid x y put does waits c at =
     subst (λ (h : History). SymbolsWait h) (kept_history (record c { history = next c.history took }) (waiting c.history)) (waits (ask c) (does.leads c at))
 
 -- PIECES
-at_stop : (c : Run) (piece front back : List ℕ) (f : ServerFault) (done left more : List Item) (here : DecoderState) → piece ≡ front ++ back → nvt.LeadsTo (c.stream ++ front) (items c.history ++ (done ++ left)) here → Reads c piece (done ++ (left ++ more)) → IsStopCause (gets c.history done) left here back f → RefusesAtItem c piece f ⊎ ((f ≡ server.Memory) × RefusesAtByte c piece)
+at_stop : (c : Run) (piece front back : List ℕ) (f : ServerFault) (done left more : List Item) (here : DecoderState) → piece ≡ front ++ back
+    → nvt.LeadsTo (c.stream ++ front) (items c.history ++ (done ++ left)) here → Reads c piece (done ++ (left ++ more))
+    → IsStopCause (gets c.history done) left here back f → RefusesAtItem c piece f ⊎ ((f ≡ server.Memory) × RefusesAtByte c piece)
 at_stop c piece front back f done [] more here whole at r why = inr (why.0, (front, back, whole, done ++ [], here, at, why.1))
 at_stop c piece front back f done (item ∷ left) more here whole at r why = inl (done, item, left ++ more, r, why)
 
-stopped_at : (old : Term) (end : End) (piece x y : List ℕ) (f : ServerFault) → old.progress.over ≡ false → All (λ b. b < 256) piece → StopsWithin old.end piece f x y end → (c : Run) → LeadsTo c old → RefusesAtItem c piece f ⊎ ((f ≡ server.Memory) × RefusesAtByte c piece)
+stopped_at : (old : Term) (end : End) (piece x y : List ℕ) (f : ServerFault) → old.progress.over ≡ false → All (λ b. b < 256) piece
+    → StopsWithin old.end piece f x y end → (c : Run) → LeadsTo c old → RefusesAtItem c piece f ⊎ ((f ≡ server.Memory) × RefusesAtByte c piece)
 stopped_at old end piece x y f on small h c at =
     let l = at.live on in
     let past = read_past old end piece x y f on small h c at in
-    at_stop c piece h.front h.back f h.done h.left past.0 h.here h.whole (h.reads c.stream (items c.history) l.read) past.1 (h.cause (has_read old.end.decoder c.stream (items c.history) l.read) c.history l.leads)
+    at_stop c piece h.front h.back f h.done h.left past.0 h.here h.whole (h.reads c.stream (items c.history) l.read) past.1
+    (h.cause (has_read old.end.decoder c.stream (items c.history) l.read) c.history l.leads)
 
-item_refused : (old : Term) (end : End) (piece x y : List ℕ) (g : PtyFault) → old.progress.over ≡ false → All (λ b. b < 256) piece → StopsWithin old.end piece (server.Pty g) x y end → (c : Run) → LeadsTo c old → RefusesAtItem c piece (server.Pty g)
+item_refused : (old : Term) (end : End) (piece x y : List ℕ) (g : PtyFault) → old.progress.over ≡ false → All (λ b. b < 256) piece
+    → StopsWithin old.end piece (server.Pty g) x y end → (c : Run) → LeadsTo c old → RefusesAtItem c piece (server.Pty g)
 item_refused old end piece x y g on small h c at = by (stopped_at old end piece x y (server.Pty g) on small h c at)
   where
     no_memory : server.Pty g ≡ server.Memory → ⊥
@@ -111,16 +123,21 @@ item_refused old end piece x y g on small h c at = by (stopped_at old end piece 
     by (inl r) = r
     by (inr r) = absurd (no_memory r.0)
 
-memory_refused : (old : Term) (end : End) (piece x y : List ℕ) → old.progress.over ≡ false → All (λ b. b < 256) piece → StopsWithin old.end piece server.Memory x y end → (c : Run) → LeadsTo c old → IsRefusalCause c (Piece piece) server.Memory
+memory_refused : (old : Term) (end : End) (piece x y : List ℕ) → old.progress.over ≡ false → All (λ b. b < 256) piece
+    → StopsWithin old.end piece server.Memory x y end → (c : Run) → LeadsTo c old → IsRefusalCause c (Piece piece) server.Memory
 memory_refused old end piece x y on small h c at = by (stopped_at old end piece x y server.Memory on small h c at)
   where
     by : RefusesAtItem c piece server.Memory ⊎ ((server.Memory ≡ server.Memory) × RefusesAtByte c piece) → IsRefusalCause c (Piece piece) server.Memory
     by (inl r) = inl r
     by (inr r) = inr (inl r.1)
 
-pub feed_cause : (old : Term) (end : End) (piece x y : List ℕ) (f : ServerFault) → old.progress.over ≡ false → All (λ b. b < 256) piece → (IsOfItem f → StopsWithin old.end piece f x y end) → (f ≡ server.Failed → old.end.failed ≡ true) → (f ≡ server.Pty pty.Closed → old.end.terminal.closed ≡ true) → IsOfPiece f → RefusesFor old (Piece piece) f
-feed_cause old end piece x y (server.Pty pty.TooFarAhead) on small halts failed shut none = λ c at. item_refused old end piece x y pty.TooFarAhead on small (halts tt) c at
-feed_cause old end piece x y (server.Pty pty.Memory) on small halts failed shut none = λ c at. item_refused old end piece x y pty.Memory on small (halts tt) c at
+pub feed_cause : (old : Term) (end : End) (piece x y : List ℕ) (f : ServerFault) → old.progress.over ≡ false → All (λ b. b < 256) piece
+    → (IsOfItem f → StopsWithin old.end piece f x y end) → (f ≡ server.Failed → old.end.failed ≡ true)
+    → (f ≡ server.Pty pty.Closed → old.end.terminal.closed ≡ true) → IsOfPiece f → RefusesFor old (Piece piece) f
+feed_cause old end piece x y (server.Pty pty.TooFarAhead) on small halts failed shut none =
+    λ c at. item_refused old end piece x y pty.TooFarAhead on small (halts tt) c at
+feed_cause old end piece x y (server.Pty pty.Memory) on small halts failed shut none =
+    λ c at. item_refused old end piece x y pty.Memory on small (halts tt) c at
 feed_cause old end piece x y (server.Pty pty.Closed) on small halts failed shut none = λ c at. absurd (true_false (sym (shut refl) ∙ (at.live on).closed))
 feed_cause old end piece x y server.Memory on small halts failed shut none = λ c at. memory_refused old end piece x y on small (halts tt) c at
 feed_cause old end piece x y server.Failed on small halts failed shut none = λ c at. absurd (true_false (sym (failed refl) ∙ (at.live on).failed))
@@ -142,41 +159,54 @@ waits_only false h w = w
 asks_in : (c : Run) (t : Term) → t.progress.asks ≡ true → LeadsTo c t → c.progress.asks ≡ true
 asks_in c t e at = ap (λ p. p.asks) (sym at.progress) ∙ e
 
-after_items : (c : Run) (piece : List ℕ) (xs : List Item) (f : ServerFault) → f ≡ server.Memory → Reads c piece xs → WaitsIf c.progress.asks (gets c.history xs) → IsRefusalCause c (Piece piece) f
+after_items : (c : Run) (piece : List ℕ) (xs : List Item) (f : ServerFault) → f ≡ server.Memory → Reads c piece xs → WaitsIf c.progress.asks (gets c.history xs)
+    → IsRefusalCause c (Piece piece) f
 after_items c piece xs f e r w = subst (λ (g : ServerFault). IsRefusalCause c (Piece piece) g) (sym e) (inr (inr (xs, r, w)))
 
 -- a piece was fed, and then the entries could not be asked for
-pub asked_cause : (old mid : Term) (piece x y : List ℕ) (f : ServerFault) → old.progress.asks ≡ true → Feeds old piece x y mid → f ≡ server.Memory → ((c : Run) → LeadsTo c mid → SaysSomething c.history took) → RefusesFor old (Piece piece) f
+pub asked_cause : (old mid : Term) (piece x y : List ℕ) (f : ServerFault) → old.progress.asks ≡ true → Feeds old piece x y mid → f ≡ server.Memory
+    → ((c : Run) → LeadsTo c mid → SaysSomething c.history took) → RefusesFor old (Piece piece) f
 asked_cause old mid piece x y f asks fed e says = λ c at.
     let xs = fed.items in
-    after_items c piece xs f e (fed.reads c at) (waits_asked c.progress.asks (gets c.history xs) (asks_in c old asks at) (inl (says (feed piece xs c) (fed.does.leads c at))))
+    after_items c piece xs f e (fed.reads c at) (waits_asked c.progress.asks (gets c.history xs) (asks_in c old asks at)
+    (inl (says (feed piece xs c) (fed.does.leads c at))))
 
-fed_waits : (old mid : Term) (piece x y : List ℕ) → Feeds old piece x y mid → ((c : Run) → LeadsTo c mid → SymbolsWait c.history) → (f : ServerFault) → f ≡ server.Memory → RefusesFor old (Piece piece) f
+fed_waits : (old mid : Term) (piece x y : List ℕ) → Feeds old piece x y mid → ((c : Run) → LeadsTo c mid → SymbolsWait c.history) → (f : ServerFault)
+    → f ≡ server.Memory → RefusesFor old (Piece piece) f
 fed_waits old mid piece x y fed waits f e = λ c at.
     let xs = fed.items in
     after_items c piece xs f e (fed.reads c at) (waits_only c.progress.asks (gets c.history xs) (waits (feed piece xs c) (fed.does.leads c at)))
 
 -- OTHER MESSAGES
 -- what a refused call says of its fault and of why memory runs out
-pub stuck_cause : {A : Type 0} (old : Term) (m : Message) (r : Result A Stuck) (W : Type 0) → IfErr r (λ s. s.fault ≡ server.Memory) → OnErr r W → (W → (f : ServerFault) → f ≡ server.Memory → RefusesFor old m f) → IfErr r (λ s. RefusesFor old m s.fault)
+pub stuck_cause : {A : Type 0} (old : Term) (m : Message) (r : Result A Stuck) (W : Type 0) → IfErr r (λ s. s.fault ≡ server.Memory) → OnErr r W
+    → (W → (f : ServerFault) → f ≡ server.Memory → RefusesFor old m f) → IfErr r (λ s. RefusesFor old m s.fault)
 stuck_cause old m (Ok a) W is waits make = tt
 stuck_cause old m (Err s) W is waits make = make waits s.fault is
 
 -- a piece was fed, and then its symbols could not be pulled
-pub fed_cause : {A : Type 0} (old mid : Term) (piece x y : List ℕ) (r : Result A Stuck) → Feeds old piece x y mid → IfErr r (λ s. s.fault ≡ server.Memory) → OnErr r ((c : Run) → LeadsTo c mid → SymbolsWait c.history) → IfErr r (λ s. RefusesFor old (Piece piece) s.fault)
+pub fed_cause : {A : Type 0} (old mid : Term) (piece x y : List ℕ) (r : Result A Stuck) → Feeds old piece x y mid → IfErr r (λ s. s.fault ≡ server.Memory)
+    → OnErr r ((c : Run) → LeadsTo c mid → SymbolsWait c.history) → IfErr r (λ s. RefusesFor old (Piece piece) s.fault)
 fed_cause old mid piece x y r fed is waits = stuck_cause old (Piece piece) r _ is waits (fed_waits old mid piece x y fed)
 
 -- after the entries were asked for
-pub answered_cause : {A : Type 0} (old mid last : Term) (piece x y u v : List ℕ) (put : List (Option Entry)) (r : Result A Stuck) → Feeds old piece x y mid → AdvancesRun ask mid u v put last → IfErr r (λ s. s.fault ≡ server.Memory) → OnErr r ((c : Run) → LeadsTo c last → SymbolsWait c.history) → IfErr r (λ s. RefusesFor old (Piece piece) s.fault)
+pub answered_cause : {A : Type 0} (old mid last : Term) (piece x y u v : List ℕ) (put : List (Option Entry)) (r : Result A Stuck) → Feeds old piece x y mid
+    → AdvancesRun ask mid u v put last → IfErr r (λ s. s.fault ≡ server.Memory) → OnErr r ((c : Run) → LeadsTo c last → SymbolsWait c.history)
+    → IfErr r (λ s. RefusesFor old (Piece piece) s.fault)
 answered_cause old mid last piece x y u v put r fed asked is waits =
     stuck_cause old (Piece piece) r _ is waits (λ w. fed_waits old mid piece x y fed (wait_asked mid last u v put asked w))
 
-pub take_cause : {A : Type 0} (old : Term) (r : Result A Stuck) → IfErr r (λ s. s.fault ≡ server.Memory) → OnErr r ((c : Run) → LeadsTo c old → WaitsWithRequest c.history) → IfErr r (λ s. RefusesFor old Take s.fault)
+pub take_cause : {A : Type 0} (old : Term) (r : Result A Stuck) → IfErr r (λ s. s.fault ≡ server.Memory)
+    → OnErr r ((c : Run) → LeadsTo c old → WaitsWithRequest c.history) → IfErr r (λ s. RefusesFor old Take s.fault)
 take_cause old r is waits = stuck_cause old Take r _ is waits (λ w f e c at. (e, w c at))
 
-pub said_cause : {A : Type 0} (old : Term) (id : JobId) (text : List ℕ) (after : After) (r : Result A Stuck) → old.progress.over ≡ false → IfErr r (λ s. s.fault ≡ server.Memory) → OnErr r ((c : Run) → LeadsTo c old → WaitsWithText (writes (verdict_at (state_at old.table id.0) (has_text text) after old.tostop)) c.history text) → IfErr r (λ s. RefusesFor old (Said id text after) s.fault)
+pub said_cause : {A : Type 0} (old : Term) (id : JobId) (text : List ℕ) (after : After) (r : Result A Stuck) → old.progress.over ≡ false
+    → IfErr r (λ s. s.fault ≡ server.Memory) → OnErr r ((c : Run) → LeadsTo c old
+    → WaitsWithText (writes (verdict_at (state_at old.table id.0) (has_text text) after old.tostop)) c.history text)
+    → IfErr r (λ s. RefusesFor old (Said id text after) s.fault)
 said_cause old id text after r on is waits =
-    stuck_cause old (Said id text after) r _ is waits (λ w f e c at. (e, subst (λ (v : Option Verdict). WaitsWithText (writes v) c.history text) (same_verdict id.0 text after old c on at) (w c at)))
+    stuck_cause old (Said id text after) r _ is waits (λ w f e c at.
+    (e, subst (λ (v : Option Verdict). WaitsWithText (writes v) c.history text) (same_verdict id.0 text after old c on at) (w c at)))
 
 -- a message that brings nothing itself
 abbrev pub IsQuiet : Message → Type 0
@@ -199,7 +229,9 @@ quiet c (Piece piece) f q e w = absurd q
 quiet c Take f q e w = absurd q
 quiet c (Said id text after) f q e w = absurd q
 
-pub quiet_cause : {A : Type 0} (change : Run → Run) (old mid : Term) (m : Message) (x y : List ℕ) (put : List (Option Entry)) (r : Result A Stuck) → IsQuiet m → ((c : Run) → (change c).history ≡ c.history) → AdvancesRun change old x y put mid → IfErr r (λ s. s.fault ≡ server.Memory) → OnErr r ((c : Run) → LeadsTo c mid → SymbolsWait c.history) → IfErr r (λ s. RefusesFor old m s.fault)
+pub quiet_cause : {A : Type 0} (change : Run → Run) (old mid : Term) (m : Message) (x y : List ℕ) (put : List (Option Entry)) (r : Result A Stuck) → IsQuiet m
+    → ((c : Run) → (change c).history ≡ c.history) → AdvancesRun change old x y put mid → IfErr r (λ s. s.fault ≡ server.Memory)
+    → OnErr r ((c : Run) → LeadsTo c mid → SymbolsWait c.history) → IfErr r (λ s. RefusesFor old m s.fault)
 quiet_cause change old mid m x y put r q stays does is waits =
     stuck_cause old m r _ is waits (λ w f e c at. quiet c m f q e (subst SymbolsWait (stays c) (w (change c) (does.leads c at))))
 

@@ -6,7 +6,7 @@ use Rattle.tn_jobs.specs.declared.verdicts.JobState.{JobState}
 use Rattle.tn_jobs.specs.declared.verdicts.JobState.TheVariants as job
 use Rattle.tn_jobs.specs.declared.verdicts.Verdict.{Verdict}
 use Rattle.tn_server.specs.declared.wishes.Editing.{Editing}
-use Rattle.tn_machines.proofs.server.Hanging.{ended_of, ask_ended, halt_ended}
+use Rattle.tn_machines.proofs.of_terminal.Hanging.{ended_of, ask_ended, halt_ended}
 use Rattle.tn_machines.proofs.lemmas.Ending.{Moves, first_cases, moves_as, moves_first, run_moves, fault_came}
 use Rattle.tn_machines.specs.Counting.{first_end}
 use Rattle.tn_machines.specs.server.Ending.{EndsAt, IsEndedAt, IsFaultCause}
@@ -29,7 +29,8 @@ moves_to : (c : Run) (m : Message) (k : Mark) (e d : Ended) → d ≡ e → Move
 moves_to c m k e d is moves = moves_as (ended_of c) (EndsAt c m k) e d is moves
 
 -- a message after which another end would count, had none come
-moves_on : (c : Run) (m : Message) (k : Mark) (a e : Ended) (f : SessionFault) → e ≡ first_end a (ended.Fault f) → MovesAt c m k a → EndsAt c m k (ended.Fault f) → MovesAt c m k e
+moves_on : (c : Run) (m : Message) (k : Mark) (a e : Ended) (f : SessionFault) → e ≡ first_end a (ended.Fault f) → MovesAt c m k a
+    → EndsAt c m k (ended.Fault f) → MovesAt c m k e
 moves_on c m k a e f is before why = moves_first (ended_of c) (EndsAt c m k) a e f is before why
 
 move_moves : (id : ℕ) (state : JobState) (c : Run) → (ended_of (move id state c) ≡ ended_of c) ⊎ (ended_of (move id state c) ≡ ended.Done)
@@ -50,14 +51,16 @@ said_moves : (id : ℕ) (parts : List (List ℕ)) (v : Option Verdict) (c : Run)
 said_moves id parts None c m k = inl refl
 said_moves id parts (Some v) c m k =
     let moved = move id v.next c in
-    moves_to c m k (ended_of moved) _ (halt_ended (is_end v.next && in_foreground c id) (flush (show parts moved))) (⊎_elim (λ s. inl s) (λ s. moves_to c m k ended.Done (ended_of moved) s (inr tt)) (move_moves id v.next c))
+    moves_to c m k (ended_of moved) _ (halt_ended (is_end v.next && in_foreground c id) (flush (show parts moved)))
+    (⊎_elim (λ s. inl s) (λ s. moves_to c m k ended.Done (ended_of moved) s (inr tt)) (move_moves id v.next c))
 
 acts_moves : (c new : Run) (m : Message) (k : Mark) → Acts c m new → MovesAt c m k (ended_of new)
 acts_moves c new (Piece piece) k a = inl (ap ended_of a.2 ∙ ask_ended c.progress.asks (feed piece a.0 c))
 acts_moves c new HangUp k a = inl (ap ended_of a)
 acts_moves c new ReadFailed k a = moves_on c ReadFailed k (ended_of c) (ended_of new) fault.Read (ap ended_of a) (inl refl) refl
 acts_moves c new Take k a = inl (ap ended_of a ∙ ask_ended true c)
-acts_moves c new (Said id text after) k a = moves_to c (Said id text after) k _ (ended_of new) (ap ended_of a.2) (said_moves id.0 a.0 _ c (Said id text after) k)
+acts_moves c new (Said id text after) k a = moves_to c (Said id text after) k _ (ended_of new) (ap ended_of a.2)
+    (said_moves id.0 a.0 _ c (Said id text after) k)
 acts_moves c new Refused k a = moves_on c Refused k (ended_of c) (ended_of new) fault.Memory (ap ended_of a) (inl refl) refl
 acts_moves c new Left k a = inl (ap ended_of a)
 acts_moves c new (Resized size) k a = inl (ap ended_of a)
@@ -78,7 +81,8 @@ turn_moves c new m mark.WriteFailed t =
 turn_moves c new m (mark.Refused f put) t =
     let k : Mark = mark.Refused f put in
     let done = put_or_not put m c t.1 in
-    moves_on c m k (ended_of done) (ended_of new) (fault.Server f) (ap ended_of t.3) (moves_to c m k (ended_of t.1) (ended_of done) (unput_ended put m c t.1) (handles_moves c.progress.over c t.1 m k t.2)) (put, refl, t.4)
+    moves_on c m k (ended_of done) (ended_of new) (fault.Server f) (ap ended_of t.3)
+    (moves_to c m k (ended_of t.1) (ended_of done) (unput_ended put m c t.1) (handles_moves c.progress.over c t.1 m k t.2)) (put, refl, t.4)
 
 pub turned : (c new : Run) (m : Message × Mark) → Turns c m new → Moves (ended_of c) (EndsAt c m.0 m.1) (ended_of new)
 turned c new m t = turn_moves c new m.0 m.1 t
@@ -95,7 +99,9 @@ ended_at opens c marked fault.Channel r = r
 fault_is : (f g : SessionFault) → ended.Fault f ≡ ended.Fault g → f ≡ g
 fault_is f g e = cc
 
-pub fault_cause : (opens : Bool) (canon : Canon) (editing : Editing) (jobs : Jobs) (marked : List (Message × Mark)) (new : Run) (f : SessionFault) → Runs (run_after_opening opens (start canon editing jobs)) marked new → new.progress.ended ≡ ended.Fault f → IsFaultCause opens (run_after_opening opens (start canon editing jobs)) marked f
+pub fault_cause : (opens : Bool) (canon : Canon) (editing : Editing) (jobs : Jobs) (marked : List (Message × Mark)) (new : Run) (f : SessionFault)
+    → Runs (run_after_opening opens (start canon editing jobs)) marked new → new.progress.ended ≡ ended.Fault f
+    → IsFaultCause opens (run_after_opening opens (start canon editing jobs)) marked f
 fault_cause true canon editing jobs marked new f runs e =
     let c = start canon editing jobs in
     ended_at true c marked f (fault_came Turns (λ at m k. EndsAt at m.0 m.1 k) ended_of turned marked c new f runs refl e)

@@ -1,5 +1,6 @@
 -- What one message does.
-use Rattle.std.proofs.Common.{◌≡◌, ◌<◌, All, ℕ, Bool, true, false, if◌then◌else◌, Some, None, Result, Ok, Err, OnOk, OnErr, List, [], ◌∷◌, ◌++◌, refl, sym, ap, ◌∙◌, subst, append-nil, append_assoc}
+use Rattle.std.proofs.Common.{◌≡◌, ◌<◌, All, ℕ, Bool, true, false, if◌then◌else◌, Some, None, Result, Ok, Err, OnOk, OnErr, List, [], ◌∷◌, ◌++◌, refl, sym, ap}
+use Rattle.std.proofs.Common.{◌∙◌, subst, append-nil, append_assoc}
 use Rattle.std.proofs.lemmas.List.Elements.{All-append, All-nil}
 use Rattle.tn_client.proofs.lemmas.Histories.{items-gets, gets-append, sent-gets, shown-gets}
 use Rattle.tn_client.specs.Calls.{End, IsStopCause, IsFault, call_fault}
@@ -10,7 +11,7 @@ use Rattle.tn_client.specs.Replies.{items_said, replies}
 use Rattle.tn_client.specs.Screen.{text_shown}
 use Rattle.tn_client.specs.declared.faults.ClientFault.{ClientFault}
 use Rattle.tn_client.specs.declared.faults.ClientFault.TheVariants as client_fault
-use Rattle.tn_machines.proofs.client.Typing.{items-types, said_front, shown_front}
+use Rattle.tn_machines.proofs.of_core.Typing.{items-types, said_front, shown_front}
 use Rattle.tn_machines.specs.client.Commands.{command_of}
 use Rattle.tn_machines.specs.client.Counting.{nothing_yet, after_piece, after_message}
 use Rattle.tn_machines.specs.client.Reaching.{LeadsTo, TypesAll, TypesPrefix, DoesWhole, StopsWithin}
@@ -57,13 +58,16 @@ sent_open true sent h e = cc
 sent_open false sent h e = refl
 
 -- KEYS
-typed_leads : (keys : List ℕ) (old new : Core) (end : End) (x y u v : List ℕ) → old.progress.over ≡ false → new ≡ record { end = end; progress = after_piece old.progress } → TypesAll old.end keys x y u v end → (c : Run) → LeadsTo c old → LeadsTo (type_keys keys c) new
+typed_leads : (keys : List ℕ) (old new : Core) (end : End) (x y u v : List ℕ) → old.progress.over ≡ false
+    → new ≡ record { end = end; progress = after_piece old.progress } → TypesAll old.end keys x y u v end → (c : Run) → LeadsTo c old
+    → LeadsTo (type_keys keys c) new
 typed_leads keys old new end x y u v on is t c at = rw is (record {
   live = λ _.
       let l = at.live on in
       record {
         leads = t.leads c.history l.leads;
-        read = read_as old.end.decoder end.decoder c.stream (items c.history) (items (types c.history keys)) t.keeps.decoder (items-types c.history keys) l.read;
+        read = read_as old.end.decoder end.decoder c.stream (items c.history) (items (types c.history keys)) t.keeps.decoder
+            (items-types c.history keys) l.read;
         bytes = l.bytes;
         failed = t.keeps.failed ∙ l.failed;
         latest = λ e. sent_open c.progress.closed c.sent (types c.history keys) e;
@@ -71,7 +75,9 @@ typed_leads keys old new end x y u v on is t c at = rw is (record {
   progress = ap after_piece at.progress;
 })
 
-pub does_keys : (keys : List ℕ) (old new : Core) (end : End) (x y u v : List ℕ) → old.progress.over ≡ false → new ≡ record { end = end; progress = after_piece old.progress } → TypesAll old.end keys x y u v end → DoesWhole old (record { from = Keys; message = Piece keys }) x y u v new
+pub does_keys : (keys : List ℕ) (old new : Core) (end : End) (x y u v : List ℕ) → old.progress.over ≡ false
+    → new ≡ record { end = end; progress = after_piece old.progress } → TypesAll old.end keys x y u v end
+    → DoesWhole old (record { from = Keys; message = Piece keys }) x y u v new
 does_keys keys old new end x y u v on is t = record {
   said = t.said;
   text = t.text;
@@ -88,7 +94,9 @@ does_keys keys old new end x y u v on is t = record {
       );
 }
 
-pub stops_keys : (keys : List ℕ) (old new : Core) (end : End) (x y u v : List ℕ) → old.progress.over ≡ false → new ≡ record { end = end; progress = after_piece old.progress } → TypesPrefix old.end keys x y u v end → StopsWithin old (record { from = Keys; message = Piece keys }) x y u v new
+pub stops_keys : (keys : List ℕ) (old new : Core) (end : End) (x y u v : List ℕ) → old.progress.over ≡ false
+    → new ≡ record { end = end; progress = after_piece old.progress } → TypesPrefix old.end keys x y u v end
+    → StopsWithin old (record { from = Keys; message = Piece keys }) x y u v new
 stops_keys keys old new end x y u v on is (front, back, e, t) = record {
   part = spells t.said;
   text = t.text;
@@ -108,7 +116,9 @@ stops_keys keys old new end x y u v on is (front, back, e, t) = record {
 }
 
 -- THE NETWORK
-pub does_feed : (piece : List ℕ) (old new : Core) (end : End) (x y u v : List ℕ) → All (λ b. b < 256) piece → old.progress.over ≡ false → new ≡ record { end = end; progress = after_piece old.progress } → client.Feeds old.end piece x y u v end → DoesWhole old (record { from = Net; message = Piece piece }) x y u v new
+pub does_feed : (piece : List ℕ) (old new : Core) (end : End) (x y u v : List ℕ) → All (λ b. b < 256) piece → old.progress.over ≡ false
+    → new ≡ record { end = end; progress = after_piece old.progress } → client.Feeds old.end piece x y u v end
+    → DoesWhole old (record { from = Net; message = Piece piece }) x y u v new
 does_feed piece old new end x y u v small on is f = record {
   said = f.said;
   text = f.text;
@@ -143,24 +153,29 @@ append_is_nil [] ys e = refl
 append_is_nil (x ∷ xs) ys e = cc
 
 -- the first items of a piece were done, and one or the decoder was refused
-first_said : (k : History) (left more part : List Item) (here : DecoderState) (back : List ℕ) → IsStopCause k left part here back → (rest : List Item) × (items_said (gets k (left ++ more)) ≡ items_said k ++ (part ++ rest))
+first_said : (k : History) (left more part : List Item) (here : DecoderState) (back : List ℕ) → IsStopCause k left part here back → (rest : List Item)
+    × (items_said (gets k (left ++ more)) ≡ items_said k ++ (part ++ rest))
 first_said k [] more part here back why =
     let m = sent-gets k more in
     (m.0, m.1 ∙ ap (λ (xs : List Item). items_said k ++ (xs ++ m.0)) (sym why.0))
 first_said k (item ∷ left) more part here back why =
     let m = sent-gets (next k (got item)) (left ++ more) in (
       why.rest ++ m.0,
-      m.1 ∙ append_assoc (items_said k) (replies k (got item)) m.0 ∙ ap (λ (xs : List Item). items_said k ++ (xs ++ m.0)) why.whole ∙ ap (λ (xs : List Item). items_said k ++ xs) (append_assoc part why.rest m.0),
+      m.1 ∙ append_assoc (items_said k) (replies k (got item)) m.0 ∙ ap (λ (xs : List Item). items_said k ++ (xs ++ m.0)) why.whole
+          ∙ ap (λ (xs : List Item). items_said k ++ xs) (append_assoc part why.rest m.0),
     )
 
 -- the items of the whole piece go on from those of its front
-pub read_past : (piece : List ℕ) (old : Core) (x y u v : List ℕ) → All (λ b. b < 256) piece → old.progress.over ≡ false → (f : client.StopsWithin old.end piece x y u v) → (c : Run) → LeadsTo c old → (more : List Item) × Reads c piece (f.done ++ (f.left ++ more))
+pub read_past : (piece : List ℕ) (old : Core) (x y u v : List ℕ) → All (λ b. b < 256) piece → old.progress.over ≡ false
+    → (f : client.StopsWithin old.end piece x y u v) → (c : Run) → LeadsTo c old → (more : List Item) × Reads c piece (f.done ++ (f.left ++ more))
 read_past piece old x y u v small on f c at =
     let l = at.live on in
     let before = f.reads c.stream (items c.history) l.read in
     read_on c.stream piece f.front f.back (items c.history) f.done f.left l.bytes small f.whole (before.rest, before.reading)
 
-pub stops_feed : (piece : List ℕ) (old new : Core) (end : End) (x y u v : List ℕ) → All (λ b. b < 256) piece → old.progress.over ≡ false → new ≡ record { end = end; progress = after_piece old.progress } → client.StopsWithin old.end piece x y u v → StopsWithin old (record { from = Net; message = Piece piece }) x y u v new
+pub stops_feed : (piece : List ℕ) (old new : Core) (end : End) (x y u v : List ℕ) → All (λ b. b < 256) piece → old.progress.over ≡ false
+    → new ≡ record { end = end; progress = after_piece old.progress } → client.StopsWithin old.end piece x y u v
+    → StopsWithin old (record { from = Net; message = Piece piece }) x y u v new
 stops_feed piece old new end x y u v small on is f = record {
   part = spells (f.said ++ f.part);
   text = f.text;
@@ -183,13 +198,22 @@ stops_feed piece old new end x y u v small on is f = record {
         handled c (feed piece xs c) old told on at (xs, past.1, refl),
         ap (λ (core : Core). core.progress) is ∙ ap after_piece at.progress,
         refl,
-        (spells r.0, ap spells said ∙ spells-append (items_said h) ((f.said ++ f.part) ++ r.0) ∙ ap (λ (bs : List ℕ). spells (items_said h) ++ bs) (spells-append (f.said ++ f.part) r.0)),
-        (s.0, ap text_shown (gets-append h f.done (f.left ++ more)) ∙ s.1 ∙ ap (λ (bs : List ℕ). bs ++ s.0) (f.shows h l.leads) ∙ append_assoc (text_shown h) f.text s.0),
+        (
+          spells r.0,
+          ap spells said ∙ spells-append (items_said h) ((f.said ++ f.part) ++ r.0)
+              ∙ ap (λ (bs : List ℕ). spells (items_said h) ++ bs) (spells-append (f.said ++ f.part) r.0),
+        ),
+        (
+          s.0,
+          ap text_shown (gets-append h f.done (f.left ++ more)) ∙ s.1 ∙ ap (λ (bs : List ℕ). bs ++ s.0) (f.shows h l.leads)
+              ∙ append_assoc (text_shown h) f.text s.0,
+        ),
       );
 }
 
 -- an end that had failed is fed nothing, but a run never leads there
-pub stops_failed : (piece : List ℕ) (old new : Core) (x y u v : List ℕ) → old.progress.over ≡ false → old.end.failed ≡ true → y ≡ x → v ≡ u → StopsWithin old (record { from = Net; message = Piece piece }) x y u v new
+pub stops_failed : (piece : List ℕ) (old new : Core) (x y u v : List ℕ) → old.progress.over ≡ false → old.end.failed ≡ true → y ≡ x → v ≡ u
+    → StopsWithin old (record { from = Net; message = Piece piece }) x y u v new
 stops_failed piece old new x y u v on failed same stays = record {
   part = [];
   text = [];
@@ -201,15 +225,21 @@ stops_failed piece old new x y u v on failed same stays = record {
     true_false : true ≡ false → ⊥
     true_false e = cc
 
-pub feed_stops : (piece : List ℕ) (old new : Core) (end : End) (x y u v : List ℕ) (f : ClientFault) → All (λ b. b < 256) piece → old.progress.over ≡ false → new ≡ record { end = end; progress = after_piece old.progress } → IsFault (call_fault old.end) f → (f ≡ client_fault.Memory → client.StopsWithin old.end piece x y u v) → (f ≡ client_fault.Failed → (y ≡ x) × (v ≡ u)) → StopsWithin old (record { from = Net; message = Piece piece }) x y u v new
+pub feed_stops : (piece : List ℕ) (old new : Core) (end : End) (x y u v : List ℕ) (f : ClientFault) → All (λ b. b < 256) piece → old.progress.over ≡ false
+    → new ≡ record { end = end; progress = after_piece old.progress } → IsFault (call_fault old.end) f
+    → (f ≡ client_fault.Memory → client.StopsWithin old.end piece x y u v) → (f ≡ client_fault.Failed → (y ≡ x) × (v ≡ u))
+    → StopsWithin old (record { from = Net; message = Piece piece }) x y u v new
 feed_stops piece old new end x y u v f small on is why memory failed = by_test old.end.failed refl why
   where
-    by_test : (b : Bool) → old.end.failed ≡ b → IsFault (if b then Some client_fault.Failed else None) f → StopsWithin old (record { from = Net; message = Piece piece }) x y u v new
+    by_test : (b : Bool) → old.end.failed ≡ b → IsFault (if b then Some client_fault.Failed else None) f
+        → StopsWithin old (record { from = Net; message = Piece piece }) x y u v new
     by_test true e cause = let same = failed cause in stops_failed piece old new x y u v on e same.0 same.1
     by_test false e cause = stops_feed piece old new end x y u v small on is (memory cause)
 
 -- THE WINDOW
-pub does_resize : (from : Origin) (size : WindowSize) (old new : Core) (x y u : List ℕ) → old.progress.over ≡ false → new ≡ record old { end = new.end } → client.Advances old.end (resized size.width size.height) new.end → client.Sends old.end (resized size.width size.height) x y → client.ReadsNothing old.end new.end → DoesWhole old (record { from = from; message = Resized size }) x y u u new
+pub does_resize : (from : Origin) (size : WindowSize) (old new : Core) (x y u : List ℕ) → old.progress.over ≡ false → new ≡ record old { end = new.end }
+    → client.Advances old.end (resized size.width size.height) new.end → client.Sends old.end (resized size.width size.height) x y
+    → client.ReadsNothing old.end new.end → DoesWhole old (record { from = from; message = Resized size }) x y u u new
 does_resize from size old new x y u on is goes sends keeps = record {
   said = sends.said;
   text = [];
@@ -240,7 +270,8 @@ does_resize from size old new x y u on is goes sends keeps = record {
       );
 }
 
-pub stops_resize : (from : Origin) (size : WindowSize) (old new : Core) (x y u : List ℕ) → old.progress.over ≡ false → new ≡ record old { end = new.end } → y ≡ x → StopsWithin old (record { from = from; message = Resized size }) x y u u new
+pub stops_resize : (from : Origin) (size : WindowSize) (old new : Core) (x y u : List ℕ) → old.progress.over ≡ false → new ≡ record old { end = new.end }
+    → y ≡ x → StopsWithin old (record { from = from; message = Resized size }) x y u u new
 stops_resize from size old new x y u on is same = record {
   part = [];
   text = [];
@@ -260,7 +291,9 @@ stops_resize from size old new x y u on is same = record {
 }
 
 -- A COMMAND
-pub does_send : (control : Control) (old new : Core) (x y u : List ℕ) → old.progress.over ≡ false → new ≡ record old { end = new.end } → client.Advances old.end (client_events.sent (command_of control)) new.end → client.Sends old.end (client_events.sent (command_of control)) x y → client.ReadsNothing old.end new.end → DoesWhole old (record { from = Keys; message = Asked control }) x y u u new
+pub does_send : (control : Control) (old new : Core) (x y u : List ℕ) → old.progress.over ≡ false → new ≡ record old { end = new.end }
+    → client.Advances old.end (client_events.sent (command_of control)) new.end → client.Sends old.end (client_events.sent (command_of control)) x y
+    → client.ReadsNothing old.end new.end → DoesWhole old (record { from = Keys; message = Asked control }) x y u u new
 does_send control old new x y u on is goes sends keeps = record {
   said = sends.said;
   text = [];
@@ -291,7 +324,8 @@ does_send control old new x y u on is goes sends keeps = record {
       );
 }
 
-pub stops_send : (control : Control) (old new : Core) (x y u : List ℕ) → old.progress.over ≡ false → new ≡ record old { end = new.end } → y ≡ x → StopsWithin old (record { from = Keys; message = Asked control }) x y u u new
+pub stops_send : (control : Control) (old new : Core) (x y u : List ℕ) → old.progress.over ≡ false → new ≡ record old { end = new.end } → y ≡ x
+    → StopsWithin old (record { from = Keys; message = Asked control }) x y u u new
 stops_send control old new x y u on is same = record {
   part = [];
   text = [];
@@ -311,7 +345,8 @@ stops_send control old new x y u on is same = record {
 }
 
 -- the network has no user who asks
-pub does_not_send : (control : Control) (old : Core) (x u : List ℕ) → old.progress.over ≡ false → DoesWhole old (record { from = Net; message = Asked control }) x x u u old
+pub does_not_send : (control : Control) (old : Core) (x u : List ℕ) → old.progress.over ≡ false
+    → DoesWhole old (record { from = Net; message = Asked control }) x x u u old
 does_not_send control old x u on = record {
   said = [];
   text = [];
@@ -385,7 +420,8 @@ stays_closed from m p e = by (after_message from m p).closed refl
     by true is = is
     by false is = let open_before = still_open from m p is in cc
 
-pub does_step : (told : Told) (old new : Core) (x u : List ℕ) → IsPlain told.message → old.progress.over ≡ false → new ≡ record old { progress = after_message told.from told.message old.progress } → DoesWhole old told x x u u new
+pub does_step : (told : Told) (old new : Core) (x u : List ℕ) → IsPlain told.message → old.progress.over ≡ false
+    → new ≡ record old { progress = after_message told.from told.message old.progress } → DoesWhole old told x x u u new
 does_step told old new x u plain on is = record {
   said = [];
   text = [];
@@ -414,7 +450,8 @@ does_step told old new x u plain on is = record {
 }
 
 -- the end is started
-pub starts : (width height limit : ℕ) (end : End) (core : Core) → client.LeadsTo (begun width height limit) end → nvt.LeadsTo [] [] end.decoder → end.failed ≡ false → core ≡ record { end = end; progress = nothing_yet } → LeadsTo (start width height limit) core
+pub starts : (width height limit : ℕ) (end : End) (core : Core) → client.LeadsTo (begun width height limit) end → nvt.LeadsTo [] [] end.decoder
+    → end.failed ≡ false → core ≡ record { end = end; progress = nothing_yet } → LeadsTo (start width height limit) core
 starts width height limit end core s r runs is = rw is (record {
   live = λ _. record {
     leads = s;
@@ -426,7 +463,8 @@ starts width height limit end core s r runs is = rw is (record {
   progress = refl;
 })
 
-pub is_plain : (m : Message) → ((piece : List ℕ) → m ≡ Piece piece → ⊥) → ((size : WindowSize) → m ≡ Resized size → ⊥) → ((control : Control) → m ≡ Asked control → ⊥) → IsPlain m
+pub is_plain : (m : Message) → ((piece : List ℕ) → m ≡ Piece piece → ⊥) → ((size : WindowSize) → m ≡ Resized size → ⊥)
+    → ((control : Control) → m ≡ Asked control → ⊥) → IsPlain m
 is_plain (Piece piece) other unsized unasked = other piece refl
 is_plain (Resized size) other unsized unasked = unsized size refl
 is_plain (Asked control) other unsized unasked = unasked control refl

@@ -36,16 +36,19 @@ shown-types h (k ∷ ks) =
     (shows h (typed k) ++ r.0, r.1 ∙ append_assoc (text_shown h) (shows h (typed k)) r.0)
 
 -- what the rest of the keys would have made the end say and show
-pub said_front : (h : History) (keys front back : List ℕ) (said : List Item) → keys ≡ front ++ back → items_said (types h front) ≡ items_said h ++ said → (rest : List ℕ) × (spells (items_said (types h keys)) ≡ spells (items_said h) ++ (spells said ++ rest))
+pub said_front : (h : History) (keys front back : List ℕ) (said : List Item) → keys ≡ front ++ back → items_said (types h front) ≡ items_said h ++ said
+    → (rest : List ℕ) × (spells (items_said (types h keys)) ≡ spells (items_said h) ++ (spells said ++ rest))
 said_front h keys front back said e f =
     let r = said-types (types h front) back in (
       spells r.0,
-      ap (λ (ks : List ℕ). spells (items_said (types h ks))) e ∙ ap (λ (k : History). spells (items_said k)) (types-append h front back) ∙ ap spells (r.1 ∙ ap (λ (xs : List Item). xs ++ r.0) f)
+      ap (λ (ks : List ℕ). spells (items_said (types h ks))) e ∙ ap (λ (k : History). spells (items_said k)) (types-append h front back)
+          ∙ ap spells (r.1 ∙ ap (λ (xs : List Item). xs ++ r.0) f)
           ∙ spells-append (items_said h ++ said) r.0 ∙ ap (λ (bs : List ℕ). bs ++ spells r.0) (spells-append (items_said h) said)
           ∙ append_assoc (spells (items_said h)) (spells said) (spells r.0),
     )
 
-pub shown_front : (h : History) (keys front back text : List ℕ) → keys ≡ front ++ back → text_shown (types h front) ≡ text_shown h ++ text → (rest : List ℕ) × (text_shown (types h keys) ≡ text_shown h ++ (text ++ rest))
+pub shown_front : (h : History) (keys front back text : List ℕ) → keys ≡ front ++ back → text_shown (types h front) ≡ text_shown h ++ text → (rest : List ℕ)
+    × (text_shown (types h keys) ≡ text_shown h ++ (text ++ rest))
 shown_front h keys front back text e f =
     let r = shown-types (types h front) back in (
       r.0,
@@ -65,17 +68,21 @@ types_none end x u = record {
   keeps = record { decoder = refl; failed = refl };
 }
 
-pub types_more : (a b d : End) (keys : List ℕ) (key : ℕ) (x y z u v w : List ℕ) → TypesAll a keys x y u v b → Advances b (typed key) d → Sends b (typed key) y z → Shows b (typed key) v w → ReadsNothing b d → TypesAll a (keys ++ key ∷ []) x z u w d
+pub types_more : (a b d : End) (keys : List ℕ) (key : ℕ) (x y z u v w : List ℕ) → TypesAll a keys x y u v b → Advances b (typed key) d → Sends b (typed key) y z
+    → Shows b (typed key) v w → ReadsNothing b d → TypesAll a (keys ++ key ∷ []) x z u w d
 types_more a b d keys key x y z u v w t goes sends shows keeps = record {
   said = t.said ++ sends.said;
   text = t.text ++ shows.text;
-  appended = sends.appended ∙ ap (λ (bs : List ℕ). bs ++ spells sends.said) t.appended ∙ append_assoc x (spells t.said) (spells sends.said) ∙ ap (λ (bs : List ℕ). x ++ bs) (sym (spells-append t.said sends.said));
+  appended = sends.appended ∙ ap (λ (bs : List ℕ). bs ++ spells sends.said) t.appended ∙ append_assoc x (spells t.said) (spells sends.said)
+      ∙ ap (λ (bs : List ℕ). x ++ bs) (sym (spells-append t.said sends.said));
   displayed = shows.appended ∙ ap (λ (bs : List ℕ). bs ++ shows.text) t.displayed ∙ append_assoc u t.text shows.text;
   sends = λ h s.
-      ap items_said (types-push h keys key) ∙ ap (λ (xs : List Item). items_said (types h keys) ++ xs) (sends.replies (types h keys) (t.leads h s)) ∙ ap (λ (xs : List Item). xs ++ sends.said) (t.sends h s)
+      ap items_said (types-push h keys key) ∙ ap (λ (xs : List Item). items_said (types h keys) ++ xs) (sends.replies (types h keys) (t.leads h s))
+      ∙ ap (λ (xs : List Item). xs ++ sends.said) (t.sends h s)
       ∙ append_assoc (items_said h) t.said sends.said;
   shows = λ h s.
-      ap text_shown (types-push h keys key) ∙ ap (λ (bs : List ℕ). text_shown (types h keys) ++ bs) (shows.shows (types h keys) (t.leads h s)) ∙ ap (λ (bs : List ℕ). bs ++ shows.text) (t.shows h s)
+      ap text_shown (types-push h keys key) ∙ ap (λ (bs : List ℕ). text_shown (types h keys) ++ bs) (shows.shows (types h keys) (t.leads h s))
+      ∙ ap (λ (bs : List ℕ). bs ++ shows.text) (t.shows h s)
       ∙ append_assoc (text_shown h) t.text shows.text;
   leads = λ h s. subst (λ (k : History). LeadsTo k d) (sym (types-push h keys key)) (goes.leads (types h keys) (t.leads h s));
   keeps = record { decoder = keeps.decoder ∙ t.keeps.decoder; failed = keeps.failed ∙ t.keeps.failed };

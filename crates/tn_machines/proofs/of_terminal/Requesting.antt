@@ -17,7 +17,8 @@ use Rattle.tn_server.specs.Lines.{waiting}
 use Rattle.tn_server.specs.declared.wishes.Editing.{Editing}
 use Rattle.tn_machines.specs.server.Marks.{Turns, Runs, run_after_opening, unput, put_or_not}
 use Rattle.tn_machines.specs.server.Requests.{open_requests, request_of, requests_among, AnswersRequests}
-use Rattle.tn_machines.specs.server.Run.{Run, start, answer, ask, ask_if, feed, hang_up, halt, fail, end_if, after_said, show, flush, move, stop_job, end_job, halt_if, in_foreground, is_end, idle, ends_by, verdict, Acts, ActsUnless}
+use Rattle.tn_machines.specs.server.Run.{Run, start, answer, ask, ask_if, feed, hang_up, halt, fail, end_if, after_said, show, flush, move, stop_job, end_job}
+use Rattle.tn_machines.specs.server.Run.{halt_if, in_foreground, is_end, idle, ends_by, verdict, Acts, ActsUnless}
 use Rattle.tn_machines.specs.declared.server.messages.Mark.{Mark}
 use Rattle.tn_machines.specs.declared.server.messages.Mark.TheVariants as mark
 

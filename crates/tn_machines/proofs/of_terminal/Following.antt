@@ -1,5 +1,6 @@
 -- The history of the end goes on, one call after another.
-use Rattle.std.proofs.Common.{◌≡◌, ℕ, ◌+◌, ◌≤◌, min, nat_le, Bool, true, false, List, [], ◌∷◌, ◌++◌, length, refl, sym, ap, ◌∙◌, subst, arith, append-nil, append_assoc, length-append, length-take, length-drop, if◌then◌else◌}
+use Rattle.std.proofs.Common.{◌≡◌, ℕ, ◌+◌, ◌≤◌, min, nat_le, Bool, true, false, List, [], ◌∷◌, ◌++◌, length, refl, sym, ap, ◌∙◌, subst, arith, append-nil}
+use Rattle.std.proofs.Common.{append_assoc, length-append, length-take, length-drop, if◌then◌else◌}
 use Rattle.std.proofs.lemmas.List.{length-map}
 use Rattle.tn_discipline.specs.declared.echo.Symbol.{Symbol}
 use Rattle.tn_nvt.proofs.lemmas.Reading.{spells-append}
@@ -33,7 +34,8 @@ queue_bound (next h (char_set func value)) = queue_bound h
 queue_bound (next h (echo_set on)) = queue_bound h
 queue_bound (next h (mask_set mask)) = queue_bound h
 
-pub follows_pulled : (old new : End) (n : ℕ) (before after : List ℕ) → Advances old (pulled n) before after new → ReadsNothing old new → ((h : History) → LeadsTo h old → n ≡ min 4096 (length (queue h))) → FollowsPath flushed_history old before after new
+pub follows_pulled : (old new : End) (n : ℕ) (before after : List ℕ) → Advances old (pulled n) before after new → ReadsNothing old new
+    → ((h : History) → LeadsTo h old → n ≡ min 4096 (length (queue h))) → FollowsPath flushed_history old before after new
 follows_pulled old new n before after goes keeps count = record {
   said = goes.said;
   appended = goes.appended;
@@ -49,7 +51,8 @@ follows_pulled old new n before after goes keeps count = record {
     all : (h : History) → LeadsTo h old → n ≡ length (queue h)
     all h s = let b = queue_bound h in let c = count h s in omega (arith, b, c)
 
-pub follows_wrote : (old new : End) (bytes before after : List ℕ) → Advances old (wrote bytes) before after new → ReadsNothing old new → FollowsPath (λ h. next h (wrote bytes)) old before after new
+pub follows_wrote : (old new : End) (bytes before after : List ℕ) → Advances old (wrote bytes) before after new → ReadsNothing old new
+    → FollowsPath (λ h. next h (wrote bytes)) old before after new
 follows_wrote old new bytes before after goes keeps = record {
   said = goes.said;
   appended = goes.appended;
@@ -62,7 +65,8 @@ follows_wrote old new bytes before after goes keeps = record {
   settings = λ h. refl;
 }
 
-pub follows_took : (old new : End) (before after : List ℕ) → Advances old took before after new → ReadsNothing old new → FollowsPath (λ h. next h took) old before after new
+pub follows_took : (old new : End) (before after : List ℕ) → Advances old took before after new → ReadsNothing old new
+    → FollowsPath (λ h. next h took) old before after new
 follows_took old new before after goes keeps = record {
   said = goes.said;
   appended = goes.appended;
@@ -75,7 +79,8 @@ follows_took old new before after goes keeps = record {
   settings = λ h. refl;
 }
 
-pub in_parts-push : (h : History) (parts : List (List ℕ)) (part : List ℕ) → in_parts h (parts ++ part ∷ []) ≡ flushed_history (next (in_parts h parts) (wrote part))
+pub in_parts-push : (h : History) (parts : List (List ℕ)) (part : List ℕ)
+    → in_parts h (parts ++ part ∷ []) ≡ flushed_history (next (in_parts h parts) (wrote part))
 in_parts-push h [] part = refl
 in_parts-push h (p ∷ parts) part = in_parts-push (flushed_history (next h (wrote p))) parts part
 

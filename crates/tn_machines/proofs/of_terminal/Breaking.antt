@@ -1,5 +1,6 @@
 -- What is left where a call is refused.
-use Rattle.std.proofs.Common.{◌≡◌, ℕ, Bool, true, false, List, [], ◌∷◌, ◌++◌, Option, Result, Ok, Err, OnOk, OnErr, IfOk, IfErr, refl, sym, ap, ◌∙◌, subst, append-nil, append_assoc, length, arith, ◌<◌, All}
+use Rattle.std.proofs.Common.{◌≡◌, ℕ, Bool, true, false, List, [], ◌∷◌, ◌++◌, Option, Result, Ok, Err, OnOk, OnErr, IfOk, IfErr, refl, sym, ap, ◌∙◌, subst}
+use Rattle.std.proofs.Common.{append-nil, append_assoc, length, arith, ◌<◌, All}
 use Rattle.std.specs.List.{concat}
 use Rattle.std.proofs.lemmas.List.Elements.{All-nil, All-cons}
 use Rattle.tn_machines.proofs.lemmas.Pieces.{read_on}
@@ -8,7 +9,7 @@ use Rattle.tn_server.specs.Faults.{IsOfItem, IsOfPiece}
 use Rattle.tn_server.specs.Calls.{End, StopsWithin, first_replies}
 use Rattle.tn_server.specs.declared.faults.ServerFault.{ServerFault}
 use Rattle.tn_server.specs.declared.faults.ServerFault.TheVariants as server
-use Rattle.tn_machines.proofs.server.Following.{in_parts-append}
+use Rattle.tn_machines.proofs.of_terminal.Following.{in_parts-append}
 use Rattle.tn_discipline.specs.declared.reads.Entry.{Entry}
 use Rattle.tn_nvt.proofs.lemmas.Reading.{spells-append}
 use Rattle.tn_nvt.specs.Spelling.{spells}
@@ -58,15 +59,18 @@ grows_ask_if false c = grows_none c.history
 pub spelled_more : (h k : History) → Grows h k → (rest : List ℕ) × (spells (items_said k) ≡ spells (items_said h) ++ rest)
 spelled_more h k (more, e) = (spells more, ap spells e ∙ spells-append (items_said h) more)
 
-pub rest_more : (h k l : History) (part : List ℕ) → (rest : List ℕ) × (spells (items_said k) ≡ spells (items_said h) ++ (part ++ rest)) → Grows k l → (rest : List ℕ) × (spells (items_said l) ≡ spells (items_said h) ++ (part ++ rest))
+pub rest_more : (h k l : History) (part : List ℕ) → (rest : List ℕ) × (spells (items_said k) ≡ spells (items_said h) ++ (part ++ rest)) → Grows k l
+    → (rest : List ℕ) × (spells (items_said l) ≡ spells (items_said h) ++ (part ++ rest))
 rest_more h k l part (rest, e) g =
     let m = spelled_more k l g in (
       rest ++ m.0,
-      m.1 ∙ ap (λ (bs : List ℕ). bs ++ m.0) e ∙ append_assoc (spells (items_said h)) (part ++ rest) m.0 ∙ ap (λ (bs : List ℕ). spells (items_said h) ++ bs) (append_assoc part rest m.0),
+      m.1 ∙ ap (λ (bs : List ℕ). bs ++ m.0) e ∙ append_assoc (spells (items_said h)) (part ++ rest) m.0
+          ∙ ap (λ (bs : List ℕ). spells (items_said h) ++ bs) (append_assoc part rest m.0),
     )
 
 -- nothing was done of a change that only sends more
-pub breaks_at_once : (change : Run → Run) (t new : Term) (x y : List ℕ) → new ≡ t → y ≡ x → ((c : Run) → Grows c.history (change c).history) → ((c : Run) → (change c).progress ≡ c.progress) → ((c : Run) → (change c).puts ≡ c.puts) → BreaksOff change t x y [] new
+pub breaks_at_once : (change : Run → Run) (t new : Term) (x y : List ℕ) → new ≡ t → y ≡ x → ((c : Run) → Grows c.history (change c).history)
+    → ((c : Run) → (change c).progress ≡ c.progress) → ((c : Run) → (change c).puts ≡ c.puts) → BreaksOff change t x y [] new
 breaks_at_once change t new x y is same grows stays puts = record {
   part = [];
   appended = same ∙ sym (append-nil x);
@@ -75,7 +79,8 @@ breaks_at_once change t new x y is same grows stays puts = record {
   puts = λ c at. puts c ∙ sym (append-nil c.puts);
 }
 
-pub breaks_after : (f g : Run → Run) (a b d : Term) (x y z : List ℕ) (p q : List (Option Entry)) → AdvancesRun f a x y p b → BreaksOff g b y z q d → BreaksOff (λ c. g (f c)) a x z (p ++ q) d
+pub breaks_after : (f g : Run → Run) (a b d : Term) (x y z : List ℕ) (p q : List (Option Entry)) → AdvancesRun f a x y p b → BreaksOff g b y z q d
+    → BreaksOff (λ c. g (f c)) a x z (p ++ q) d
 breaks_after f g a b d x y z p q one two = record {
   part = spells one.said ++ two.part;
   appended = two.appended ∙ ap (λ (bs : List ℕ). bs ++ two.part) one.appended ∙ append_assoc x (spells one.said) two.part;
@@ -91,7 +96,8 @@ breaks_after f g a b d x y z p q one two = record {
 }
 
 -- what would have come after sends more, and changes nothing else
-pub breaks_before : (f g : Run → Run) (a b : Term) (x y : List ℕ) (p : List (Option Entry)) → ((c : Run) → Grows c.history (g c).history) → ((c : Run) → (g c).progress ≡ c.progress) → ((c : Run) → (g c).puts ≡ c.puts) → BreaksOff f a x y p b → BreaksOff (λ c. g (f c)) a x y p b
+pub breaks_before : (f g : Run → Run) (a b : Term) (x y : List ℕ) (p : List (Option Entry)) → ((c : Run) → Grows c.history (g c).history)
+    → ((c : Run) → (g c).progress ≡ c.progress) → ((c : Run) → (g c).puts ≡ c.puts) → BreaksOff f a x y p b → BreaksOff (λ c. g (f c)) a x y p b
 breaks_before f g a b x y p grows stays puts one = record {
   part = one.part;
   appended = one.appended;
@@ -100,16 +106,19 @@ breaks_before f g a b x y p grows stays puts one = record {
   puts = λ c at. puts (f c) ∙ one.puts c at;
 }
 
-pub breaks_same : (f g : Run → Run) (a b : Term) (x y : List ℕ) (p : List (Option Entry)) → ((c : Run) → LeadsTo c a → g c ≡ f c) → BreaksOff f a x y p b → BreaksOff g a x y p b
+pub breaks_same : (f g : Run → Run) (a b : Term) (x y : List ℕ) (p : List (Option Entry)) → ((c : Run) → LeadsTo c a → g c ≡ f c) → BreaksOff f a x y p b
+    → BreaksOff g a x y p b
 breaks_same f g a b x y p same one = record {
   part = one.part;
   appended = one.appended;
-  sends = λ c at. let P : Run → Type 0 = λ d. (rest : List ℕ) × (spells (items_said d.history) ≡ spells (items_said c.history) ++ (one.part ++ rest)) in subst P (sym (same c at)) (one.sends c at);
+  sends = λ c at. let P : Run → Type 0 = λ d. (rest : List ℕ) × (spells (items_said d.history) ≡ spells (items_said c.history) ++ (one.part ++ rest))
+      in subst P (sym (same c at)) (one.sends c at);
   progress = λ c at. one.progress c at ∙ ap (λ (d : Run). d.progress) (sym (same c at));
   puts = λ c at. ap (λ (d : Run). d.puts) (same c at) ∙ one.puts c at;
 }
 
-breaks_halt : (f : Run → Run) (a b d : Term) (x y : List ℕ) (p q : List (Option Entry)) → BreaksOff f a x y p b → d ≡ record b { progress = after_halt b.progress } → q ≡ end_if b.progress.asks → BreaksOff (λ c. halt (f c)) a x y (p ++ q) d
+breaks_halt : (f : Run → Run) (a b d : Term) (x y : List ℕ) (p q : List (Option Entry)) → BreaksOff f a x y p b
+    → d ≡ record b { progress = after_halt b.progress } → q ≡ end_if b.progress.asks → BreaksOff (λ c. halt (f c)) a x y (p ++ q) d
 breaks_halt f a b d x y p q one is puts = record {
   part = one.part;
   appended = one.appended;
@@ -121,7 +130,8 @@ breaks_halt f a b d x y p q one is puts = record {
       ∙ ap (λ (ps : List (Option Entry)). c.puts ++ (p ++ ps)) (ap (λ (r : Progress). end_if r.asks) (sym (one.progress c at)) ∙ sym puts);
 }
 
-pub breaks_halt_if : (e : Bool) (f : Run → Run) (a b d : Term) (x y : List ℕ) (p q : List (Option Entry)) → BreaksOff f a x y p b → HaltsIf e b q d → BreaksOff (λ c. halt_if e (f c)) a x y (p ++ q) d
+pub breaks_halt_if : (e : Bool) (f : Run → Run) (a b d : Term) (x y : List ℕ) (p q : List (Option Entry)) → BreaksOff f a x y p b → HaltsIf e b q d
+    → BreaksOff (λ c. halt_if e (f c)) a x y (p ++ q) d
 breaks_halt_if true f a b d x y p q one h = breaks_halt f a b d x y p q one h.0 h.1
 breaks_halt_if false f a b d x y p q one h =
     let P : List (Option Entry) → Type 0 = λ ps. BreaksOff f a x y ps d in
@@ -135,11 +145,15 @@ in_single (b ∷ bs) =
     ((b ∷ []) ∷ more.0, ap (λ (xs : List ℕ). b ∷ xs) more.1, All-cons IsPart (b ∷ []) more.0 (omega arith) more.2)
 
 -- a part could not be shown: those before it were, and those after it are not
-pub breaks_parts : (done : List (List ℕ)) (part : List ℕ) (more : List (List ℕ)) (a b d : Term) (x y z : List ℕ) → AdvancesRun (show done) a x y [] b → BreaksOff (show (part ∷ [])) b y z [] d → BreaksOff (show (done ++ part ∷ more)) a x z [] d
+pub breaks_parts : (done : List (List ℕ)) (part : List ℕ) (more : List (List ℕ)) (a b d : Term) (x y z : List ℕ) → AdvancesRun (show done) a x y [] b
+    → BreaksOff (show (part ∷ [])) b y z [] d → BreaksOff (show (done ++ part ∷ more)) a x z [] d
 breaks_parts done part more a b d x y z one two =
     let f : Run → Run = λ c. show (part ∷ []) (show done c) in
     let g : Run → Run = λ c. show more c in
-    breaks_same (λ c. g (f c)) (show (done ++ part ∷ more)) a d x z [] (λ c at. ap (λ (h : History). record c { history = h }) (in_parts-append c.history done (part ∷ more))) (breaks_before f g a d x z [] (λ c. grows_parts c.history more) (λ c. refl) (λ c. refl) (breaks_after (show done) (show (part ∷ [])) a b d x y z [] [] one two))
+    breaks_same (λ c. g (f c)) (show (done ++ part ∷ more)) a d x z []
+    (λ c at. ap (λ (h : History). record c { history = h }) (in_parts-append c.history done (part ∷ more)))
+    (breaks_before f g a d x z [] (λ c. grows_parts c.history more) (λ c. refl) (λ c. refl)
+    (breaks_after (show done) (show (part ∷ [])) a b d x y z [] [] one two))
 
 pub breaks_part : (old new : Term) (mid : End) (part x y : List ℕ) → new ≡ record old { end = mid } → y ≡ x → BreaksOff (show (part ∷ [])) old x y [] new
 breaks_part old new mid part x y is same = record {
@@ -151,7 +165,8 @@ breaks_part old new mid part x y is same = record {
 }
 
 -- the first items of a piece were done, and one or the decoder was refused
-first_said : (k : History) (left more : List Item) (part : List Item) → (rest : List Item) × (first_replies k left ≡ part ++ rest) → (rest : List Item) × (items_said (gets k (left ++ more)) ≡ items_said k ++ (part ++ rest))
+first_said : (k : History) (left more : List Item) (part : List Item) → (rest : List Item) × (first_replies k left ≡ part ++ rest) → (rest : List Item)
+    × (items_said (gets k (left ++ more)) ≡ items_said k ++ (part ++ rest))
 first_said k [] more part (rest, e) =
     let none = append_is_nil part rest (sym e) in
     let m = sent-gets k more in
@@ -163,17 +178,21 @@ first_said k [] more part (rest, e) =
 first_said k (item ∷ left) more part (rest, e) =
     let m = sent-gets (next k (got item)) (left ++ more) in (
       rest ++ m.0,
-      m.1 ∙ append_assoc (items_said k) (replies k (got item)) m.0 ∙ ap (λ (xs : List Item). items_said k ++ (xs ++ m.0)) e ∙ ap (λ (xs : List Item). items_said k ++ xs) (append_assoc part rest m.0),
+      m.1 ∙ append_assoc (items_said k) (replies k (got item)) m.0 ∙ ap (λ (xs : List Item). items_said k ++ (xs ++ m.0)) e
+          ∙ ap (λ (xs : List Item). items_said k ++ xs) (append_assoc part rest m.0),
     )
 
 -- the items of the whole piece go on from those of its front
-pub read_past : (old : Term) (end : End) (piece x y : List ℕ) (f : ServerFault) → old.progress.over ≡ false → All (λ b. b < 256) piece → (h : StopsWithin old.end piece f x y end) → (c : Run) → LeadsTo c old → (more : List Item) × Reads c piece (h.done ++ (h.left ++ more))
+pub read_past : (old : Term) (end : End) (piece x y : List ℕ) (f : ServerFault) → old.progress.over ≡ false → All (λ b. b < 256) piece
+    → (h : StopsWithin old.end piece f x y end) → (c : Run) → LeadsTo c old → (more : List Item) × Reads c piece (h.done ++ (h.left ++ more))
 read_past old end piece x y f on small h c at =
     let l = at.live on in
     let before = h.reads c.stream (items c.history) l.read in
     read_on c.stream piece h.front h.back (items c.history) h.done h.left l.bytes small h.whole (before.rest, before.reading)
 
-halts_break : (old new : Term) (end : End) (piece x y : List ℕ) (f : ServerFault) → old.progress.over ≡ false → new ≡ record old { end = end; progress = after_piece old.progress } → All (λ b. b < 256) piece → StopsWithin old.end piece f x y end → FeedBreaksOff old piece x y new
+halts_break : (old new : Term) (end : End) (piece x y : List ℕ) (f : ServerFault) → old.progress.over ≡ false
+    → new ≡ record old { end = end; progress = after_piece old.progress } → All (λ b. b < 256) piece → StopsWithin old.end piece f x y end
+    → FeedBreaksOff old piece x y new
 halts_break old new end piece x y f on is small h = record {
   part = spells (h.said ++ h.part);
   appended = h.appended;
@@ -186,17 +205,20 @@ halts_break old new end piece x y f on is small h = record {
       let r = first_said k h.left more h.part (h.begins c.history l.leads) in
       let said : items_said (gets c.history xs) ≡ items_said c.history ++ ((h.said ++ h.part) ++ r.0) =
       ap items_said (gets-append c.history h.done (h.left ++ more)) ∙ r.1 ∙ ap (λ (ys : List Item). ys ++ (h.part ++ r.0)) (h.sends c.history l.leads)
-      ∙ append_assoc (items_said c.history) h.said (h.part ++ r.0) ∙ ap (λ (ys : List Item). items_said c.history ++ ys) (sym (append_assoc h.said h.part r.0)) in (
+      ∙ append_assoc (items_said c.history) h.said (h.part ++ r.0) ∙ ap (λ (ys : List Item). items_said c.history ++ ys) (sym (append_assoc h.said h.part r.0))
+      in (
         xs,
         past.1,
         spells r.0,
-        ap spells said ∙ spells-append (items_said c.history) ((h.said ++ h.part) ++ r.0) ∙ ap (λ (bs : List ℕ). spells (items_said c.history) ++ bs) (spells-append (h.said ++ h.part) r.0),
+        ap spells said ∙ spells-append (items_said c.history) ((h.said ++ h.part) ++ r.0)
+            ∙ ap (λ (bs : List ℕ). spells (items_said c.history) ++ bs) (spells-append (h.said ++ h.part) r.0),
       );
   progress = ap (λ (t : Term). t.progress) is;
 }
 
 -- an end that had failed is fed nothing, but a run never leads there
-failed_break : (old new : Term) (end : End) (piece x y : List ℕ) → old.progress.over ≡ false → new ≡ record old { end = end; progress = after_piece old.progress } → old.end.failed ≡ true → y ≡ x → FeedBreaksOff old piece x y new
+failed_break : (old new : Term) (end : End) (piece x y : List ℕ) → old.progress.over ≡ false
+    → new ≡ record old { end = end; progress = after_piece old.progress } → old.end.failed ≡ true → y ≡ x → FeedBreaksOff old piece x y new
 failed_break old new end piece x y on is failed same = record {
   part = [];
   appended = same ∙ sym (append-nil x);
@@ -207,7 +229,9 @@ failed_break old new end piece x y on is failed same = record {
     true_false : true ≡ false → ⊥
     true_false e = cc
 
-pub feed_breaks : (old new : Term) (end : End) (piece x y : List ℕ) (f : ServerFault) → old.progress.over ≡ false → new ≡ record old { end = end; progress = after_piece old.progress } → All (λ b. b < 256) piece → (IsOfItem f → StopsWithin old.end piece f x y end) → (f ≡ server.Failed → (old.end.failed ≡ true) × (y ≡ x)) → IsOfPiece f → FeedBreaksOff old piece x y new
+pub feed_breaks : (old new : Term) (end : End) (piece x y : List ℕ) (f : ServerFault) → old.progress.over ≡ false
+    → new ≡ record old { end = end; progress = after_piece old.progress } → All (λ b. b < 256) piece → (IsOfItem f → StopsWithin old.end piece f x y end)
+    → (f ≡ server.Failed → (old.end.failed ≡ true) × (y ≡ x)) → IsOfPiece f → FeedBreaksOff old piece x y new
 feed_breaks old new end piece x y (server.Pty g) on is small halts failed none = halts_break old new end piece x y (server.Pty g) on is small (halts tt)
 feed_breaks old new end piece x y server.Memory on is small halts failed none = halts_break old new end piece x y server.Memory on is small (halts tt)
 feed_breaks old new end piece x y server.Failed on is small halts failed none = let g = failed refl in failed_break old new end piece x y on is g.0 g.1

@@ -1,5 +1,6 @@
 -- Histories whose ends can't be told apart.
-use Rattle.std.proofs.Common.{◌≡◌, ℕ, zero, suc, ◌+◌, nat_lt, Bool, true, false, not, ◌||◌, List, [], ◌∷◌, ◌++◌, length, take, drop, map, arith, refl, sym, ap, ◌∙◌, subst, append-nil, append_assoc, length-append, if◌then◌else◌}
+use Rattle.std.proofs.Common.{◌≡◌, ℕ, zero, suc, ◌+◌, nat_lt, Bool, true, false, not, ◌||◌, List, [], ◌∷◌, ◌++◌, length, take, drop, map, arith, refl, sym, ap}
+use Rattle.std.proofs.Common.{◌∙◌, subst, append-nil, append_assoc, length-append, if◌then◌else◌}
 use Rattle.std.proofs.lemmas.Bool.{lt-ltb}
 use Rattle.std.proofs.lemmas.List.{append_cancel_left, drop_all, length-map}
 use Rattle.std.specs.List.{concat, flat_map}
@@ -43,18 +44,40 @@ lines_got h k x s = record {
   terms_are = λ i. terms_after (s.flags_are i) (s.terms_are i) (got x);
   flags_are = s.flags_are;
   chars_are = λ i. chars_after (s.chars_are i) (payload_at (s.terms_are i).options x);
-  mode_is = λ i. mask_after (changes (s.terms_are i).options (terms_after (s.flags_are i) (s.terms_are i) (got x)).options) (s.mode_is i) (payload_at (s.terms_are i).options x);
+  mode_is = λ i. mask_after (changes (s.terms_are i).options (terms_after (s.flags_are i) (s.terms_are i) (got x)).options) (s.mode_is i)
+      (payload_at (s.terms_are i).options x);
 }
 
 -- what the owner does leaves the lines as they are
 pub lines_took : (h k : History) → SameLines h k → SameLines (next h took) k
-lines_took h k s = record { roles_are = s.roles_are; limit_is = s.limit_is; terms_are = s.terms_are; flags_are = s.flags_are; chars_are = s.chars_are; mode_is = s.mode_is }
+lines_took h k s = record {
+  roles_are = s.roles_are;
+  limit_is = s.limit_is;
+  terms_are = s.terms_are;
+  flags_are = s.flags_are;
+  chars_are = s.chars_are;
+  mode_is = s.mode_is;
+}
 
 pub lines_wrote : (h k : History) (part : List ℕ) → SameLines h k → SameLines (next h (wrote part)) k
-lines_wrote h k part s = record { roles_are = s.roles_are; limit_is = s.limit_is; terms_are = s.terms_are; flags_are = s.flags_are; chars_are = s.chars_are; mode_is = s.mode_is }
+lines_wrote h k part s = record {
+  roles_are = s.roles_are;
+  limit_is = s.limit_is;
+  terms_are = s.terms_are;
+  flags_are = s.flags_are;
+  chars_are = s.chars_are;
+  mode_is = s.mode_is;
+}
 
 pub lines_pulled : (h k : History) (n : ℕ) → SameLines h k → SameLines (next h (pulled n)) k
-lines_pulled h k n s = record { roles_are = s.roles_are; limit_is = s.limit_is; terms_are = s.terms_are; flags_are = s.flags_are; chars_are = s.chars_are; mode_is = s.mode_is }
+lines_pulled h k n s = record {
+  roles_are = s.roles_are;
+  limit_is = s.limit_is;
+  terms_are = s.terms_are;
+  flags_are = s.flags_are;
+  chars_are = s.chars_are;
+  mode_is = s.mode_is;
+}
 
 pub lines_flushed : (h k : History) → SameLines h k → SameLines (flushed_history h) k
 lines_flushed h k s = lines_pulled h k (length (queue h)) s
@@ -109,10 +132,12 @@ alike_got h k x a =
     record {
       lines = lines_got h k x s;
       taken = a.taken;
-      queues = λ i. queue_with (a.queues i) (shows (settings_by h k s i) (edits (s.mode_is i)) (echoes (s.terms_are i).options) (record { held = half_of (s.limit_is i) (s.roles_are i); ahead = 0; limit = s.limit_is i }) x);
+      queues = λ i. queue_with (a.queues i) (shows (settings_by h k s i) (edits (s.mode_is i)) (echoes (s.terms_are i).options)
+          (record { held = half_of (s.limit_is i) (s.roles_are i); ahead = 0; limit = s.limit_is i }) x);
       dues = a.dues;
       items_are = ap (λ (xs : List Item). xs ++ x ∷ []) a.items_are;
-      said = λ i. a.said i ++ (items_at (s.flags_are i) (s.chars_are i) (s.terms_are i) (got x) ++ list_replies (s.chars_are i) (payload_at (s.terms_are i).options x));
+      said = λ i. a.said i ++ (items_at (s.flags_are i) (s.chars_are i) (s.terms_are i) (got x)
+          ++ list_replies (s.chars_are i) (payload_at (s.terms_are i).options x));
       opened = a.opened;
     }
 
@@ -190,7 +215,8 @@ says_parts h (part ∷ parts) =
       more = first ++ on.more;
       said = on.said ∙ ap (λ (xs : List Item). (xs ++ first) ++ on.more) (append-nil (items_said h)) ∙ append_assoc (items_said h) first on.more;
       dues =
-          or_more (due h) (due (flushed_history here)) (due (in_parts h (part ∷ parts))) (length first) (length on.more) (ap (λ (n : ℕ). due h || nat_lt 0 n) (sym size)) on.dues
+          or_more (due h) (due (flushed_history here)) (due (in_parts h (part ∷ parts))) (length first) (length on.more)
+          (ap (λ (n : ℕ). due h || nat_lt 0 n) (sym size)) on.dues
           ∙ ap (λ (n : ℕ). due h || nat_lt 0 n) (sym (length-append first on.more));
     }
 
@@ -199,7 +225,8 @@ flat_concat [] = refl
 flat_concat (part ∷ parts) = ap (λ (bs : List ℕ). part ++ bs) (flat_concat parts)
 
 -- what parts of one text send
-parts_sent : (h : History) (parts : List (List ℕ)) (text : List ℕ) → queue h ≡ [] → concat parts ≡ text → All IsPart parts → items_said (in_parts h parts) ≡ items_said h ++ map data_of (output_symbols (settings h).flags text)
+parts_sent : (h : History) (parts : List (List ℕ)) (text : List ℕ) → queue h ≡ [] → concat parts ≡ text → All IsPart parts
+    → items_said (in_parts h parts) ≡ items_said h ++ map data_of (output_symbols (settings h).flags text)
 parts_sent h parts text none e few =
     (parts_say h parts none few).0 ∙ ap (λ (bs : List ℕ). items_said h ++ map data_of (output_symbols (settings h).flags bs)) (flat_concat parts ∙ e)
 
@@ -212,7 +239,8 @@ opened_parts h [] = refl
 opened_parts h (part ∷ parts) = opened_parts (flushed_history (next h (wrote part))) parts
 
 -- the same text, in whatever parts
-pub alike_parts : (h k : History) (parts others : List (List ℕ)) (text : List ℕ) → queue h ≡ [] → concat parts ≡ text → All IsPart parts → concat others ≡ text → All IsPart others → Alike h k → Alike (in_parts h parts) (in_parts k others)
+pub alike_parts : (h k : History) (parts others : List (List ℕ)) (text : List ℕ) → queue h ≡ [] → concat parts ≡ text → All IsPart parts → concat others ≡ text
+    → All IsPart others → Alike h k → Alike (in_parts h parts) (in_parts k others)
 alike_parts h k parts others text none e few f fews a =
     let s = a.lines in
     let none' : queue k ≡ [] = sym a.queues ∙ none in
