@@ -81,12 +81,7 @@ pub struct Console<H, K> {
 impl<H: Clock + Copy + Wait, K: Read + Drop> Console<H, K> {
     /// Keys that come from there, which is standard input. With an escape character its user speaks to the
     /// client itself.
-    pub fn new(
-        rt: H,
-        alloc: Global,
-        mut typing: Typing<H, K>,
-        escape: Option<u8>,
-    ) -> Console<H, K>
+    pub fn new(rt: H, alloc: Global, mut typing: Typing<H, K>, escape: Option<u8>) -> Console<H, K>
         ensures escape { (result.escaping.character ≡ escape) × (result.escaping.waits ≡ false) }
         ensures keys { result.typing.keys ≡ typing.keys }
         ensures nothing_yet { (result.kept.items ≡ []) × (result.asked ≡ None) × (result.resized ≡ None) }

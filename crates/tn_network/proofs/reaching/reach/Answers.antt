@@ -10,8 +10,8 @@ use Rattle.tn_network.proofs.reaching.reach.Goals as goal
 pub loop-address-init : goal.loop-address-init
 loop-address-init g c = (_, _, ([], refl, All-nil (λ address. Refuses (g.N.Network.dials c.args.net.now) address)))
 
-pub returns-in-Ok-dial : goal.returns-in-Ok-dial
-returns-in-Ok-dial g c =
+pub returns-in-Ok-dial-clause-reaches : goal.returns-in-Ok-dial-clause-reaches
+returns-in-Ok-dial-clause-reaches g c =
     let i = c.loop-address.invariant.2 in
     let step = taken _ _ _ _ c.in-Some.address c.in-Some.ensures.steps.0 c.in-Some.ensures.steps.1 in (
       Ok c.in-Ok.addresses,
@@ -34,8 +34,8 @@ loop-address-preserved g c =
     let each = All-push Refused i.0 c.in-Some.address i.2 (c.in-Err-dial.error, c.in-Err-dial.ensures) in
     (_, _, (i.0 ++ c.in-Some.address ∷ [], (tried_one _ i.0 _ _ c.in-Some.address i.1 step).0, each))
 
-pub returns : goal.returns
-returns g c =
+pub returns-clause-reaches : goal.returns-clause-reaches
+returns-clause-reaches g c =
     let i = c.loop-address.invariant.2 in
     let it = c.loop-address.address-iterator in
     let Refused : SocketAddr → Type 0 = λ address. Refuses (g.N.Network.dials c.args.net.now) address in
