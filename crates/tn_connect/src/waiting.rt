@@ -1,6 +1,9 @@
 //! Keys whose end is told late, so that a server that hangs up at it has time to answer.
 
-ghost use Rattle.std.specs.Prelude.{None};
+ghost use Rattle.std.specs.Prelude.{◌≡◌, None};
+ghost use Rattle.std.specs.Io.{ReadsAtMost};
+ghost use Rattle.std.specs.Io.KnownBytes.{ReadConsumes};
+ghost use Rattle.tn_streams.specs.Beside.{TellsNext};
 
 use std::alloc::Global;
 use std::io::{ErrorKind, Read};
@@ -58,11 +61,18 @@ impl<H: Clock + Wait, K> Patient<H, K> {
 impl<H: Clock + Wait, K: Source> Source for Patient<H, K> {
     ghost sizes = { λ _. None };
 
-    fn resized(&mut self) -> Option<WindowSize> {
+    fn resized(&mut self) -> Option<WindowSize>
+        ensures tells { TellsNext (K.sizes self.old.keys) result (K.sizes self.new.keys) }
+        ensures keys { K.remaining self.new.keys ≡ K.remaining self.old.keys }
+    {
         self.keys.resized()
     }
 
-    fn read_some(&mut self, buf: &mut [u8]) -> io::Result<usize> {
+    fn read_some(&mut self, buf: &mut [u8]) -> io::Result<usize>
+        ensures bound { ReadsAtMost result buf.new }
+        ensures bytes { ReadConsumes None None result buf.new }
+        ensures hands_on { ReadConsumes (K.remaining self.old.keys) (K.remaining self.new.keys) result buf.new }
+    {
         let read = self.keys.read_some(buf);
         if is_last(&read) {
             self.wait();

@@ -1,18 +1,25 @@
 -- What was asked of a network, by several calls of it.
-use Rattle.std.specs.Prelude.{◌≡◌, ℕ, zero, suc, List, Contains, Result, Ok, IfOk}
+use Rattle.std.specs.Prelude.{◌≡◌, ℕ, zero, suc, All, List, Contains, MatchResult, Result, Ok, Err, IfOk}
 use Rattle.std.specs.Net.ToAddrs.{HostAddrs, host_addrs}
 use Rattle.std.specs.declared.io.Error.{Error}
 use Rattle.std.specs.declared.net.socket_addr.SocketAddr.{SocketAddr}
 use Rattle.std.specs.declared.net.tcp.TcpListener.{TcpListener}
 use Rattle.std.specs.declared.net.tcp.TcpStream.{TcpStream}
 
--- The addresses of a host were asked for; where there is a connection, one of them was asked for it.
+-- a connection to this address was asked for, and there was none
+abbrev pub Refuses : (SocketAddr → Result TcpStream Error → Type 0) → SocketAddr → Type 0
+Refuses dials address = (error : Error) × dials address (Err error)
+
+-- The addresses of a host were asked for; where there is a connection, one of them was asked for it, and where
+-- there is none, each of them was, or no address was found.
 abbrev pub Reaches : (Result HostAddrs Error → Type 0) → (SocketAddr → Result TcpStream Error → Type 0)
     → Result TcpStream Error → Type 0
 Reaches finds dials result =
     (found : Result HostAddrs Error) × finds found
-    × IfOk result (λ stream. (addresses : HostAddrs) × (found ≡ Ok addresses) × (address : SocketAddr)
+    × MatchResult result (λ stream. (addresses : HostAddrs) × (found ≡ Ok addresses) × (address : SocketAddr)
     × Contains (host_addrs addresses) address × dials address (Ok stream))
+    (λ error. MatchResult found (λ addresses. All (λ address. Refuses dials address) (host_addrs addresses))
+    (λ unfound. error ≡ unfound))
 
 -- each connection of a number below this one was accepted
 abbrev pub AcceptsAll : (ℕ → Result (TcpStream × SocketAddr) Error → Type 0) → ℕ → Type 0

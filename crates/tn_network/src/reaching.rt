@@ -1,5 +1,6 @@
 //! A connection to a host.
 
+ghost use Rattle.std.specs.Prelude.{◌≡◌, [], OnOk};
 ghost use Rattle.tn_network.specs.Asked.{Reaches};
 
 use crate::asking::Network;
@@ -29,7 +30,8 @@ pub fn reach<N: Network, T: Trying>(
     trying: &mut T,
     causes: &mut Vec<u8>,
 ) -> io::Result<TcpStream>
-    ensures { Reaches (N.finds net.now host.now port) (N.dials net.now) result }
+    ensures reaches { Reaches (N.finds net.now host.now port) (N.dials net.now) result }
+    ensures uncaused { OnOk result (causes.new.items ≡ []) }
 {
     let addresses = match net.find(host, port) {
         Ok(addresses) => addresses,

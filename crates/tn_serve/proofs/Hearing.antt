@@ -13,6 +13,7 @@ module _ {V : Type 0} (turns : V → Turn → V → Type 0) (HasEnded : Finished
     calls = Made number ∷ h.calls;
     called = (old, h.called, turn, _);
     each = λ n. omega (arith, h.each n, one n);
+    in_order = λ n. (omega (arith, h.each n), h.in_order n);
     without = h.without;
     all = omega (arith, h.all);
     whole_ones = omega (arith, h.whole_ones);
@@ -23,6 +24,7 @@ module _ {V : Type 0} (turns : V → Turn → V → Type 0) (HasEnded : Finished
     calls = Refused number ∷ h.calls;
     called = (old, h.called, turn, _);
     each = λ n. omega (arith, h.each n);
+    in_order = λ n. (omega (arith, h.each n), h.in_order n);
     without = h.without + 1;
     all = omega (arith, h.all);
     whole_ones = omega (arith, h.whole_ones);
@@ -33,6 +35,7 @@ module _ {V : Type 0} (turns : V → Turn → V → Type 0) (HasEnded : Finished
     calls = h.calls;
     called = h.called;
     each = h.each;
+    in_order = h.in_order;
     without = h.without + 1;
     all = omega (arith, h.all);
     whole_ones = h.whole_ones;
@@ -44,6 +47,7 @@ module _ {V : Type 0} (turns : V → Turn → V → Type 0) (HasEnded : Finished
     calls = Ended number finished ∷ h.calls;
     called = (old, h.called, turn, has);
     each = λ n. omega (arith, h.each n, one n);
+    in_order = λ n. (omega (arith, h.each n, one n), h.in_order n);
     without = h.without;
     all = omega (arith, h.all, counted.1);
     whole_ones = omega (arith, h.whole_ones, counted.0);
@@ -119,6 +123,7 @@ hears_all turns HasEnded started started' number_of none_yet none_yet' whole fau
       calls = [];
       called = refl;
       each = λ n. omega (arith, none_live started number_of none n);
+      in_order = λ n. _;
       without = 0;
       all = omega (arith, is.0, is.1);
       whole_ones = is.0;
@@ -128,6 +133,7 @@ hears_all turns HasEnded started started' number_of none_yet none_yet' whole fau
         calls = h.calls;
         called = h.called;
         each = λ n. omega (arith, h.each n, none_live started' number_of none' n);
+        in_order = h.in_order;
         without = h.without;
         all = h.all;
         whole_ones = h.whole_ones;

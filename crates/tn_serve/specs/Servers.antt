@@ -1,13 +1,15 @@
 -- Which session a server runs over a connection.
-use Rattle.std.specs.Prelude.{◌≢◌, ℕ, Option, Some, None, [], IfOk, IfErr}
+use Rattle.std.specs.Prelude.{◌≡◌, ◌≢◌, ℕ, Option, Some, None, [], IfOk, IfErr}
+use Rattle.std.specs.declared.net.tcp.TcpStream.{TcpStream}
 use Rattle.tn_discipline.specs.Characters.{standard_characters}
 use Rattle.tn_discipline.specs.Keys.{standard_flags}
 use Rattle.tn_serve.specs.declared.conversed.Conversed.{Conversed}
 use Rattle.tn_serve.specs.declared.conversed.Ran.{Ran}
 use Rattle.tn_serve.specs.declared.settings.SessionOptions.{SessionOptions}
-use Rattle.tn_session.specs.Facts.{JobFacts, TermSettings, session_result}
+use Rattle.tn_session.specs.Facts.{JobFacts, SessionResult, TermSettings, session_result}
 use Rattle.tn_session.specs.Session.{RunningSession, IsRefusal}
 use Rattle.tn_sockets.specs.Logs.{wrote}
+use Rattle.tn_sockets.specs.declared.write_log.WriteLog.{WriteLog}
 use Rattle.tn_machines.specs.server.Welcoming.{too_far_ahead}
 
 -- a terminal with standard settings, under these options
@@ -21,19 +23,27 @@ terminal_of options =
       editing = options.editing;
     }
 
--- A server's session ran with such jobs, and gave back this. Of the connection nothing was known before, but
--- that it tells no size; all that was written to it stands in the log, and all that was read from it in the
--- ports.
+-- A server's session ran with such jobs, wrote what is in this log, and gave back this. Of the connection
+-- nothing was known before, but that it tells no size.
+abbrev pub RunsWriting : {J : Type 0} → JobFacts J → Option ℕ → SessionOptions → WriteLog → SessionResult
+    → Type 0
+RunsWriting facts to_make options log result =
+    RunningSession facts to_make (terminal_of options)
+    (record { bytes = None; failures = None; sizes = Some [] }) (wrote log) result
+
+-- the same, of what it gave back: all that was read from the connection stands in the ports
 abbrev pub RunsServer : {J : Type 0} → JobFacts J → Option ℕ → SessionOptions → Conversed → Type 0
 RunsServer facts to_make options conversed =
-    RunningSession facts to_make (terminal_of options)
-    (record { bytes = None; failures = None; sizes = Some [] })
-    (wrote conversed.log) (session_result conversed.report conversed.ports)
+    RunsWriting facts to_make options conversed.log (session_result conversed.report conversed.ports)
 
--- What the thread of a session gives back: where that came to its report, such a session ran, in which never
--- too many entries waited; else why it did not.
-abbrev pub IsPromised : {J : Type 0} → JobFacts J → Option ℕ → SessionOptions → Ran → Type 0
-IsPromised facts to_make options ran =
+-- the connection that a session ran over
+abbrev pub connection_of : Conversed → TcpStream
+connection_of conversed = conversed.connection.value
+
+-- What the thread of a session gives back: where that came to its report, such a session ran over this
+-- connection, in which never too many entries waited; else why it did not.
+abbrev pub IsPromised : {J : Type 0} → JobFacts J → Option ℕ → SessionOptions → TcpStream → Ran → Type 0
+IsPromised facts to_make options stream ran =
     IfErr ran.ended IsRefusal
     × IfOk ran.ended (λ conversed. RunsServer facts to_make options conversed
-    × (conversed.report.ended ≢ too_far_ahead))
+    × (conversed.report.ended ≢ too_far_ahead) × (connection_of conversed ≡ stream))

@@ -1,5 +1,5 @@
 -- What a service does and hears, call by call.
-use Rattle.std.specs.Prelude.{◌≡◌, ℕ, ◌+◌, ◌==◌, if◌then◌else◌, List, [], ◌∷◌, Result, Ok, Err, sum_by}
+use Rattle.std.specs.Prelude.{◌≡◌, ◌≤◌, ℕ, ◌+◌, ◌==◌, if◌then◌else◌, List, [], ◌∷◌, Result, Ok, Err, sum_by}
 use Rattle.tn_serve.specs.Ends.{whole_of}
 use Rattle.tn_serve.specs.declared.finished.Finished.{Finished}
 use Rattle.tn_serve.specs.declared.turns.Turn.{Turn}
@@ -43,6 +43,13 @@ abbrev pub times : (Turn → ℕ) → List Turn → ℕ
 times is_such [] = 0
 times is_such (turn ∷ earlier) = is_such turn + times is_such earlier
 
+-- after none of these calls more ends of this number were heard than its jobs had been made
+abbrev pub EndsFollow : ℕ → List Turn → Type 0
+EndsFollow number [] = Unit {0}
+EndsFollow number (turn ∷ earlier) =
+    (times (ended_for number) (turn ∷ earlier) ≤ times (made_for number) (turn ∷ earlier))
+    × EndsFollow number earlier
+
 -- of how many of these each number is the number
 abbrev pub live_of : {S : Type 0} → List S → (S → ℕ) → ℕ → ℕ
 live_of started number_of number = sum_by (λ s. is_same number (number_of s)) started
@@ -76,6 +83,7 @@ module _ {V : Type 0} (turns : V → Turn → V → Type 0) (HasEnded : Finished
     pub calls : List Turn
     pub called : IsCalled calls now
     pub each : (number : ℕ) → times (made_for number) calls ≡ times (ended_for number) calls + live number
+    pub in_order : (number : ℕ) → EndsFollow number calls
     pub without : ℕ
     pub all : whole + faulted ≡ times ends calls + without
     pub whole_ones : whole ≡ times ends_whole calls

@@ -4,6 +4,8 @@ ghost use Rattle.std.specs.Prelude.{◌≡◌};
 ghost use Rattle.tn_serve.specs.Ends.{finished_as, not_started};
 
 use crate::finished::Finished;
+use std::net::TcpStream;
+use std::snapshot::Snapshot;
 use tn_session::{Ports, Report, SessionFault};
 use tn_sockets::WriteLog;
 
@@ -15,6 +17,8 @@ pub struct Conversed {
     pub ports: Ports,
     /// In it contracts see all that was written to the connection.
     pub log: WriteLog,
+    /// The connection that it ran over, for contracts.
+    pub connection: Snapshot<TcpStream>,
 }
 
 // A session whose threads are joined, as its thread gives it back.

@@ -1,8 +1,8 @@
 //! The sessions that are started and not yet joined, and how the earlier ones ended.
 
 ghost use Rattle.std.specs.Net.Socket.{socket_ip};
-ghost use Rattle.std.specs.Prelude.{◌≡◌, ◌<◌, ◌≤◌, ◌+◌, ◌-◌, ◌^◌, true, false, IfSome, IfNone, vec_items};
-ghost use Rattle.std.specs.Prelude.{vec_len, vec_capacity};
+ghost use Rattle.std.specs.Prelude.{◌≡◌, ◌<◌, ◌≤◌, ◌+◌, ◌-◌, ◌^◌, ◌++◌, ◌∷◌, [], true, false, IfSome};
+ghost use Rattle.std.specs.Prelude.{IfNone, vec_items, vec_len, vec_capacity};
 ghost use Rattle.tn_serve.specs.Counted.{HasEnded, StillCounts, facts_of, server_of};
 ghost use Rattle.tn_serve.specs.Places.{HasNoPlace, count_at, count_from, is_same};
 ghost use Rattle.tn_serve.specs.Turns.{IsOneEnd, IsOneMore, live_of};
@@ -44,6 +44,7 @@ impl<M: Maker, O: Asked<M>> Started<M, O> {
         requires asked { session.promise.options ≡ O.options }
         requires made { O.made session.promise.jobs.value }
         ensures caller { result.caller ≡ caller }
+        ensures session { result.session ≡ session }
     {
         Started {
             caller,
@@ -215,6 +216,7 @@ impl<J: Job, M: Maker<Job = J>, O: Asked<M>> Running<J, M, O> {
         requires more { self.old.accepted < 2 ^ 64 - 1 }
         ensures accepted { self.new.accepted ≡ self.old.accepted + 1 }
         ensures one { vec_len self.new.started ≡ vec_len self.old.started + 1 }
+        ensures kept { vec_items self.new.started ≡ vec_items self.old.started ++ session ∷ [] }
         ensures opened { IsOneMore session.caller.number
             (live_of (vec_items self.old.started) (λ s. s.caller.number))
             (live_of (vec_items self.new.started) (λ s. s.caller.number)) }
@@ -230,7 +232,8 @@ impl<J: Job, M: Maker<Job = J>, O: Asked<M>> Running<J, M, O> {
         requires { self.old.accepted < 2 ^ 64 - 1 }
         ensures accepted { self.new.accepted ≡ self.old.accepted + 1 }
         ensures same { self.new.started ≡ self.old.started }
-        ensures one { (self.new.whole ≡ self.old.whole) × (self.new.faulted ≡ self.old.faulted + 1) }
+        ensures one { (self.new.whole ≡ self.old.whole) × (self.new.faulted ≡ self.old.faulted + 1)
+            × (self.new.refused ≡ self.old.refused) }
         ensures each { StillCounts
             (server_of (facts_of J.fresh M.gives J.reacts J.steps J.refuses) M.left O.options O.made O.turned)
             self.old.whole self.old.faulted self.old.refused self.new.whole self.new.faulted self.new.refused }

@@ -1,11 +1,11 @@
 //! Each connection has a session in threads of its own.
 
-ghost use Rattle.std.specs.Prelude.{◌≡◌, ◌<◌, ◌≤◌, ◌+◌, ◌^◌, ◌-◌, true, IfOk, IfSome, IfNone, IsErrOf};
+ghost use Rattle.std.specs.Prelude.{◌≡◌, ◌⊎◌, ◌<◌, ◌≤◌, ◌+◌, ◌^◌, ◌-◌, true, IfOk, IfSome, IfNone, IsErrOf};
 ghost use Rattle.std.specs.Prelude.{vec_items, vec_len};
 ghost use Rattle.tn_serve.specs.Causes.{IsCaused};
 ghost use Rattle.tn_serve.specs.Counted.{CountsSessions, HasEnded, StillCounts, facts_of, server_of};
 ghost use Rattle.tn_serve.specs.Ends.{ServesAll, ServesUntil};
-ghost use Rattle.tn_serve.specs.Places.{HasNoPlace, count_from};
+ghost use Rattle.tn_serve.specs.Places.{HasNoPlace, RunsOver, count_from};
 ghost use Rattle.tn_serve.specs.Services.{MakesOnly, StillMakes, TurnsAway, WasTurnedAway};
 ghost use Rattle.tn_serve.specs.Turns.{HearsAll, HearsOfJobs, HearsOfNone, StillHears, live_of};
 ghost use Rattle.tn_network.specs.Asked.{Accepts, Listens};
@@ -294,6 +294,11 @@ impl<H: Host + Network, V: Service, O: Asked<V::Jobs>> Open<H, V, O> {
             (live_of (vec_items self.new.running.started) (λ s. s.caller.number)) }
         ensures makes { StillMakes V.makes self.old.service self.new.service }
         ensures rt { self.new.rt ≡ self.old.rt }
+        ensures over { RunsOver (λ s. s.session.promise.stream.value) stream
+            (vec_items self.old.running.started) (vec_items self.new.running.started) }
+        ensures full { (self.new.running.refused ≡ self.old.running.refused)
+            ⊎ HasNoPlace self.old.roster self.old.serving.per_host (count_from (λ s. s.caller.peer) peer.now
+            (vec_items self.old.running.started)) }
     {
         if self.running.accepted >= self.serving.count {
             return;
@@ -384,6 +389,9 @@ impl<H: Host + Network, V: Service, O: Asked<V::Jobs>> Open<H, V, O> {
             (live_of (vec_items self.new.running.started) (λ s. s.caller.number)) }
         ensures makes { StillMakes V.makes self.old.service self.new.service }
         ensures rt { self.new.rt ≡ self.old.rt }
+        ensures over { RunsOver (λ s. s.session.promise.stream.value) stream
+            (vec_items self.old.running.started) (vec_items self.new.running.started) }
+        ensures refused { self.new.running.refused ≡ self.old.running.refused }
     {
         if !self.running.has_room() {
             return self.give_up(&caller, errors);
@@ -404,7 +412,8 @@ impl<H: Host + Network, V: Service, O: Asked<V::Jobs>> Open<H, V, O> {
             self.new.running.whole self.new.running.faulted self.new.running.refused }
         ensures started { self.new.running.started ≡ self.old.running.started }
         ensures one { (self.new.running.whole ≡ self.old.running.whole)
-            × (self.new.running.faulted ≡ self.old.running.faulted + 1) }
+            × (self.new.running.faulted ≡ self.old.running.faulted + 1)
+            × (self.new.running.refused ≡ self.old.running.refused) }
         ensures service { self.new.service ≡ self.old.service }
         ensures rt { self.new.rt ≡ self.old.rt }
     {
@@ -431,6 +440,7 @@ impl<H: Host + Network, V: Service, O: Asked<V::Jobs>> Open<H, V, O> {
         ensures none { IfNone result (HearsOfNone V.turns (HasEnded (server_of
             (facts_of V.Job.fresh V.Jobs.gives V.Job.reacts V.Job.steps V.Job.refuses) V.Jobs.left O.options O.made O.turned))
             self.old.service self.new.service) }
+        ensures over { IfSome result (λ started. started.session.promise.stream.value ≡ stream) }
         ensures rt { self.new.rt ≡ self.old.rt }
     {
         let Some(prepared) = self.prepared() else {

@@ -1,8 +1,8 @@
 //! One session of a server over a connection.
 
 ghost use Rattle.std.specs.Prelude.{◌≡◌, ◌≢◌, [], IfOk, IfErr, IfSome};
-ghost use Rattle.tn_serve.specs.Servers.{IsPromised, RunsServer};
-ghost use Rattle.tn_session.specs.Facts.{job_facts};
+ghost use Rattle.tn_serve.specs.Servers.{IsPromised, RunsServer, RunsWriting, connection_of};
+ghost use Rattle.tn_session.specs.Facts.{job_facts, session_result};
 ghost use Rattle.tn_session.specs.Makers.{begins};
 ghost use Rattle.tn_session.specs.Session.{IsRefusal};
 ghost use Rattle.tn_sockets.specs.Logs.{logged};
@@ -51,16 +51,18 @@ where
     ) -> Option<PromisedHandle<Ran, SessionSays<M>>>
         ensures options { IfSome result (λ handle. handle.promise.options ≡ self.options) }
         ensures jobs { IfSome result (λ handle. handle.promise.jobs.value ≡ self.jobs) }
+        ensures over { IfSome result (λ handle. handle.promise.stream.value ≡ self.stream) }
     {
         let rt = self.rt;
         let promise = SessionSays {
             jobs: Snapshot::of(&self.jobs),
             options: self.options,
+            stream: Snapshot::of(&self.stream),
         };
         let work = move || -> Ran
             ensures { IsPromised (job_facts (begins M.Job.fresh M.gives self.jobs) M.Job.reacts M.Job.steps
                 M.Job.refuses)
-                (M.left self.jobs) self.options result }
+                (M.left self.jobs) self.options self.stream result }
         {
             let ran = self.run();
             let _ = events.send(&rt, Event::Ended(number));
@@ -78,6 +80,7 @@ where
 pub(crate) struct SessionSays<M> {
     pub(crate) jobs: Snapshot<M>,
     pub(crate) options: SessionOptions,
+    pub(crate) stream: Snapshot<TcpStream>,
 }
 
 impl<M: Maker> Promise<Ran> for SessionSays<M> {
@@ -87,7 +90,7 @@ impl<M: Maker> Promise<Ran> for SessionSays<M> {
 
     ghost kept_by = { λ p ran.
         IsPromised (job_facts (begins M.Job.fresh M.gives p.jobs.value) M.Job.reacts M.Job.steps M.Job.refuses)
-        (M.left p.jobs.value) p.options ran };
+        (M.left p.jobs.value) p.options p.stream.value ran };
 }
 
 impl<H, M> Session<H, M>
@@ -102,6 +105,7 @@ where
             (job_facts (begins M.Job.fresh M.gives self.jobs) M.Job.reacts M.Job.steps M.Job.refuses)
             (M.left self.jobs) self.options) }
         ensures in_reach { IfOk result.ended (λ conversed. conversed.report.ended ≢ too_far_ahead) }
+        ensures over { IfOk result.ended (λ conversed. connection_of conversed ≡ self.stream) }
     {
         match (
             Arc::try_clone(&self.standing),
@@ -130,6 +134,7 @@ where
             (job_facts (begins M.Job.fresh M.gives self.jobs) M.Job.reacts M.Job.steps M.Job.refuses)
             (M.left self.jobs) self.options) }
         ensures in_reach { IfOk result (λ conversed. conversed.report.ended ≢ too_far_ahead) }
+        ensures over { IfOk result (λ conversed. connection_of conversed ≡ self.stream) }
     {
         let Session {
             rt,
@@ -146,6 +151,7 @@ where
         let Ok(went) = Arc::try_clone(&traffic) else {
             return Err(SessionFault::Memory);
         };
+        let connection = Snapshot::of(&stream);
         let Ok((stream, writer)) = Connection::split(stream) else {
             return Err(SessionFault::Start);
         };
@@ -166,7 +172,12 @@ where
         if standing.is_ended_here() {
             linger(rt, alloc, writer.side.into_stream(), standing);
         }
-        Ok(Conversed { report, ports, log })
+        Ok(Conversed {
+            report,
+            ports,
+            log,
+            connection,
+        })
     }
 }
 
@@ -187,9 +198,9 @@ where
     requires idle { reader.side.idle ≡ options.idle }
     requires longest { reader.side.longest ≡ options.longest }
     ensures fault { IfErr result IsRefusal }
-    ensures ran { IfOk result (λ r. RunsServer
+    ensures ran { IfOk result (λ r. RunsWriting
         (job_facts (begins M.Job.fresh M.gives jobs) M.Job.reacts M.Job.steps M.Job.refuses)
-        (M.left jobs) options (record { report = r.0; ports = r.1; log = writer.new.log })) }
+        (M.left jobs) options writer.new.log (session_result r.0 r.1)) }
     ensures in_reach { IfOk result (λ r. r.0.ended ≢ too_far_ahead) }
 {
     let Ok(gate) = Arc::new(alloc, Unwatched) else {
@@ -229,6 +240,7 @@ where
     ensures ran { IfOk result (RunsServer
         (job_facts (begins M.Job.fresh M.gives jobs) M.Job.reacts M.Job.steps M.Job.refuses) (M.left jobs) options) }
     ensures in_reach { IfOk result (λ conversed. conversed.report.ended ≢ too_far_ahead) }
+    ensures over { IfOk result (λ conversed. connection_of conversed ≡ stream) }
 {
     let (Ok(standing), Ok(traffic)) = (Standing::new(alloc), Traffic::new(alloc)) else {
         return Err(SessionFault::Memory);

@@ -3,6 +3,7 @@ use Rattle.std.proofs.Common.{◌≡◌, ℕ, ◌≤◌, List, [], ◌∷◌, �
 use Rattle.std.proofs.Common.{take-append-drop, arith, length, take, drop}
 use Rattle.std.specs.Io.KnownBytes.{Appends, Keeps, WriteAppends}
 use Rattle.tn_sockets.specs.Passing.{Begins}
+use Rattle.tn_streams.specs.Sending.{Sending, written_on, finished_on, StaysOpen, IsFinished}
 
 pub appends_more : (a b c : Option (List ℕ)) (xs ys : List ℕ) → Appends a b xs → Appends b c ys → Appends a c (xs ++ ys)
 appends_more None b c xs ys one two = tt
@@ -41,3 +42,15 @@ stops_now a b c n k bytes rest e one two =
 pub ok_writes : {E : Type 0} (old new : Option (List ℕ)) (r : Result ℕ E) (n : ℕ) (buf : List ℕ) → r ≡ Ok n → WriteAppends old new r buf
     → Appends old new (take n buf)
 ok_writes {E} old new r n buf e h = let P : Result ℕ E → Type 0 = λ u. WriteAppends old new u buf in subst P e h
+
+-- WHETHER MORE MAY COME
+
+pub open_more : (a b c : Option Sending) → StaysOpen a b → c ≡ written_on b → StaysOpen a c
+open_more a b c more is e = is ∙ ap written_on (more e)
+
+-- of a writer that a piece was taken for, and then sent
+pub open_sent : (a b c d : Option Sending) → StaysOpen a b → c ≡ b → StaysOpen c d → StaysOpen a d
+open_sent a b c d more same sent e = sent (same ∙ more e)
+
+pub open_finished : (a b c d : Option Sending) → StaysOpen a b → c ≡ b → d ≡ finished_on c → IsFinished a d
+open_finished a b c d more same is e = is ∙ ap finished_on (same ∙ more e)

@@ -214,6 +214,7 @@ impl<H: Clock + Copy + Wait> Attended<H, TcpStream> {
     ) -> io::Result<Attended<H, TcpStream>>
         ensures idle { IfOk result (λ attended. attended.idle ≡ idle) }
         ensures longest { IfOk result (λ attended. attended.longest ≡ longest) }
+        ensures stream { IfOk result (λ attended. attended.stream ≡ stream) }
     {
         stream.set_read_timeout(Some(Duration::from_millis(u64::from(LOOK))))?;
         let bound = shorter(idle, longest);

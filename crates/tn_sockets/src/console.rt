@@ -84,7 +84,7 @@ impl<H: Clock + Copy + Wait, K: Read + Drop> Console<H, K> {
     pub fn new(rt: H, alloc: Global, mut typing: Typing<H, K>, keyboard: Keyboard) -> Console<H, K>
         ensures escaping { result.escaping ≡ record { keyboard = keyboard; waits = false } }
         ensures keys { result.typing.keys ≡ typing.keys }
-        ensures nothing_yet { (result.kept.items ≡ []) × (result.asked ≡ None) }
+        ensures nothing_yet { (result.kept.items ≡ []) × (result.asked ≡ None) × (result.resized ≡ None) }
     {
         let terminal = typing.terminal.take();
         let terminal = terminal.unwrap_or(Terminal::new(None, None));

@@ -23,7 +23,9 @@ pub struct Incoming<H, N> {
 
 impl<H, N> Incoming<H, N> {
     /// What comes from there.
-    pub fn new(reader: N, link: Arc<Link, Global>, trace: Trace<H>) -> Incoming<H, N> {
+    pub fn new(reader: N, link: Arc<Link, Global>, trace: Trace<H>) -> Incoming<H, N>
+        ensures { result.reader ≡ reader }
+    {
         Incoming {
             reader,
             link,

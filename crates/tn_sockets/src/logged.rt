@@ -1,7 +1,10 @@
 //! A writer with a log of what it took.
 
 ghost use Rattle.std.specs.Prelude.{◌≡◌, [], Some};
+ghost use Rattle.std.specs.Io.{WritesAtMost};
+ghost use Rattle.std.specs.Io.KnownBytes.{Keeps, WriteAppends};
 ghost use Rattle.tn_sockets.specs.Logs.{logged};
+ghost use Rattle.tn_streams.specs.Sending.{finished_on, written_on};
 
 use crate::write_log::WriteLog;
 use std::io;
@@ -40,7 +43,16 @@ impl<W: Drop> Logged<W> {
 impl<W: Finish> Drain for Logged<W> {
     ghost contents = { λ l. Some (logged l.log) };
 
-    fn write_some(&mut self, buf: &[u8]) -> io::Result<usize> {
+    ghost sending = { λ l. W.Drain.sending l.writer };
+
+    fn write_some(&mut self, buf: &[u8]) -> io::Result<usize>
+        ensures bound { WritesAtMost result buf.now }
+        ensures bytes { WriteAppends (Some (logged self.old.log)) (Some (logged self.new.log)) result
+            buf.now }
+        ensures goes { W.sending self.new.writer ≡ written_on (W.sending self.old.writer) }
+        ensures hands_on { WriteAppends (W.contents self.old.writer) (W.contents self.new.writer) result
+            buf.now }
+    {
         let count = self.writer.write_some(buf)?;
         let log = std::mem::replace(&mut self.log, WriteLog::new());
         self.log = log.then_all(&buf[..count]);
@@ -49,7 +61,11 @@ impl<W: Finish> Drain for Logged<W> {
 }
 
 impl<W: Finish> Finish for Logged<W> {
-    fn finish(&mut self) {
+    fn finish(&mut self)
+        ensures log { self.new.log ≡ self.old.log }
+        ensures hands_on { Keeps (W.contents self.old.writer) (W.contents self.new.writer) }
+        ensures finishes { W.sending self.new.writer ≡ finished_on (W.sending self.old.writer) }
+    {
         self.writer.finish();
     }
 }

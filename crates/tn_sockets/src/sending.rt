@@ -8,6 +8,7 @@ ghost use Rattle.tn_queue.specs.Queue.{taken_more};
 ghost use Rattle.tn_sockets.specs.Queue.{Piece as PieceT, IsNamed, IsSeatIn, TakesOn, WritesTaken};
 ghost use Rattle.tn_sockets.specs.Queue.{WritesToTheEnd};
 ghost use Rattle.tn_sockets.specs.Passing.{Begins};
+ghost use Rattle.tn_streams.specs.Sending.{IsFinished, StaysOpen};
 
 use crate::link::Link;
 use crate::outgoing::Waiting;
@@ -58,6 +59,7 @@ impl<H: Copy + Wait, W: Drop + Finish, Q: Queue> Sending<H, W, Q> {
         ensures whole { IfOk result (λ sent. sent ≡ Sent.Whole →
             WritesToTheEnd (view self.old.pass) (view self.new.pass)
             (W.contents self.old.writer) (W.contents self.new.writer)) }
+        ensures finished { IfOk result (λ _. IsFinished (W.sending self.old.writer) (W.sending self.new.writer)) }
     {
         let rt = self.rt;
         for _ in rt.forever() {
@@ -144,6 +146,7 @@ fn send_whole<W: Drain>(
 ) -> io::Result<()>
     ensures whole { OnOk result (Appends (W.contents writer.old) (W.contents writer.new) bytes.now) }
     ensures begun { OnErr result (Begins (W.contents writer.old) (W.contents writer.new) bytes.now) }
+    ensures going { StaysOpen (W.sending writer.old) (W.sending writer.new) }
 {
     let mut at = 0;
     for _write in 0..u64::MAX {

@@ -28,7 +28,9 @@ pub struct Sizes {
 
 impl Sizes {
     /// The sizes that this pipe tells.
-    pub fn new(pipe: Option<File>) -> Sizes {
+    pub fn new(pipe: Option<File>) -> Sizes
+        ensures { result.pipe ≡ pipe }
+    {
         Sizes { pipe }
     }
 

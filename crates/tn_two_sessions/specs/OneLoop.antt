@@ -1,9 +1,10 @@
 -- The machines of two sessions, run by one loop: no socket, no thread and no pipe is between them but two
 -- lists of bytes. Read `Happens`, and `ReadsAll` at the end.
-use Rattle.std.specs.Prelude.{◌≡◌, ℕ, false, All, List, [], ◌++◌, flat_map, length, min}
+use Rattle.std.specs.Prelude.{◌≡◌, ◌<◌, ◌⊎◌, ℕ, false, All, List, [], ◌∷◌, ◌++◌, flat_map, length, min}
 use Rattle.std.specs.List.{FoldsTo}
 use Rattle.tn_machines.specs.client.Reaching as core
 use Rattle.tn_machines.specs.client.Run as core_run
+use Rattle.tn_machines.specs.declared.client.machine.Core.{Core}
 use Rattle.tn_machines.specs.declared.client.messages.Mark as core_mark
 use Rattle.tn_machines.specs.declared.client.messages.Origin.TheVariants as origin
 use Rattle.tn_machines.specs.declared.client.messages.Told.{Told}
@@ -30,6 +31,7 @@ use Rattle.tn_machines.specs.server.Run as term_run
 use Rattle.tn_machines.specs.server.Run.{puts_of}
 use Rattle.tn_machines.specs.declared.server.messages.Mark as term_mark
 use Rattle.tn_machines.specs.declared.server.messages.Put.{Put}
+use Rattle.tn_machines.specs.declared.server.terminal.Term.{Term}
 
 -- both were started: the opening words are on their way to the client
 pub record IsStart (canon : Canon) (editing : Editing) (jobs : Jobs) (width height : ℕ)
@@ -85,6 +87,7 @@ pub record ComesToServer (old : Joined) (count : ℕ) (new : Joined) : Type 0 wh
   pub term : mid.term ≡ old.term
   pub core : mid.core ≡ old.core
   pub to_client : mid.to_client ≡ old.to_client
+  pub shown : mid.shown ≡ old.shown
   pub puts : mid.puts ≡ old.puts
   pub served : ServesOne mid (message.Piece piece) new
 
@@ -95,6 +98,7 @@ pub record ComesToClient (old : Joined) (count : ℕ) (new : Joined) : Type 0 wh
   pub term : mid.term ≡ old.term
   pub core : mid.core ≡ old.core
   pub to_server : mid.to_server ≡ old.to_server
+  pub shown : mid.shown ≡ old.shown
   pub puts : mid.puts ≡ old.puts
   pub told : TellsOne mid (from_network piece) new
 
@@ -106,6 +110,43 @@ Happens old (ToServer count) new = ComesToServer old count new
 Happens old (ToClient count) new = ComesToClient old count new
 Happens old Take new = ServesOne old message.Take new
 Happens old (Said job text after) new = ServesOne old (message.Said job text after) new
+
+-- WHEN ONE IS REFUSED: memory runs out only where a machine appends, shows or gives something
+pub record ServesNone (old : Joined) (m : Message) : Type 0 where
+  pub mark : term_mark.Mark
+  pub bytes : List ℕ
+  pub put : Put
+  pub last : Put
+  pub after : Term
+  pub turn : term.IsTurn mark old.term m bytes put last after
+  pub grows : (0 < length bytes) ⊎ (0 < length (puts_of put ++ puts_of last))
+
+pub record TellsNone (old : Joined) (told : Told) : Type 0 where
+  pub mark : core_mark.Mark
+  pub bytes : List ℕ
+  pub text : List ℕ
+  pub after : Core
+  pub turn : core.IsTurn mark old.core told bytes text after
+  pub grows : (0 < length bytes) ⊎ (0 < length text)
+
+-- the bytes that come are taken off into memory of their own
+abbrev pub IsRefused : Joined → Event → Type 0
+IsRefused old (Typed keys) = TellsNone old (from_user (message.Piece keys))
+IsRefused old (Asked control) = TellsNone old (from_user (message.Asked control))
+IsRefused old (ToServer count) = Unit {0}
+IsRefused old (ToClient count) = Unit {0}
+IsRefused old Take = ServesNone old message.Take
+IsRefused old (Said job text after) = ServesNone old (message.Said job text after)
+
+-- the first of these happened, and the next was refused
+pub record StopsIn (first : Joined) (script : List Event) : Type 0 where
+  pub front : List Event
+  pub event : Event
+  pub later : List Event
+  pub mid : Joined
+  pub whole : script ≡ front ++ event ∷ later
+  pub happened : FoldsTo Happens first front mid
+  pub refused : IsRefused mid event
 
 -- what the user typed: keys, and commands between them
 abbrev pub inputs_by : Event → List Input

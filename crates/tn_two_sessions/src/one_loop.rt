@@ -8,9 +8,10 @@
 //! joined.happen(alloc, Event::Take)?; // the entries that the foreground job gets are put in `puts`
 //! ```
 
-ghost use Rattle.std.specs.Prelude.{◌≡◌, ◌++◌, OnOk, IfOk, IfErr};
+ghost use Rattle.std.specs.Prelude.{◌≡◌, ◌<◌, ◌++◌, OnErr, OnOk, IfOk, IfErr, length};
 ghost use Rattle.std.specs.List.{FoldsTo};
-ghost use Rattle.tn_two_sessions.specs.OneLoop.{Happens, IsStart, ServesOne, TellsOne, TakesFirst};
+ghost use Rattle.tn_two_sessions.specs.OneLoop.{Happens, IsRefused, IsStart, ServesNone, ServesOne, StopsIn};
+ghost use Rattle.tn_two_sessions.specs.OneLoop.{TellsNone, TellsOne, TakesFirst};
 ghost use Rattle.tn_machines.specs.server.Run.{puts_of};
 
 use std::alloc::{AllocError, Global};
@@ -69,7 +70,8 @@ fn take_first(bytes: &mut Vec<u8>, count: usize) -> Result<Text, AllocError>
 
 // Keeps what is put.
 fn keep(puts: &mut Vec<Option<Entry>>, put: Put) -> Result<(), AllocError>
-    ensures { OnOk result (puts.new.items ≡ puts.old.items ++ puts_of put) }
+    ensures put { OnOk result (puts.new.items ≡ puts.old.items ++ puts_of put) }
+    ensures refused { OnErr result (0 < length (puts_of put)) }
 {
     match put {
         Put::Nothing => Ok(()),
@@ -120,7 +122,8 @@ impl Joined {
 
     // The terminal handles a message.
     fn serve(&mut self, alloc: Global, message: Message) -> Result<(), AllocError>
-        ensures { OnOk result (ServesOne self.old message self.new) }
+        ensures serves { OnOk result (ServesOne self.old message self.new) }
+        ensures refused { OnErr result (ServesNone self.old message) }
     {
         let mut out = Vec::new(alloc);
         let Outcome { put, last, mark: _ } = self.term.handle(message, &mut out);
@@ -132,7 +135,8 @@ impl Joined {
 
     // The core handles a message.
     fn tell(&mut self, alloc: Global, told: Told) -> Result<(), AllocError>
-        ensures { OnOk result (TellsOne self.old told self.new) }
+        ensures tells { OnOk result (TellsOne self.old told self.new) }
+        ensures refused { OnErr result (TellsNone self.old told) }
     {
         let mut out = Vec::new(alloc);
         let mut text = Vec::new(alloc);
@@ -164,9 +168,10 @@ impl Joined {
         Ok(())
     }
 
-    /// The next thing happens. Where it runs out of memory nothing more is said of either machine.
+    /// The next thing happens. Out of memory nothing more is said of either machine.
     pub fn happen(&mut self, alloc: Global, event: Event) -> Result<(), AllocError>
-        ensures { OnOk result (Happens self.old event self.new) }
+        ensures happens { OnOk result (Happens self.old event self.new) }
+        ensures refused { OnErr result (IsRefused self.old event) }
     {
         match event {
             Event::Typed(keys) => self.tell(
@@ -194,7 +199,8 @@ impl Joined {
 
     /// All this happens, in order.
     pub fn run(&mut self, alloc: Global, script: Vec<Event>) -> Result<(), AllocError>
-        ensures { OnOk result (FoldsTo Happens self.old script.items self.new) }
+        ensures happen { OnOk result (FoldsTo Happens self.old script.items self.new) }
+        ensures refused { OnErr result (StopsIn self.old script.items) }
     {
         for event in script {
             self.happen(alloc, event)?;

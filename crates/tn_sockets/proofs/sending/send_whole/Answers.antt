@@ -1,6 +1,6 @@
 use Rattle.std.proofs.Common.{◌≡◌, arith, take, drop, length, ◌-◌, length-drop}
 use Rattle.std.proofs.Math.Seq.{take-add}
-use Rattle.tn_sockets.proofs.Writing.{appends_more, appends_kept, take_all, stops_at, stops_now, writes_all, ok_writes}
+use Rattle.tn_sockets.proofs.Writing.{appends_more, open_more, appends_kept, take_all, stops_at, stops_now, writes_all, ok_writes}
 use Rattle.tn_sockets.proofs.sending.send_whole.Goals as goal
 
 pub loop-write-preserved : goal.loop-write-preserved
@@ -12,6 +12,7 @@ loop-write-preserved g c =
           (let all : take (length c.args.bytes.now - c.loop-write.at) (drop c.loop-write.at c.args.bytes.now)
           ≡ drop c.loop-write.at c.args.bytes.now = take_all _ _ (omega (arith, length-drop c.loop-write.at c.args.bytes.now))
           in rw all at c.in-Ok.ensures.bytes)),
+      open_more _ _ _ i.2 c.in-Ok.ensures.goes,
     )
 
 pub returns-then-at-bytes-clause-whole : goal.returns-then-at-bytes-clause-whole

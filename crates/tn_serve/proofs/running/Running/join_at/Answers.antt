@@ -17,9 +17,10 @@ returns-clause-ended g c =
     let joined : Joined server = record {
       jobs = jobs;
       made = c.swap_remove-noted.result.made;
+      stream = promise.stream.value;
       ran = c.join-ran.result;
-      promised = subst (λ (o : SessionOptions). IsPromised (server.facts jobs) (server.left jobs) o c.join-ran.result) c.swap_remove-noted.result.asked
-          c.join-ran.ensures;
+      promised = subst (λ (o : SessionOptions). IsPromised (server.facts jobs) (server.left jobs) o promise.stream.value c.join-ran.result)
+          c.swap_remove-noted.result.asked c.join-ran.ensures;
     } in
     inl (joined, c.finished-finished.ensures)
 
@@ -33,9 +34,10 @@ returns-clause-each g c =
     let joined : Joined server = record {
       jobs = jobs;
       made = c.swap_remove-noted.result.made;
+      stream = promise.stream.value;
       ran = c.join-ran.result;
-      promised = subst (λ (o : SessionOptions). IsPromised (server.facts jobs) (server.left jobs) o c.join-ran.result) c.swap_remove-noted.result.asked
-          c.join-ran.ensures;
+      promised = subst (λ (o : SessionOptions). IsPromised (server.facts jobs) (server.left jobs) o promise.stream.value c.join-ran.result)
+          c.swap_remove-noted.result.asked c.join-ran.ensures;
     } in
     elim c.if-is_whole.branch [
       | then-is_whole w ↦ rw w.self-is (one_whole server old.whole old.faulted old.refused joined c.finished-finished.result c.finished-finished.ensures

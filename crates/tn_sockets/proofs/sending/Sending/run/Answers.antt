@@ -3,6 +3,7 @@ use Rattle.crossbeam_channel.specs.Claims.{view}
 use Rattle.tn_queue.specs.Queue.{taken_more}
 use Rattle.tn_sockets.specs.Queue.{Piece}
 use Rattle.tn_sockets.proofs.Queued.{all_ended, all_more, broken, discarded, end_written}
+use Rattle.tn_sockets.proofs.Writing.{open_finished, open_sent}
 use Rattle.tn_sockets.proofs.sending.Sending.run.Goals as goal
 
 pub returns-then-not-is_given_up-clause-sent : goal.returns-then-not-is_given_up-clause-sent
@@ -51,4 +52,14 @@ loop-preserved g c =
           (contents c.args.self.now.writer) (contents c.loop.self.writer) (contents c.next-in-loop.new.self.writer) (contents c.send_whole.new.writer)
           c.loop.invariant.2 (n.ensures.took ∙ ap (λ (x : Piece). taken_more (view c.loop.self.pass) x) c.in-Some-piece.is)
           (ap contents n.ensures.writer) c.deref-in-loop.ensures.value c.in_default-send_whole.ensures.whole,
+      open_sent _ _ _ _ c.loop.invariant.3 (ap g.W.Drain.sending n.ensures.writer) c.send_whole.ensures.going,
     )
+
+pub returns-in_default-piece-clause-finished : goal.returns-in_default-piece-clause-finished
+returns-in_default-piece-clause-finished g c =
+    open_finished _ _ _ _ c.loop.invariant.3 (ap g.W.Drain.sending c.in-Some-next.ensures.writer) c.finish.ensures.finishes
+
+pub returns-in-Err-clause-finished : goal.returns-in-Err-clause-finished
+returns-in-Err-clause-finished g c =
+    let sent = open_sent _ _ _ _ c.loop.invariant.3 (ap g.W.Drain.sending c.in-Some-next.ensures.writer) c.send_whole.ensures.going in
+    open_finished _ _ _ _ sent (ap g.W.Drain.sending c.discard.ensures.writer) c.finish-in-Err.ensures.finishes

@@ -8,4 +8,4 @@ loop-event-init c = refl
 
 pub loop-event-preserved : goal.loop-event-preserved
 loop-event-preserved c = FoldsTo-push Happens c.args.self.now c.loop-event.yielded c.loop-event.self c.in-Some.event c.happen.new.self c.loop-event.invariant
-    c.in_ok-happen.ensures
+    c.in_ok-happen.ensures.happens
