@@ -1,4 +1,4 @@
-use Rattle.std.proofs.Common.{arith, ap, subst, sym, vec_items, ◌∙◌}
+use Rattle.std.proofs.Common.{arith, ap, inr, subst, sym, vec_items, [], ◌∷◌, ◌++◌, ◌∙◌}
 use Rattle.tn_serve.proofs.Hearing.{not_asked, one_counted, one_started}
 use Rattle.tn_serve.specs.Counted.{HasEnded, facts_of, server_of}
 use Rattle.tn_serve.specs.Turns.{HearsOfNone}
@@ -47,3 +47,8 @@ returns-clause-heard g c =
     (ap (λ r. vec_items r.started) c.start.ensures.running ∙ c.has_room.ensures.same)
     (grind (arith, c.keep.ensures.counts, whole, c.has_room.ensures.counts)) (grind (arith, c.keep.ensures.counts, faulted, c.has_room.ensures.counts))
     c.keep.ensures.opened c.in-Some.ensures.jobs
+
+pub returns-clause-over : goal.returns-clause-over
+returns-clause-over g c =
+    let same = ap (λ r. vec_items r.started) c.start.ensures.running ∙ c.has_room.ensures.same in
+    inr (c.in-Some.session, c.keep.ensures.kept ∙ ap (λ l. l ++ c.in-Some.session ∷ []) same, c.in-Some.ensures.over)
