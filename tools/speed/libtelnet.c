@@ -73,5 +73,7 @@ int main(void) {
     measure("decoding a mix of escapes", mix, sizeof mix - 1, count, receive);
     measure("a server sends plain text, read to a buffer", "x", 1, keep, send_plain);
     measure("a server sends lines of 64, read to a buffer", output, sizeof output - 1, keep, send_lines);
+    measure("a server sends blank lines, read to a buffer", "\n", 1, keep, send_lines);
+    measure("a server sends bytes 255, read to a buffer", "\xff", 1, keep, send_plain);
     return 0;
 }

@@ -287,7 +287,11 @@ fn read_to_buffers<H: Clock, W: Write>(
     let sent = "a server sends plain text, read to a buffer";
     send(alloc, bench, sent, b"x", 65_536)?;
     let sent = "a server sends lines of 64, read to a buffer";
-    send(alloc, bench, sent, OUTPUT, 1_024)
+    send(alloc, bench, sent, OUTPUT, 1_024)?;
+    let sent = "a server sends blank lines, read to a buffer";
+    send(alloc, bench, sent, b"\n", 65_536)?;
+    let sent = "a server sends bytes 255, read to a buffer";
+    send(alloc, bench, sent, b"\xff", 65_536)
 }
 
 pub(crate) fn run<H: Clock, W: Write>(

@@ -16,6 +16,9 @@ impl From<WorldFault> for Stuck {
     }
 }
 
+/// The keys of a line, and a return.
+const KEYS: &[u8; 63] = b"the quick brown fox jumps over the lazy dog, and all is as was\r";
+
 /// A key is typed, sent, echoed and shown, and so is a return; then the line is taken.
 #[derive(Drop)]
 struct Travelling {
@@ -46,6 +49,47 @@ impl Workload for Travelling {
     }
 }
 
+/// The keys of a line are typed, and go at once; then it is echoed, shown and taken.
+#[derive(Drop)]
+struct Lines {
+    alloc: Global,
+    events: Vec<Event>,
+}
+
+impl Lines {
+    fn new(alloc: Global) -> Result<Lines, Stuck> {
+        let mut events = Vec::new(alloc);
+        for key in KEYS {
+            events.push(Event::Key(*key))?;
+        }
+        for event in [
+            Event::ToServer(usize::MAX),
+            Event::Pull(usize::MAX),
+            Event::ToClient(usize::MAX),
+            Event::Take,
+        ] {
+            events.push(event)?;
+        }
+        Ok(Lines { alloc, events })
+    }
+}
+
+impl Workload for Lines {
+    fn once(&mut self) -> Result<Done, Stuck> {
+        let (settings, limit) = (Settings::standard(), Limit::standard());
+        let mut world = World::open(self.alloc, settings, 80, 24, limit)?;
+        let mut done = Done::nothing();
+        for _ in 0..LINES {
+            world.run(&self.events)?;
+            done = done.and(Done {
+                bytes: KEYS.len() as u64,
+                wholes: 1,
+            });
+        }
+        Ok(done)
+    }
+}
+
 pub(crate) fn run<H: Clock, W: Write>(
     alloc: Global,
     bench: &mut Bench<'_, H, W>,
@@ -53,5 +97,9 @@ pub(crate) fn run<H: Clock, W: Write>(
     bench.tell(
         "a world's keys, deliveries and takes",
         &mut Travelling { alloc },
+    )?;
+    bench.tell(
+        "a world's lines of 63, each sent whole",
+        &mut Lines::new(alloc)?,
     )
 }

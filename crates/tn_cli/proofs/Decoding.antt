@@ -15,7 +15,7 @@ use Rattle.tn_decode.specs.declared.printer.Prefix.{Prefix}
 use Rattle.tn_decode.specs.declared.printer.Prefix.TheVariants.{Empty}
 use Rattle.tn_cli.proofs.Inputs.{consumes_both, consumes_none}
 use Rattle.tn_cli.proofs.Outputs.{whole_input}
-use Rattle.tn_cli.specs.Decode.{IsDecodeOf, Decodes, DecodesRead, DecodesSome, HasPrinted, Decoded, PrintsPiece, PrintsLast, StopsWriting, StopsPiece}
+use Rattle.tn_cli.specs.Decode.{IsDecodeOf, Decodes, DecodesRead, DecodesSome, HasPrinted, Decoded, PrintsPiece, PrintsLast, StopsPiece}
 use Rattle.tn_cli.specs.Decode.{WritesLast, WritesPiece, nothing_printed}
 use Rattle.tn_cli.specs.Ends.{EndsDecode}
 use Rattle.tn_cli.specs.Streams.{AppendsPrefix, IsPrintFault}

@@ -10,3 +10,4 @@ pub mod Pairs
 pub mod Played
 pub mod Watching
 pub mod Writing
+pub mod Entries

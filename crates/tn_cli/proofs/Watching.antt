@@ -1,6 +1,6 @@
 -- Each byte from each stand of a watch completes the segments that the definition has.
 use Rattle.std.proofs.Common.{◌≡◌, ◌≢◌, ℕ, ◌+◌, ◌<◌, ◌≤◌, ◌⊎◌, inl, inr, List, [], ◌∷◌, ◌++◌, length, refl, sym, ◌∙◌, ap, subst, arith, append_assoc}
-use Rattle.std.proofs.Common.{append-nil, length-append}
+use Rattle.std.proofs.Common.{append-nil}
 use Rattle.std.specs.Prelude.{min, flat_map}
 use Rattle.std.proofs.lemmas.Bool.{ne_eqb}
 use Rattle.std.proofs.lemmas.Bool.Decides.{eqb_tells}
@@ -9,14 +9,12 @@ use Rattle.tn_codes.specs.declared.codes.Command.{Command}
 use Rattle.tn_codes.specs.declared.codes.Command.TheVariants as command
 use Rattle.tn_codes.specs.declared.codes.Verb.{Verb}
 use Rattle.tn_codes.specs.declared.codes.Verb.TheVariants as verb
-use Rattle.tn_nvt.specs.declared.items.Item.{Item}
 use Rattle.tn_nvt.specs.declared.items.Item.TheVariants.{Byte, Newline, Cmd, Neg, Sub}
 use Rattle.tn_nvt.specs.Spelling.{doubled_byte, doubled_bytes, subnegotiation, spelling}
 use Rattle.tn_nvt.specs.Stream.{Segment, spelled, lone_cr, escaped, unread, cut, IsSegment, IsPartial, text, look_ahead, gives, Splits}
-use Rattle.tn_cli.specs.Unprinted.{IsCount, IsLeft, Leads, LeavesUnprinted, Reaches, StandsAt, Watches, WatchesOn, counted, dropped_escape}
+use Rattle.tn_cli.specs.Unprinted.{IsCount, IsLeft, Leads, LeavesUnprinted, StandsAt, Watches, WatchesOn, counted, dropped_escape}
 use Rattle.tn_cli.specs.Unprinted.{dropped_subnegotiation, none, total}
 use Rattle.tn_cli.specs.declared.unprinted.Dropped.{Dropped}
-use Rattle.tn_cli.specs.declared.unprinted.Left.{Left}
 use Rattle.tn_cli.specs.declared.unprinted.Stand.{Stand}
 use Rattle.tn_cli.specs.declared.unprinted.Stand.TheVariants.{Between, AfterCr, AfterIac, AfterVerb, Inside, InsideIac}
 use Rattle.tn_cli.specs.declared.unprinted.Unprinted.{Unprinted}

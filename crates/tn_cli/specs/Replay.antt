@@ -1,13 +1,13 @@
 -- What `tn replay` prints of a client's stream.
-use Rattle.std.specs.Prelude.{◌≡◌, ℕ, Option, Some, None, List}
+use Rattle.std.specs.Prelude.{◌≡◌, ℕ, Option, Some, None, List, ◌++◌}
 use Rattle.std.specs.List.{filter_map}
 use Rattle.std.specs.Io.KnownBytes.{Appends}
 use Rattle.tn_nvt.specs.declared.items.Item.{Item}
 use Rattle.tn_nvt.specs.declared.items.Item.TheVariants.{Byte, Newline, Cmd, Neg, Sub}
 use Rattle.tn_nvt.specs.Stream.{Reading}
 use Rattle.tn_cli.specs.Streams.{AppendsPrefix}
-use Rattle.tn_cli.specs.Typing.{Types, local_output}
-use Rattle.tn_cli.specs.declared.typing.Typing.{Typing}
+use Rattle.tn_cli.specs.Typing.{local_output}
+use Rattle.tn_cli.specs.declared.replay.Gathered.{Gathered}
 
 -- a data byte is a key, and a new line the key of a line feed; all else is skipped
 abbrev pub key_of : Item → Option ℕ
@@ -21,13 +21,20 @@ key_of (Sub option params) = None
 abbrev pub keys_of : List Item → List ℕ
 keys_of items = filter_map key_of items
 
--- the keys of these items were typed
-abbrev pub TypesItems : Typing → List Item → Typing → Type 0
-TypesItems old items new = Types (keys_of items) old new
+-- the keys of these items were gathered
+abbrev pub GathersItems : Gathered → List Item → Gathered → Type 0
+GathersItems old items new = new.keys.items ≡ old.keys.items ++ keys_of items
 
--- some of these keys were typed, or none
-abbrev pub TypesSome : Typing → List Item → Typing → Type 0
-TypesSome old items new = Unit {0}
+-- some of these keys were gathered, or none
+abbrev pub GathersSome : Gathered → List Item → Gathered → Type 0
+GathersSome old items new = Unit {0}
+
+-- the keys of the stream's one reading
+pub record AreKeysOf (stream found : List ℕ) : Type 0 where
+  pub items : List Item
+  pub rest : List ℕ
+  pub reading : Reading stream items rest
+  pub keys : found ≡ keys_of items
 
 -- the output is what is printed of the keys of the stream's one reading
 pub record IsReplayOf (stream output : List ℕ) : Type 0 where

@@ -29,14 +29,21 @@ PrintsKeys keys old new = Appends old new (local_output keys)
 abbrev pub PrintsKeysPrefix : List ℕ → Option (List ℕ) → Option (List ℕ) → Type 0
 PrintsKeysPrefix keys old new = AppendsPrefix old new (local_output keys)
 
--- these keys were typed
-pub record LeadsTo (keys : List ℕ) (typing : Typing) : Type 0 where
+-- how many bytes of printed entries are kept, and how many the line of one has at most
+abbrev pub max_printed : ℕ
+max_printed = 65536
+
+abbrev pub max_entry : ℕ
+max_entry = 8198
+
+-- these keys were typed, and this much of what they print was given away before
+pub record LeadsTo (keys given : List ℕ) (typing : Typing) : Type 0 where
   pub settings : typing.roles ≡ standard.settings
   pub limit : typing.line.limit ≡ standard.limit
   pub line : discipline.LeadsTo (roles_of standard.settings keys) typing.line
   pub ahead : typing.line.ahead ≡ 0
-  pub printed : typing.printed.items ≡ local_output keys
+  pub printed : given ++ typing.printed.items ≡ local_output keys
 
 -- these keys more were typed
 abbrev pub Types : List ℕ → Typing → Typing → Type 0
-Types keys old new = (before : List ℕ) → LeadsTo before old → LeadsTo (before ++ keys) new
+Types keys old new = (before given : List ℕ) → LeadsTo before given old → LeadsTo (before ++ keys) given new

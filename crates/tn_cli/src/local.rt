@@ -1,13 +1,15 @@
 //! `tn local`: reads keys, and prints entries.
 
-ghost use Rattle.std.specs.Prelude.{◌≡◌, IfOk};
+ghost use Rattle.std.specs.Prelude.{◌≡◌, ◌≤◌, [], vec_len, vec_capacity, IfErr, OnOk, OnErr};
 ghost use Rattle.tn_cli.specs.Ends.{EndsByCalls, EndsLocal};
-ghost use Rattle.tn_cli.specs.Typing.{local_output};
+ghost use Rattle.tn_cli.specs.Streams.{max_writes};
+ghost use Rattle.tn_cli.specs.Typing.{LeadsTo, PrintsKeys, PrintsKeysPrefix, max_printed};
+ghost use Rattle.tn_streams.specs.Telling.{HasFailed};
 
 use crate::fault::CliFault;
-use crate::streams::{read_whole, write_whole};
+use crate::streams::{read_whole, write_within};
 use crate::typing::Typing;
-use std::alloc::{AllocError, Global};
+use std::alloc::Global;
 use tn_streams::{Drain, Source};
 
 /// Reads all keys, types them at one line with standard settings, and writes the entries that they
@@ -23,15 +25,32 @@ pub fn run_local<R: Source, W: Drain>(
         (W.told writer.old) (W.told writer.new) }
 {
     let keys = read_whole(alloc, reader)?;
-    let output = entries_of_keys(alloc, &keys)?;
-    write_whole(writer, &output)
+    let typing = Typing::new(alloc)?;
+    write_entries(typing, &keys, writer)
 }
 
-// The printed entries of keys.
-fn entries_of_keys(alloc: Global, keys: &[u8]) -> Result<Vec<u8>, AllocError>
-    ensures { IfOk result (λ output. output.items ≡ local_output keys.now) }
+/// Types the keys, and writes the entries that they give as they come. No memory is wanted.
+pub(crate) fn write_entries<W: Drain>(
+    typing: Typing,
+    keys: &[u8],
+    writer: &mut W,
+) -> Result<(), CliFault>
+    requires new { LeadsTo [] [] typing }
+    requires empty { typing.printed.items ≡ [] }
+    requires len { vec_len typing.printed ≡ 0 }
+    requires room { max_printed ≤ vec_capacity typing.printed }
+    ensures ok { OnOk result (PrintsKeys keys.now (W.contents writer.old) (W.contents writer.new)) }
+    ensures err { OnErr result (PrintsKeysPrefix keys.now (W.contents writer.old) (W.contents writer.new)) }
+    ensures fault { IfErr result (λ fault. fault ≡ CliFault.Write) }
+    ensures failed { OnErr result (HasFailed max_writes (W.told writer.old) (W.told writer.new)) }
 {
-    let mut typing = Typing::new(alloc)?;
-    typing.keys(keys)?;
-    Ok(typing.into_printed())
+    let mut typing = typing;
+    let mut typed = 0;
+    let mut left = u64::MAX;
+    while typed < keys.len() {
+        typed += typing.fill(&keys[typed..]);
+        left = write_within(writer, typing.printed(), left)?;
+        typing.clear();
+    }
+    Ok(())
 }

@@ -3,7 +3,9 @@
 ghost use Rattle.std.specs.Prelude.{◌≡◌, ◌+◌, ◌*◌, ◌/◌, ◌%◌, ◌<◌, ◌≤◌, ◌++◌, [], ◌∷◌, OnOk, codes, length};
 ghost use Rattle.std.specs.Prelude.{slice_index, vec_len, vec_capacity};
 ghost use Rattle.hex.specs.Hex.{encode_lower, lower_digits};
-ghost use Rattle.tn_discipline.specs.declared.reads.Entry.TheVariants.{Text};
+ghost use Rattle.tn_discipline.specs.declared.reads.Entry.TheVariants.{Text, Signal};
+ghost use Rattle.tn_discipline.specs.Editing.{with_byte};
+ghost use Rattle.tn_discipline.specs.Entries.{line_of};
 ghost use Rattle.tn_cli.specs.Printed.{printed_entry, signal_line};
 
 use std::alloc::AllocError;
@@ -20,9 +22,6 @@ const PAIRS: [u8; 512] = *b"000102030405060708090a0b0c0d0e0f10111213141516171819
     c0c1c2c3c4c5c6c7c8c9cacbcccdcecfd0d1d2d3d4d5d6d7d8d9dadbdcdddedf\
     e0e1e2e3e4e5e6e7e8e9eaebecedeeeff0f1f2f3f4f5f6f7f8f9fafbfcfdfeff";
 
-/// How many bytes the line of a text has beside the digits of all but its last byte.
-const TEXT_BYTES: usize = 8;
-
 /// Appends the line of an entry, with its line feed.
 pub(crate) fn print_entry(entry: &Entry, out: &mut Vec<u8>) -> Result<(), AllocError>
     ensures { OnOk result (out.new.items ≡ out.old.items ++ printed_entry entry.now) }
@@ -37,22 +36,66 @@ pub(crate) fn print_entry(entry: &Entry, out: &mut Vec<u8>) -> Result<(), AllocE
     }
 }
 
-/// Appends the line of a text that is these bytes and one more behind them.
-pub(crate) fn print_text(bytes: &[u8], last: u8, out: &mut Vec<u8>) -> Result<(), AllocError>
-    requires short { length bytes.now < 65536 }
-    ensures { OnOk result (out.new.items ≡ out.old.items ++ printed_entry (Text (bytes.now ++ last ∷ []))) }
+/// Appends the line of the entry that these bytes give, closed by this byte or by none, where there is room.
+pub(crate) fn put_line(held: &[u8], last: Option<u8>, out: &mut Vec<u8>)
+    requires { vec_len out.old + (2 * length held.now + 8) ≤ vec_capacity out.old }
+    ensures items { out.new.items ≡ out.old.items ++ printed_entry (line_of (with_byte held.now last)) }
+    ensures capacity { vec_capacity out.old ≤ vec_capacity out.new }
 {
-    out.reserve(2 * bytes.len() + TEXT_BYTES)?;
+    match last {
+        Some(byte) => put_text(held, byte, out),
+        None => put_held(held, out),
+    }
+}
+
+// The same of a line that is closed by no byte.
+fn put_held(held: &[u8], out: &mut Vec<u8>)
+    requires { vec_len out.old + (2 * length held.now + 8) ≤ vec_capacity out.old }
+    ensures items { out.new.items ≡ out.old.items ++ printed_entry (line_of held.now) }
+    ensures capacity { vec_capacity out.old ≤ vec_capacity out.new }
+{
+    if held.is_empty() {
+        put_bytes(b"eof\n", out);
+        return;
+    }
+    let front = held.len() - 1;
+    put_text(&held[..front], held[front], out);
+}
+
+/// Appends the line of a signal, where there is room.
+pub(crate) fn put_signal(sig: Sig, out: &mut Vec<u8>)
+    requires { vec_len out.old + 12 ≤ vec_capacity out.old }
+    ensures items { out.new.items ≡ out.old.items ++ printed_entry (Signal sig) }
+    ensures capacity { vec_capacity out.old ≤ vec_capacity out.new }
+{
+    put_bytes(line_of_signal(sig), out);
+}
+
+// Appends bytes where there is room for them.
+fn put_bytes(bytes: &[u8], out: &mut Vec<u8>)
+    requires { vec_len out.old + length bytes.now ≤ vec_capacity out.old }
+    ensures items { out.new.items ≡ out.old.items ++ bytes.now }
+    ensures capacity { vec_capacity out.old ≤ vec_capacity out.new }
+{
+    let _room = out.extend_from_slice(bytes);
+}
+
+// Appends the line of a text that is these bytes and one more behind them.
+fn put_text(bytes: &[u8], last: u8, out: &mut Vec<u8>)
+    requires { vec_len out.old + (2 * length bytes.now + 8) ≤ vec_capacity out.old }
+    ensures items { out.new.items ≡ out.old.items ++ printed_entry (Text (bytes.now ++ last ∷ [])) }
+    ensures capacity { vec_capacity out.old ≤ vec_capacity out.new }
+{
     let alloc = *out.allocator();
     let whole = mem::replace(out, Vec::new(alloc));
     *out = with_text(whole, bytes, last);
-    Ok(())
 }
 
 // The same where there is room, of a vector that is owned.
 fn with_text(out: Vec<u8>, bytes: &[u8], last: u8) -> Vec<u8>
     requires { vec_len out + (2 * length bytes.now + 8) ≤ vec_capacity out }
-    ensures { result.items ≡ out.items ++ printed_entry (Text (bytes.now ++ last ∷ [])) }
+    ensures items { result.items ≡ out.items ++ printed_entry (Text (bytes.now ++ last ∷ [])) }
+    ensures capacity { vec_capacity out ≤ vec_capacity result }
 {
     let mut out = out;
     let _room = out.extend_from_slice(b"text ");

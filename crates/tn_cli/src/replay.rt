@@ -2,10 +2,11 @@
 
 ghost use Rattle.std.specs.Prelude.{◌≡◌, IfOk};
 ghost use Rattle.tn_cli.specs.Ends.{EndsByCalls, EndsReplay};
-ghost use Rattle.tn_cli.specs.Replay.{IsReplayOf, key_of};
+ghost use Rattle.tn_cli.specs.Replay.{AreKeysOf, key_of};
 
 use crate::fault::CliFault;
-use crate::streams::{read_whole, write_whole};
+use crate::local::write_entries;
+use crate::streams::read_whole;
 use crate::typing::Typing;
 use std::alloc::{AllocError, Global};
 use tn_nvt::{Decoder, Item, Params, Refused, Sink};
@@ -25,31 +26,40 @@ pub fn run_replay<R: Source, W: Drain>(
         (W.told writer.old) (W.told writer.new) }
 {
     let stream = read_whole(alloc, reader)?;
-    let output = entries_of_stream(alloc, &stream)?;
-    write_whole(writer, &output)
+    let keys = keys_of_stream(alloc, &stream)?;
+    let typing = Typing::new(alloc)?;
+    write_entries(typing, &keys, writer)
 }
 
-// The printed entries of a stream's keys.
-fn entries_of_stream(alloc: Global, stream: &[u8]) -> Result<Vec<u8>, AllocError>
-    ensures { IfOk result (λ output. IsReplayOf stream.now output.items) }
+// The keys of a stream.
+fn keys_of_stream(alloc: Global, stream: &[u8]) -> Result<Vec<u8>, AllocError>
+    ensures { IfOk result (λ keys. AreKeysOf stream.now keys.items) }
 {
-    let mut typing = Typing::new(alloc)?;
+    let mut gathered = Gathered {
+        keys: Vec::with_capacity(alloc, stream.len())?,
+    };
     let mut decoder = Decoder::new(alloc);
-    match decoder.feed_to(stream, &mut typing) {
-        Ok(()) => Ok(typing.into_printed()),
+    match decoder.feed_to(stream, &mut gathered) {
+        Ok(()) => Ok(gathered.keys),
         Err(_) => Err(AllocError),
     }
 }
 
-impl Sink for Typing {
-    ghost use Rattle.tn_cli.specs.Replay.{TypesItems, TypesSome};
+/// The keys of what was read of a stream.
+#[derive(Drop)]
+pub(crate) struct Gathered {
+    keys: Vec<u8>,
+}
 
-    ghost takes = { TypesItems };
+impl Sink for Gathered {
+    ghost use Rattle.tn_cli.specs.Replay.{GathersItems, GathersSome};
 
-    ghost gives_up = { TypesSome };
+    ghost takes = { GathersItems };
+
+    ghost gives_up = { GathersSome };
 
     fn run(&mut self, bytes: &[u8]) -> Result<(), Refused> {
-        match self.keys(bytes) {
+        match self.keys.extend_from_slice(bytes) {
             Ok(()) => Ok(()),
             Err(_) => Err(Refused),
         }
@@ -57,7 +67,7 @@ impl Sink for Typing {
 
     fn item(&mut self, item: Item) -> Result<(), Refused> {
         match key_of_item(&item) {
-            Some(key) => match self.key(key) {
+            Some(key) => match self.keys.extend_from_slice(&[key]) {
                 Ok(()) => Ok(()),
                 Err(_) => Err(Refused),
             },

@@ -3,7 +3,7 @@
 ghost use Rattle.std.specs.Prelude.{◌≡◌, ◌+◌, ◌-◌, ◌<◌, ◌≤◌, ◌≢◌, ℕ, List, length, vec_len, is_ok, IfOk};
 ghost use Rattle.std.specs.Prelude.{IfErr, IfSome, OnOk, OnErr, IsErrOf, Ok, Err, take, drop};
 ghost use Rattle.std.specs.Io.KnownBytes.{Consumes, IsAtEnd, Appends, Keeps};
-ghost use Rattle.tn_streams.specs.Telling.{AccountsFor, HasFailed};
+ghost use Rattle.tn_streams.specs.Telling.{AccountsFor, HasFailed, HasMade};
 ghost use Rattle.tn_cli.specs.Streams.{AppendsPrefix, IsReadFault, KeepsPiece, max_input, max_reads};
 ghost use Rattle.tn_cli.specs.Streams.{max_writes};
 
@@ -91,10 +91,30 @@ pub(crate) fn write_whole<W: Drain>(writer: &mut W, output: &[u8]) -> Result<(),
     ensures failed { OnErr result (HasFailed max_writes (W.told writer.old) (W.told writer.new)) }
     ensures accounts { AccountsFor max_writes (is_ok result) (W.told writer.old) (W.told writer.new) }
 {
+    match write_within(writer, output, u64::MAX) {
+        Ok(_left) => Ok(()),
+        Err(fault) => Err(fault),
+    }
+}
+
+/// The same in at most so many writes; returns how many are left.
+pub(crate) fn write_within<W: Drain>(
+    writer: &mut W,
+    output: &[u8],
+    most: u64,
+) -> Result<u64, CliFault>
+    ensures ok { OnOk result (Appends (W.contents writer.old) (W.contents writer.new) output.now) }
+    ensures left { IfOk result (λ left. left ≤ most) }
+    ensures made { IfOk result (λ left. HasMade (most - left) (W.told writer.old) (W.told writer.new)) }
+    ensures err { OnErr result (AppendsPrefix (W.contents writer.old) (W.contents writer.new) output.now) }
+    ensures fault { IfErr result (λ fault. fault ≡ CliFault.Write) }
+    ensures failed { OnErr result (HasFailed most (W.told writer.old) (W.told writer.new)) }
+    ensures accounts { AccountsFor most (is_ok result) (W.told writer.old) (W.told writer.new) }
+{
     let mut written = 0;
-    for _write in 0..u64::MAX {
+    for write in 0..most {
         if written == output.len() {
-            return Ok(());
+            return Ok(most - write);
         }
         match writer.write_some(&output[written..]) {
             Ok(0) => return Err(CliFault::Write),

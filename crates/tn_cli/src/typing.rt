@@ -1,20 +1,29 @@
 //! Types keys at one line, and prints the entries that they give.
 
-ghost use Rattle.std.specs.Prelude.{◌≡◌, ◌<◌, ◌≤◌, ℕ, List, [], ◌∷◌, ◌++◌, length, take, IfOk, OnOk};
-ghost use Rattle.tn_discipline.specs.declared.reads.Entry.TheVariants.{Text};
-ghost use Rattle.tn_discipline.specs.Editing.{closing_byte};
+ghost use Rattle.std.specs.Prelude.{◌≡◌, ◌+◌, ◌<◌, ◌≤◌, ℕ, List, [], ◌∷◌, ◌++◌, true, length, take, IfOk};
+ghost use Rattle.std.specs.Prelude.{vec_len, vec_capacity};
+ghost use Rattle.tn_discipline.specs.Editing.{closing_byte, with_byte};
+ghost use Rattle.tn_discipline.specs.Entries.{line_of};
 ghost use Rattle.tn_discipline.specs.HalfLine.{empty_line};
+ghost use Rattle.tn_discipline.specs.Keys.{gives_entry, role_of_key};
 ghost use Rattle.tn_cli.specs.Printed.{printed_entry};
-ghost use Rattle.tn_cli.specs.Typing.{LeadsTo, Types, local_output};
+ghost use Rattle.tn_cli.specs.Typing.{LeadsTo, Types, max_entry, max_printed};
 
-use crate::printed::{print_entry, print_text};
+use crate::printed::{put_line, put_signal};
 use std::alloc::{AllocError, Global};
-use tn_discipline::{Effect, Limit, Line, Role, Roles, Settings};
+use tn_discipline::{Limit, Line, Role, Roles, Settings};
 
 /// Of fewer bytes than this that join the line as they are, each is typed by itself.
 const FEW_BYTES: usize = 4;
 
-/// A line with standard settings, and the printed entries that it has given.
+/// How many bytes of printed entries are kept before they are written.
+const PRINTED_BYTES: usize = 65_536;
+
+/// How many bytes the line of an entry has at most: of a text, two digits for each byte of the longest line.
+const ENTRY_BYTES: usize = 8_198;
+
+/// A line with standard settings, and the printed entries that it has given since the last were written.
+/// All memory is taken at the beginning.
 #[derive(Drop)]
 pub(crate) struct Typing {
     roles: Roles,
@@ -24,66 +33,85 @@ pub(crate) struct Typing {
 
 impl Typing {
     pub(crate) fn new(alloc: Global) -> Result<Typing, AllocError>
-        ensures { IfOk result (λ typing. LeadsTo [] typing) }
+        ensures leads { IfOk result (λ typing. LeadsTo [] [] typing) }
+        ensures empty { IfOk result (λ typing. typing.printed.items ≡ []) }
+        ensures len { IfOk result (λ typing. vec_len typing.printed ≡ 0) }
+        ensures room { IfOk result (λ typing. max_printed ≤ vec_capacity typing.printed) }
     {
         Ok(Typing {
             roles: Roles::new(alloc, Settings::standard())?,
             line: Line::new(alloc, Limit::standard())?,
-            printed: Vec::new(alloc),
+            printed: Vec::with_capacity(alloc, PRINTED_BYTES)?,
         })
     }
 
-    pub(crate) fn key(&mut self, key: u8) -> Result<(), AllocError>
-        ensures { OnOk result (Types (key ∷ []) self.old self.new) }
+    /// The printed entries that are to be written.
+    pub(crate) fn printed(&self) -> &[u8]
+        ensures { result.now ≡ self.now.printed.items }
     {
-        let role = self.roles.role(key);
-        if let Some(byte) = closing(role) {
-            return self.close(byte);
-        }
-        if let Effect::Gives(entry) = self.line.play(role)? {
-            return print_entry(&entry, &mut self.printed);
-        }
-        Ok(())
+        self.printed.as_slice()
     }
 
-    // Prints the line with this byte behind it, and empties it. No text is made of it in between.
-    fn close(&mut self, byte: u8) -> Result<(), AllocError>
-        ensures printed { let text = self.old.line.held ++ byte ∷ [] in
-            OnOk result (self.new.printed.items ≡ self.old.printed.items ++ printed_entry (Text text)) }
-        ensures line { OnOk result (self.new.line ≡ empty_line self.old.line.limit) }
-        ensures roles { self.new.roles ≡ self.old.roles }
+    /// The printed entries were written.
+    pub(crate) fn clear(&mut self)
+        ensures printed { self.new.printed.items ≡ [] }
+        ensures len { vec_len self.new.printed ≡ 0 }
+        ensures capacity { vec_capacity self.new.printed ≡ vec_capacity self.old.printed }
+        ensures typed { (keys given : List ℕ) → LeadsTo keys given self.old →
+            LeadsTo keys (given ++ self.old.printed.items) self.new }
     {
-        // Nothing is done here; the proof that the line is short begins with what every limit is.
-        let _limit = self.line.limit().bytes();
-        print_text(self.line.held(), byte, &mut self.printed)?;
-        let _killed = self.line.kill();
-        Ok(())
+        self.printed.clear();
     }
 
-    /// Types keys in turn. After a fault, some of them were typed.
-    pub(crate) fn keys(&mut self, keys: &[u8]) -> Result<(), AllocError>
-        ensures { OnOk result (Types keys.now self.old self.new) }
+    /// Types keys in turn, while there is room for what one of them prints, and returns how many were typed.
+    pub(crate) fn fill(&mut self, keys: &[u8]) -> usize
+        requires empty { vec_len self.old.printed ≡ 0 }
+        requires room { max_printed ≤ vec_capacity self.old.printed }
+        ensures within { result ≤ length keys.now }
+        ensures some { 0 < length keys.now → 0 < result }
+        ensures types { Types (take result keys.now) self.old self.new }
+        ensures capacity { vec_capacity self.old.printed ≤ vec_capacity self.new.printed }
     {
         let mut typed = 0;
         while typed < keys.len() {
-            typed += self.front(&keys[typed..])?;
+            if self.printed.len() > PRINTED_BYTES - ENTRY_BYTES {
+                return typed;
+            }
+            typed += self.front(&keys[typed..]);
         }
-        Ok(())
+        typed
     }
 
     // Types leading keys that make no entry, and then the next key; returns how many were typed.
-    fn front(&mut self, keys: &[u8]) -> Result<usize, AllocError>
-        requires { 0 < length keys.now }
-        ensures some { IfOk result (λ count. 0 < count) }
-        ensures within { IfOk result (λ count. count ≤ length keys.now) }
-        ensures types { IfOk result (λ count. Types (take count keys.now) self.old self.new) }
+    fn front(&mut self, keys: &[u8]) -> usize
+        requires some { 0 < length keys.now }
+        requires room { vec_len self.old.printed + max_entry ≤ vec_capacity self.old.printed }
+        ensures some { 0 < result }
+        ensures within { result ≤ length keys.now }
+        ensures types { Types (take result keys.now) self.old self.new }
+        ensures capacity { vec_capacity self.old.printed ≤ vec_capacity self.new.printed }
     {
         let count = self.edit(keys);
         if count == keys.len() {
-            return Ok(count);
+            return count;
         }
-        self.key(keys[count])?;
-        Ok(count + 1)
+        self.key(keys[count]);
+        count + 1
+    }
+
+    // Types a key, and prints the entry that it makes.
+    fn key(&mut self, key: u8)
+        requires { vec_len self.old.printed + max_entry ≤ vec_capacity self.old.printed }
+        ensures types { Types (key ∷ []) self.old self.new }
+        ensures capacity { vec_capacity self.old.printed ≤ vec_capacity self.new.printed }
+    {
+        let role = self.roles.role(key);
+        if role.gives_entry() {
+            self.enter(role);
+            return;
+        }
+        // Memory is wanted for a text alone.
+        let _effect = self.line.play(role);
     }
 
     // Types leading keys that make no entry, and returns how many were typed. Bytes that join the line as
@@ -91,6 +119,7 @@ impl Typing {
     fn edit(&mut self, keys: &[u8]) -> usize
         ensures within { result ≤ length keys.now }
         ensures types { Types (take result keys.now) self.old self.new }
+        ensures printed { self.new.printed ≡ self.old.printed }
     {
         let count = self.roles.ordinary_front(keys);
         if count < FEW_BYTES {
@@ -100,10 +129,33 @@ impl Typing {
         count
     }
 
-    pub(crate) fn into_printed(self) -> Vec<u8>
-        ensures { (keys : List ℕ) → LeadsTo keys self → result.items ≡ local_output keys }
+    // Types a key of a role that makes an entry, and prints that.
+    fn enter(&mut self, role: Role)
+        requires gives { gives_entry role ≡ true }
+        requires room { vec_len self.old.printed + max_entry ≤ vec_capacity self.old.printed }
+        ensures types { (key : ℕ) → role ≡ role_of_key self.old.roles key →
+            Types (key ∷ []) self.old self.new }
+        ensures capacity { vec_capacity self.old.printed ≤ vec_capacity self.new.printed }
     {
-        self.printed
+        match role {
+            Role::Signal(sig) => put_signal(sig, &mut self.printed),
+            _ => self.close(closing(role)),
+        }
+    }
+
+    // Prints the line with this byte behind it, or with none, and empties it. No text is made of it.
+    fn close(&mut self, last: Option<u8>)
+        requires { vec_len self.old.printed + max_entry ≤ vec_capacity self.old.printed }
+        ensures printed { let entry = line_of (with_byte self.old.line.held last) in
+            self.new.printed.items ≡ self.old.printed.items ++ printed_entry entry }
+        ensures line { self.new.line ≡ empty_line self.old.line.limit }
+        ensures roles { self.new.roles ≡ self.old.roles }
+        ensures capacity { vec_capacity self.old.printed ≤ vec_capacity self.new.printed }
+    {
+        // Nothing is done here; the proof that the line is short begins with what every limit is.
+        let _limit = self.line.limit().bytes();
+        put_line(self.line.held(), last, &mut self.printed);
+        let _killed = self.line.kill();
     }
 }
 

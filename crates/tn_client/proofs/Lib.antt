@@ -6,3 +6,4 @@ pub mod Loans
 pub mod Undoing
 pub mod Bounding
 pub mod Dropping
+pub mod Roles

@@ -1,7 +1,7 @@
 //! What a client end does with a key.
 
 ghost use Rattle.std.specs.Prelude.{◌≡◌, ◌≢◌, ◌⊎◌, ◌<◌, ◌≤◌, ◌++◌, ℕ, [], true, false, length, IfOk, OnOk};
-ghost use Rattle.std.specs.Prelude.{OnErr};
+ghost use Rattle.std.specs.Prelude.{OnErr, if◌then◌else◌};
 ghost use Rattle.tn_nvt.specs.Room.{LacksRoom};
 ghost use Rattle.tn_nvt.specs.Spelling.{spells};
 ghost use Rattle.tn_client.specs.Lines.{settings_by, key_settings};
@@ -11,7 +11,8 @@ ghost use Rattle.tn_client.specs.Screen.{passed_shown, edited_shown, echoed_edit
 ghost use Rattle.tn_discipline.specs.Characters.{Characters};
 ghost use Rattle.tn_discipline.specs.HalfLine.{line_released, effect_of, GivesText};
 ghost use Rattle.tn_discipline.specs.Admitted.{count_after};
-ghost use Rattle.tn_discipline.specs.Keys.{roles_from};
+ghost use Rattle.tn_discipline.specs.Keys.{roles_from, role_of_key};
+ghost use Rattle.tn_linemode.specs.Modes.{traps};
 ghost use Rattle.tn_client.specs.Steps.{role_now, end_after_count, line_typed, sends_where, end_after_key};
 ghost use Rattle.tn_client.specs.Steps.{says_key, shows_key, LacksMemoryNow, Begins};
 
@@ -129,9 +130,10 @@ impl ClientEnd {
             let text = passed_shown (is_echoed self.old.options) key in
             OnErr result (LacksRoom out.old (length (spells said)) ⊎ LacksRoom screen.old (length text)) }
     {
-        put_raw(role_of(&self.settings(), key), key, out)?;
+        let (trapping, plain) = self.roles(key);
+        put_raw(self.role_among(trapping, plain), key, out)?;
         self.echo_passed(key, screen)?;
-        self.count(key);
+        self.count(trapping, plain);
         Ok(())
     }
 
@@ -149,13 +151,37 @@ impl ClientEnd {
         echo_raw(key, screen)
     }
 
-    // Counts a key in the half line that the server edits.
-    fn count(&mut self, key: u8)
-        ensures { self.new ≡ end_after_count self.old key }
+    // The roles of a key where ISIG is set, and where it is clear. Only those of a signal's character differ.
+    fn roles(&self, key: u8) -> (Role, Role)
+        ensures trapping { result.0 ≡ role_of_key (settings_by true self.now.table) key }
+        ensures plain { result.1 ≡ role_of_key (settings_by false self.now.table) key }
+    {
+        let trapping = role_of(&self.settings_under(true), key);
+        if let Role::Signal(_) = trapping {
+            return (trapping, role_of(&self.settings_under(false), key));
+        }
+        (trapping, trapping)
+    }
+
+    // The one of them that the mode names.
+    fn role_among(&self, trapping: Role, plain: Role) -> Role
+        ensures { result ≡ (if traps self.now.mode then trapping else plain) }
+    {
+        if self.mode.current().trapsig() {
+            return trapping;
+        }
+        plain
+    }
+
+    // Counts a key of these roles in the half line that the server edits.
+    fn count(&mut self, trapping: Role, plain: Role)
+        ensures { let limit = self.old.line.limit in
+            self.new ≡ record self.old {
+              trapped = count_after limit self.old.trapped (roles_from trapping);
+              plain = count_after limit self.old.plain (roles_from plain);
+            } }
     {
         let limit = self.line.limit();
-        let trapping = role_of(&self.settings_under(true), key);
-        let plain = role_of(&self.settings_under(false), key);
         self.trapped = count_after(limit, self.trapped, trapping);
         self.plain = count_after(limit, self.plain, plain);
     }

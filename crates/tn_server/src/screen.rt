@@ -14,6 +14,9 @@ const CR: u8 = b'\r';
 /// How many bytes a symbol takes at most.
 pub(crate) const SYMBOL_BYTES: usize = 2;
 
+/// How many symbols go one by one where no run begins: a run is not looked for before each of them.
+const FEW: usize = 8;
+
 /// Moves the first symbols of a pair to a vector that has room, each in its spelling.
 pub(crate) fn spell_front(pair: &mut Pair, count: usize, out: &mut Vec<u8>)
     requires enough { count ≤ length pair.old.queue }
@@ -27,8 +30,8 @@ pub(crate) fn spell_front(pair: &mut Pair, count: usize, out: &mut Vec<u8>)
     }
 }
 
-// Moves a run of symbols that are spelled as they are, and the symbol behind it, and returns how many they
-// are.
+// Moves a run of symbols that are spelled as they are, and the symbol behind it, or a few symbols where no
+// run begins, and returns how many they are.
 fn spell_some(pair: &mut Pair, most: usize, out: &mut Vec<u8>) -> usize
     requires some { 0 < most }
     requires enough { most ≤ length pair.old.queue }
@@ -40,14 +43,69 @@ fn spell_some(pair: &mut Pair, most: usize, out: &mut Vec<u8>) -> usize
     ensures len { vec_len out.new ≤ vec_len out.old + 2 * result }
     ensures capacity { vec_capacity out.old ≤ vec_capacity out.new }
 {
-    let count = pair.pull_run(most, (CR, IAC), out);
-    if count == most {
-        return count;
+    let run = pull_front(pair, most, out);
+    let more = count_behind(run, most);
+    spell_each(pair, more, out);
+    run + more
+}
+
+// How many symbols go one by one behind a run of so many.
+fn count_behind(run: usize, most: usize) -> usize
+    requires { run ≤ most }
+    ensures within { run + result ≤ most }
+    ensures some { 0 < most → 0 < run + result }
+{
+    if run == 0 {
+        return most.min(FEW);
     }
-    if let Some(symbol) = pair.pull_symbol() {
-        spell(symbol, out);
+    if run < most {
+        return 1;
     }
-    count + 1
+    0
+}
+
+// Moves the run that the symbols begin with, unless they are few, and returns how long it is.
+fn pull_front(pair: &mut Pair, most: usize, out: &mut Vec<u8>) -> usize
+    requires enough { most ≤ length pair.old.queue }
+    requires room { vec_len out.old + 2 * most ≤ vec_capacity out.old }
+    ensures within { result ≤ most }
+    ensures out { out.new.items ≡ out.old.items ++ spells (map data_of (take result pair.old.queue)) }
+    ensures pair { pair.new ≡ record pair.old { queue = drop result pair.old.queue } }
+    ensures len { vec_len out.new ≤ vec_len out.old + 2 * result }
+    ensures capacity { vec_capacity out.old ≤ vec_capacity out.new }
+{
+    if most < FEW {
+        return 0;
+    }
+    pair.pull_run(most, (CR, IAC), out)
+}
+
+// Moves symbols one by one.
+fn spell_each(pair: &mut Pair, count: usize, out: &mut Vec<u8>)
+    requires enough { count ≤ length pair.old.queue }
+    requires room { vec_len out.old + 2 * count ≤ vec_capacity out.old }
+    ensures out { out.new.items ≡ out.old.items ++ spells (map data_of (take count pair.old.queue)) }
+    ensures pair { pair.new ≡ record pair.old { queue = drop count pair.old.queue } }
+    ensures len { vec_len out.new ≤ vec_len out.old + 2 * count }
+    ensures capacity { vec_capacity out.old ≤ vec_capacity out.new }
+{
+    for _symbol in 0..count {
+        spell_next(pair, out);
+    }
+}
+
+fn spell_next(pair: &mut Pair, out: &mut Vec<u8>)
+    requires some { 0 < length pair.old.queue }
+    requires room { vec_len out.old + 2 ≤ vec_capacity out.old }
+    ensures out { out.new.items ≡ out.old.items ++ spells (map data_of (take 1 pair.old.queue)) }
+    ensures pair { pair.new ≡ record pair.old { queue = drop 1 pair.old.queue } }
+    ensures len { vec_len out.new ≤ vec_len out.old + 2 }
+    ensures capacity { vec_capacity out.old ≤ vec_capacity out.new }
+{
+    match pair.pull_symbol() {
+        Some(symbol) => spell(symbol, out),
+        None => {},
+    }
 }
 
 fn spell(symbol: Symbol, out: &mut Vec<u8>)

@@ -3,8 +3,8 @@ use Rattle.hex.specs.Hex.{lower_digits}
 use Rattle.tn_cli.proofs.Digits.{text_line, where_ok, digit_put}
 use Rattle.tn_cli.proofs.printed.with_text.Goals as goal
 
-pub returns : goal.returns
-returns c =
+pub returns-clause-items : goal.returns-clause-items
+returns-clause-items c =
     let begun = c.extend_from_slice-room.ensures in
     text_line lower_digits c.args.bytes.now c.args.out.items _ _ _ _ _ c.args.last
     (where_ok _ _ _ _ (begun.succeeds (omega (arith, c.requires))) begun.items) c.with_digits-out.ensures.items

@@ -1,46 +1,36 @@
-use Rattle.std.proofs.Common.{◌≡◌, ◌<◌, ◌≤◌, ◌++◌, length, suc, drop, slice_get, sym, ap, ◌∙◌, add-one, arith, vec_len, vec_capacity}
-use Rattle.tn_nvt.specs.Spelling.{spelling}
-use Rattle.tn_pty.specs.Terminal.{Terminal}
-use Rattle.tn_pty.specs.Runs.{leading_run}
-use Rattle.tn_pty.proofs.lemmas.Fronts.{drop-suc, one_left}
+use Rattle.std.proofs.Common.{◌++◌, length, map, take, drop, ap, ◌∙◌, arith, length-drop}
+use Rattle.std.proofs.lemmas.List.{drop-drop}
+use Rattle.tn_nvt.specs.Spelling.{spells}
 use Rattle.tn_server.specs.Replies.{data_of}
-use Rattle.tn_server.proofs.Spelling.{spelled_run, spelled_next, shown_still}
+use Rattle.tn_server.proofs.Spelling.{spelled_both, shown_still}
 use Rattle.tn_server.proofs.screen.spell_some.Goals as goal
-use Rattle.tn_server.proofs.screen.spell_some.Goals.{in-Some, in_default}
 
-pub returns-then-count-most-clause-out : goal.returns-then-count-most-clause-out
-returns-then-count-most-clause-out c =
-    let queue = c.args.pair.now.queue in
-    let run = c.pull_run-count in
-    let within : run.result ≤ length (leading_run 13 255 queue) = omega (arith, run.ensures.count) in
-    run.ensures.out ∙ ap (λ xs. c.args.out.now.items ++ xs) (sym (spelled_run run.result queue within))
+pub spell_each-requires : goal.spell_each-requires
+spell_each-requires c =
+    let run = c.pull_front-run in
+    let left = ap (λ p. length p.queue) run.ensures.pair ∙ length-drop run.result c.args.pair.now.queue in
+    record {
+      enough = omega (arith, left, c.count_behind-more.ensures.within, c.requires.enough);
+      room = omega (arith, run.ensures.len, run.ensures.capacity, c.count_behind-more.ensures.within, c.requires.room);
+    }
 
 pub returns : goal.returns
 returns c =
     let before = c.args.pair.now in
-    let run = c.pull_run-count in
-    let n = run.result in
-    let within : n ≤ length (leading_run 13 255 before.queue) = omega (arith, run.ensures.count) in
-    let few : n < length before.queue = omega (arith, run.ensures.count, c.requires.enough, c.if-count-most.false) in
-    let first = c.pull_symbol.ensures.first ∙ ap (λ p. slice_get p.queue 0) run.ensures.pair in
-    let rest : c.pull_symbol.new.self ≡ record before { queue = drop (suc n) before.queue } =
-    c.pull_symbol.ensures.pair
-    ∙ ap {A = Terminal} {B = Terminal} (λ p. record p { queue = drop 1 p.queue }) run.ensures.pair
-    ∙ ap (λ q. shown_still before q) (drop-suc before.queue n) in
-    elim c.match-pull_symbol.branch [
-      | in-Some w ↦
-          let symbol = w.in-Some.symbol in
-          rw add-one (record {
-            some = omega arith;
-            within = omega (arith, c.if-count-most.false, run.ensures.count);
-            out =
-                ap (λ v. v.items) w.out-is
-                ∙ w.spell.ensures.items
-                ∙ ap (λ xs. xs ++ spelling (data_of symbol)) run.ensures.out
-                ∙ spelled_next c.args.out.now.items before.queue n symbol within (sym first ∙ w.in-Some.is);
-            pair = rest;
-            len = omega (arith, ap vec_len w.out-is, w.spell.ensures.len, run.ensures.len);
-            capacity = omega (arith, ap vec_capacity w.out-is, w.spell.ensures.capacity, run.ensures.capacity);
-          })
-      | in_default w ↦ absurd (one_left before.queue n few (sym first ∙ w.in_default.is))
-    ]
+    let i = c.pull_front-run.result in
+    let n = c.count_behind-more.result in
+    let first = c.pull_front-run.ensures in
+    let then = c.spell_each.ensures in
+    let out = rw first.pair at then.out in
+    let rest = rw first.pair at then.pair in
+    record {
+      some = c.count_behind-more.ensures.some c.requires.some;
+      within = c.count_behind-more.ensures.within;
+      out =
+          out
+          ∙ ap (λ xs. xs ++ spells (map data_of (take n (drop i before.queue)))) first.out
+          ∙ spelled_both c.args.out.now.items before.queue i n;
+      pair = rest ∙ ap (λ q. shown_still before q) (drop-drop n i before.queue);
+      len = omega (arith, first.len, then.len);
+      capacity = omega (arith, first.capacity, then.capacity);
+    }

@@ -6,4 +6,4 @@ pub returns-clause-types : goal.returns-clause-types
 returns-clause-types c =
     let typed = c.edit-count in
     let within : typed.result < length c.args.keys.now = omega (arith, typed.ensures.within, c.if-count-keys.false) in
-    types_next c.args.self.now typed.new.self c.key.new.self c.args.keys.now typed.result within typed.ensures.types c.in_ok-key.ensures
+    types_next c.args.self.now typed.new.self c.key.new.self c.args.keys.now typed.result within typed.ensures.types c.key.ensures.types

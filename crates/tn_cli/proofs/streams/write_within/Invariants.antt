@@ -1,7 +1,7 @@
 use Rattle.std.proofs.Common.{◌≤◌, length, take}
 use Rattle.std.specs.Io.KnownBytes.{Appends}
 use Rattle.tn_streams.specs.Telling.{HasMade}
-use Rattle.tn_cli.proofs.streams.write_whole.Given as goal
+use Rattle.tn_cli.proofs.streams.write_within.Given as goal
 
 abbrev pub invariant-loop-write : goal.invariant-loop-write
 invariant-loop-write g l =
@@ -9,5 +9,5 @@ invariant-loop-write g l =
     record {
       within : l.written ≤ length l.output;
       appended : Appends (contents l.fn.writer) (contents l.writer) (take l.written l.output);
-      made : HasMade l._write (g.W.Drain.told l.fn.writer) (g.W.Drain.told l.writer);
+      made : HasMade l.write (g.W.Drain.told l.fn.writer) (g.W.Drain.told l.writer);
     }
