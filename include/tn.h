@@ -35,11 +35,11 @@
 extern "C" {
 #endif
 
-#define TN_VERSION "1.1.0"
+#define TN_VERSION "1.2.0"
 #define TN_VERSION_MAJOR 1
-#define TN_VERSION_MINOR 1
+#define TN_VERSION_MINOR 2
 #define TN_VERSION_PATCH 0
-#define TN_VERSION_NUMBER 10100 /* what tn_version() returns */
+#define TN_VERSION_NUMBER 10200 /* what tn_version() returns */
 
 /* The shared library that a program built with this header asks for. */
 #define TN_SONAME "libtn.so.2"

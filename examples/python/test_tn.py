@@ -58,7 +58,7 @@ def main():
         kinds = [(item.kind, item.code, parameters) for item, parameters in decoder.items(stream)]
         assert kinds == [(tn.BYTE, 97, b""), (tn.BYTE, 255, b""), (tn.NEWLINE, 0, b""), (tn.COMMAND, 241, b""), (tn.WORD, 251, b""),
                          (tn.SUBNEGOTIATION, 0, b"\x00\xffx")]
-    assert refusal(tn.command, 240) == tn.NO_COMMAND and tn.version() == 10100
+    assert refusal(tn.command, 240) == tn.NO_COMMAND and tn.version() == 10200
     print("tn.py: lines, a decoder and both ends")
 
 

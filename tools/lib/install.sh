@@ -22,7 +22,7 @@ exec "$folder/launch" "$folder/tn" "$@"
 SCRIPT
 }
 
-# A text that is defined in a header, as TN_VERSION "1.1.0".
+# A text that is defined in a header, as TN_VERSION "1.2.0".
 defined_in() {
     sed -n "s/^#define $2 \"\(.*\)\"\$/\1/p" "$1"
 }

@@ -26,7 +26,7 @@ mod unboxed;
 /// The version of the library: 10,000 times its first number, 100 times its second, and its third.
 #[unsafe(no_mangle)]
 pub extern "C" fn tn_version() -> u32
-    ensures { result ≡ 10100 }
+    ensures { result ≡ 10200 }
 {
-    10_100
+    10_200
 }

@@ -246,7 +246,7 @@ AsksForVersion words = IsAmong kind.DisplayVersion (fault_of tn words)
 
 -- what is printed for it
 abbrev pub version_line : Text
-version_line = codes "tn 1.1.0\n"
+version_line = codes "tn 1.2.0\n"
 
 -- something else is wrong with them
 abbrev pub AreWrong : List Text → Type 0

@@ -144,10 +144,10 @@ pub(crate) const CRLF: &str = "crlf";
 pub(crate) const LINE_CUT: &str = "line-cut";
 
 /// The version of `tn`, which the line that it prints has too.
-const VERSION: &str = "1.1.0";
+const VERSION: &str = "1.2.0";
 
 /// What `tn --version` prints.
-pub const VERSION_LINE: &str = "tn 1.1.0\n";
+pub const VERSION_LINE: &str = "tn 1.2.0\n";
 
 /// The whole command line.
 pub(crate) fn tn_command<'a>(alloc: Global) -> Result<Command<'a>, AllocError>
