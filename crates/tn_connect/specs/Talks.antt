@@ -56,7 +56,7 @@ pub record RunsTalk (plain : Plain) (bytes seen now : Option (List ℕ)) (report
   pub warned_at_last : Option ℕ
   pub ran : Talked (kind_of plain) (is_terminal plain.origin) (bytes_in report.typed)
       (bytes_in report.heard) unsent
-      (streams bytes service (Some []) seen warned)
+      (streams (keys_in plain.origin bytes) service (Some []) seen warned)
       (streams keys_left service_left (Some (logged report.told)) now warned_at_last)
   pub count : report.unsent ≡ length unsent
 

@@ -158,16 +158,18 @@ fn talk_from<H: Host, K: Read + Drop + Send + 'static, S: Write, Q: Queue>(
             talk(rt, alloc, incoming, outgoing, keys, screen, connecting)
         },
         Origin::Input => {
+            let seconds = connecting.wait;
+            let keys = console_of(rt, alloc, typing, &connecting);
             let keys = Patient {
                 rt,
-                keys: console_of(rt, alloc, typing, connecting),
-                seconds: connecting.wait,
+                keys,
+                seconds,
                 is_over,
             };
             talk(rt, alloc, incoming, outgoing, keys, screen, connecting)
         },
         Origin::Terminal(_) => {
-            let keys = console_of(rt, alloc, typing, connecting);
+            let keys = console_of(rt, alloc, typing, &connecting);
             talk(rt, alloc, incoming, outgoing, keys, screen, connecting)
         },
     }
@@ -178,17 +180,17 @@ fn console_of<H: Host, K: Read + Drop>(
     rt: H,
     alloc: Global,
     typing: Typing<H, K>,
-    connecting: Connecting,
+    connecting: &Connecting,
 ) -> Console<H, K>
-    ensures keyboard { result.escaping.keyboard ≡ keyboard_of connecting }
+    ensures keyboard { result.escaping.keyboard ≡ keyboard_of connecting.now }
     ensures keys { result.typing.keys ≡ typing.keys }
 {
     Console::new(rt, alloc, typing, keyboard_of(connecting))
 }
 
 // Only at a terminal a byte stands for anything but itself.
-fn keyboard_of(connecting: Connecting) -> Keyboard
-    ensures { result ≡ keyboard_of connecting }
+fn keyboard_of(connecting: &Connecting) -> Keyboard
+    ensures { result ≡ keyboard_of connecting.now }
 {
     match connecting.origin {
         Origin::Terminal(own) => Keyboard {

@@ -2,7 +2,7 @@
 
 ghost use Rattle.std.specs.Prelude.{◌≡◌, [], IfOk, Ok};
 ghost use Rattle.tn_connect.specs.Clients.{ConnectsBy};
-ghost use Rattle.tn_connect.specs.Talks.{RunsTalk, is_terminal, keys_in, kind_of, own_by, talked_over};
+ghost use Rattle.tn_connect.specs.Talks.{RunsTalk, is_terminal, kind_of, own_by, talked_over};
 ghost use Rattle.tn_lines.specs.Kinds.{LeadsTo};
 ghost use Rattle.tn_network.specs.Asked.{Reaches};
 
@@ -54,13 +54,13 @@ fn lines_of(alloc: Global, plain: Plain) -> Result<AnyLines, AllocError>
 }
 
 /// Talks by these streams, until the service has closed, the connection is broken, or the user has left.
-fn talk<H: Wait, A: Await, K: Source + Drop, N: Source + Drop, W: Finish + Drop, S: Drain>(
+fn talk<H: Wait, A: Await, K: Read + Drop, N: Source + Drop, W: Finish + Drop, S: Drain>(
     rt: &H,
     alloc: Global,
     plain: Plain,
     connection: Snapshot<TcpStream>,
     ready: &mut A,
-    mut keys: K,
+    keys: K,
     mut service: N,
     writer: W,
     screen: &mut S,
@@ -71,6 +71,7 @@ fn talk<H: Wait, A: Await, K: Source + Drop, N: Source + Drop, W: Finish + Drop,
 {
     let at_terminal = is_terminal(plain.origin);
     let mut talk = Talk::new(alloc, lines_of(alloc, plain)?, at_terminal);
+    let mut keys = MappedKeys::new(keys, own_of(plain.origin));
     let mut writer = Logged::new(writer);
     let over = talk.run(rt, ready, &mut keys, &mut service, &mut writer, screen)?;
     let (_, told) = writer.into_parts();
@@ -115,8 +116,8 @@ pub fn connect_plain<H: Host + Network, K: Read + Drop, S: Write, E: Drain>(
     screen: &mut S,
     notes: Notes<'_, E>,
 ) -> Result<TalkReport, ConnectFault>
-    ensures talked { IfOk result (RunsTalk plain (keys_in plain.origin (K.remaining keys))
-        (S.contents screen.old) (S.contents screen.new)) }
+    ensures talked { IfOk result (RunsTalk plain (K.remaining keys) (S.contents screen.old)
+        (S.contents screen.new)) }
     ensures reached { ConnectsBy talked_over (Reaches (H.finds rt host.now plain.port) (H.dials rt)) result }
 {
     let Notes {
@@ -147,15 +148,13 @@ fn talk_over<H: Host, K: Read + Drop, S: Write, E: Drain>(
     errors: &mut E,
 ) -> Result<Result<TalkReport, TalkFault>, ConnectFault>
     ensures talked { IfOk result (λ talked. IfOk talked
-        (RunsTalk plain (keys_in plain.origin (K.remaining keys)) (S.contents screen.old)
-        (S.contents screen.new))) }
+        (RunsTalk plain (K.remaining keys) (S.contents screen.old) (S.contents screen.new))) }
     ensures connection { IfOk result (λ talked. IfOk talked (λ report. talked_over report ≡ stream)) }
 {
     let over = Snapshot::of(&stream);
     let (service, connection) = Connection::split(stream)?;
     service.set_nonblocking(true)?;
     let mut ready = Polling::new(rt, &plain, service.as_raw_fd(), errors);
-    let keys = MappedKeys::new(keys, own_of(plain.origin));
     let talked = talk(
         &rt, alloc, plain, over, &mut ready, keys, service, connection, screen,
     );

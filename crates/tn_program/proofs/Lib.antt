@@ -1,3 +1,4 @@
 pub mod Coming
 pub mod Asked
 pub mod Causes
+pub mod Origins
