@@ -47,7 +47,7 @@ keys_in Input bytes = bytes
 
 -- A talk was held with these keys and this screen, before and after it: all that was typed, said and told
 -- stands in the logs, and so many bytes more were to be told.
-pub record RunsTalk (plain : Plain) (bytes seen now : Option (List ℕ)) (report : TalkReport) : Type 0 where
+pub record HoldsTalk (plain : Plain) (keys seen now : Option (List ℕ)) (report : TalkReport) : Type 0 where
   pub unsent : List ℕ
   pub keys_left : Option (List ℕ)
   pub service : Option (List ℕ)
@@ -56,9 +56,13 @@ pub record RunsTalk (plain : Plain) (bytes seen now : Option (List ℕ)) (report
   pub warned_at_last : Option ℕ
   pub ran : Talked (kind_of plain) (is_terminal plain.origin) (bytes_in report.typed)
       (bytes_in report.heard) unsent
-      (streams (keys_in plain.origin bytes) service (Some []) seen warned)
+      (streams keys service (Some []) seen warned)
       (streams keys_left service_left (Some (logged report.told)) now warned_at_last)
   pub count : report.unsent ≡ length unsent
+
+-- the same, with the keys that the bytes of a reader are
+abbrev pub RunsTalk : Plain → Option (List ℕ) → Option (List ℕ) → Option (List ℕ) → TalkReport → Type 0
+RunsTalk plain bytes seen now report = HoldsTalk plain (keys_in plain.origin bytes) seen now report
 
 -- the connection that a talk was held over
 abbrev pub talked_over : TalkReport → TcpStream

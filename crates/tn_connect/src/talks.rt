@@ -2,7 +2,7 @@
 
 ghost use Rattle.std.specs.Prelude.{◌≡◌, [], IfOk, Ok};
 ghost use Rattle.tn_connect.specs.Clients.{ConnectsBy};
-ghost use Rattle.tn_connect.specs.Talks.{RunsTalk, is_terminal, kind_of, own_by, talked_over};
+ghost use Rattle.tn_connect.specs.Talks.{HoldsTalk, RunsTalk, is_terminal, kind_of, own_by, talked_over};
 ghost use Rattle.tn_lines.specs.Kinds.{LeadsTo};
 ghost use Rattle.tn_network.specs.Asked.{Reaches};
 
@@ -54,24 +54,23 @@ fn lines_of(alloc: Global, plain: Plain) -> Result<AnyLines, AllocError>
 }
 
 /// Talks by these streams, until the service has closed, the connection is broken, or the user has left.
-fn talk<H: Wait, A: Await, K: Read + Drop, N: Source + Drop, W: Finish + Drop, S: Drain>(
+fn talk<H: Wait, A: Await, K: Source + Drop, N: Source + Drop, W: Finish + Drop, S: Drain>(
     rt: &H,
     alloc: Global,
     plain: Plain,
     connection: Snapshot<TcpStream>,
     ready: &mut A,
-    keys: K,
+    mut keys: K,
     mut service: N,
     writer: W,
     screen: &mut S,
 ) -> Result<TalkReport, TalkFault>
-    ensures talked { IfOk result (RunsTalk plain (K.remaining keys) (S.contents screen.old)
+    ensures talked { IfOk result (HoldsTalk plain (K.remaining keys) (S.contents screen.old)
         (S.contents screen.new)) }
     ensures connection { IfOk result (λ report. report.connection ≡ connection) }
 {
     let at_terminal = is_terminal(plain.origin);
     let mut talk = Talk::new(alloc, lines_of(alloc, plain)?, at_terminal);
-    let mut keys = MappedKeys::new(keys, own_of(plain.origin));
     let mut writer = Logged::new(writer);
     let over = talk.run(rt, ready, &mut keys, &mut service, &mut writer, screen)?;
     let (_, told) = writer.into_parts();
@@ -155,6 +154,8 @@ fn talk_over<H: Host, K: Read + Drop, S: Write, E: Drain>(
     let (service, connection) = Connection::split(stream)?;
     service.set_nonblocking(true)?;
     let mut ready = Polling::new(rt, &plain, service.as_raw_fd(), errors);
+    let own = own_of(plain.origin);
+    let keys = MappedKeys::new(keys, own);
     let talked = talk(
         &rt, alloc, plain, over, &mut ready, keys, service, connection, screen,
     );
