@@ -134,19 +134,9 @@ fn run_strings<
     ensures quiet { UnlessTelling result (errors.new ≡ errors.old) }
     ensures uncaused { UnlessConnected result (causes.new.items ≡ causes.old.items) }
 {
-    let texts = match texts_of(alloc, words) {
-        Ok(texts) => texts,
-        Err(_) => return Outcome::Memory,
-    };
-    match read_words(alloc, &texts) {
-        Ok(asked) => return run_asked(rt, alloc, asked, seat, writer, errors, causes),
-        Err(WordsFault::Help(text)) => {
-            let written = writer.write_all(text.as_bytes());
-            return Outcome::Help(written.map_err(|_| CliFault::Write));
-        },
-        Err(WordsFault::Version) => return Outcome::Version(write_version(writer)),
-        Err(WordsFault::Memory) => return Outcome::Memory,
-        Err(WordsFault::Usage(detail)) => return Outcome::Usage(Some(detail)),
+    match texts_of(alloc, words) {
+        Ok(texts) => run_texts(rt, alloc, &texts, seat, writer, errors, causes),
+        Err(_) => Outcome::Memory,
     }
 }
 
@@ -158,6 +148,39 @@ fn texts_of<'a>(alloc: Global, words: &'a [String]) -> Result<Vec<&'a str>, Allo
         texts.push(word.as_str())?;
     }
     Ok(texts)
+}
+
+fn run_texts<
+    H: Network + Host + Lookout + Files<File = File>,
+    R: Read + Drop + Send + 'static,
+    W: Write,
+    E: Drain,
+>(
+    rt: H,
+    alloc: Global,
+    words: &[&str],
+    seat: Seat<R>,
+    writer: &mut W,
+    errors: &mut E,
+    causes: &mut Vec<u8>,
+) -> Outcome
+    ensures comes { ComesOf
+        (machine_of (H.listens rt) (H.shares rt) (H.accepts rt) (H.finds rt) (H.dials rt) (H.sees rt))
+        (map (λ word. word.now) words.now) seat.origin (R.remaining seat.reader)
+        (W.contents writer.old) (W.contents writer.new) result }
+    ensures quiet { UnlessTelling result (errors.new ≡ errors.old) }
+    ensures uncaused { UnlessConnected result (causes.new.items ≡ causes.old.items) }
+{
+    match read_words(alloc, words) {
+        Ok(asked) => return run_asked(rt, alloc, asked, seat, writer, errors, causes),
+        Err(WordsFault::Help(text)) => {
+            let written = writer.write_all(text.as_bytes());
+            return Outcome::Help(written.map_err(|_| CliFault::Write));
+        },
+        Err(WordsFault::Version) => return Outcome::Version(write_version(writer)),
+        Err(WordsFault::Memory) => return Outcome::Memory,
+        Err(WordsFault::Usage(detail)) => return Outcome::Usage(Some(detail)),
+    }
 }
 
 fn write_version<W: Write>(writer: &mut W) -> Result<(), CliFault>
@@ -199,10 +222,35 @@ fn run_asked<
             let served = serve_asked(rt, alloc, &asked, &mut Lines(errors), causes);
             Outcome::Served(served)
         },
-        Asked::Connect(asked) => match asked.plain {
-            Some(line_end) => run_plain(rt, alloc, &asked, line_end, seat, writer, errors, causes),
-            None => run_connect(rt, alloc, asked, seat, writer, errors, causes),
-        },
+        Asked::Connect(asked) => run_connecting(rt, alloc, asked, seat, writer, errors, causes),
+    }
+}
+
+// A client's session, or a talk with a service that takes lines.
+fn run_connecting<
+    H: Network + Host + Lookout + Files<File = File>,
+    R: Read + Drop + Send + 'static,
+    W: Write,
+    E: Drain,
+>(
+    rt: H,
+    alloc: Global,
+    asked: Connecting,
+    seat: Seat<R>,
+    writer: &mut W,
+    errors: &mut E,
+    causes: &mut Vec<u8>,
+) -> Outcome
+    ensures comes { ComesOfRun
+        (machine_of (H.listens rt) (H.shares rt) (H.accepts rt) (H.finds rt) (H.dials rt) (H.sees rt))
+        (Asked.Connect asked) seat.origin (R.remaining seat.reader)
+        (W.contents writer.old) (W.contents writer.new) result }
+    ensures connects { IsConnecting result }
+    ensures quiet { UnlessTelling result (errors.new ≡ errors.old) }
+{
+    match asked.plain {
+        Some(line_end) => run_plain(rt, alloc, &asked, line_end, seat, writer, errors, causes),
+        None => run_connect(rt, alloc, asked, seat, writer, errors, causes),
     }
 }
 
