@@ -8,7 +8,7 @@ bool service_mute;	/* the service does nothing more, and stays */
 bool service_closed;
 bool way_open = true, way_ended;
 
-/* Sending::answer: the line goes to the service; Told::write gives up once the session is over, in time. With EOFS an entry
+/* SendingLines::answer: the line goes to the service; ServiceWriter::write gives up once the session is over, in time. With EOFS an entry
    may be the end of file, with INTERRUPTS an interrupt. */
 #define ANSWERS(e, text, last, after, refused) \
 	if \

@@ -21,7 +21,7 @@ use std::process::ExitCode;
 use std::sync::Arc;
 use std::{env, io, str};
 use tn_program::{
-    Link, OWN_LENGTH, Origin, OwnCharacters, Screen, Seat, own_characters, run_words,
+    Link, OWN_LENGTH, Origin, OwnCharacters, Screen, Streams, own_characters, run_words,
 };
 
 mod outlet;
@@ -125,7 +125,7 @@ fn main(rt: HostRuntime) -> ExitCode {
         return ExitCode::from(NO_MEMORY);
     };
     let origin = origin_of(&rt);
-    let seat = Seat {
+    let streams = Streams {
         origin,
         reader: rt.stdin(),
         sizes: sizes_of(&rt),
@@ -140,6 +140,6 @@ fn main(rt: HostRuntime) -> ExitCode {
         },
         is_session: is_session(&words),
     };
-    let status = run_words(rt, alloc, words, seat, &mut screen, &mut rt.stderr());
+    let status = run_words(rt, alloc, words, streams, &mut screen, &mut rt.stderr());
     ExitCode::from(status)
 }

@@ -15,7 +15,7 @@ pub use local::run_local;
 pub use replay::run_replay;
 pub use tn_roster::note;
 pub use tn_words::{
-    Address, Asked, Characters, Connecting, Escape, Serving, WordsFault, read_words,
+    Address, Asked, Characters, ConnectWords, Escape, ServeWords, WordsFault, read_words,
 };
 pub use unprinted::{Dropped, Left, Unprinted};
 pub use world::run_world;

@@ -22,10 +22,10 @@ use Rattle.tn_nvt.specs.declared.items.Item.{Item}
 use Rattle.tn_nvt.specs.declared.items.Item.TheVariants.{Byte, Newline, Cmd, Neg, Sub}
 use Rattle.tn_nvt.proofs.lemmas.Sizes.{doubled_within, total, total-append, weighs_at_most}
 use Rattle.tn_option.specs.Options.{Options, options_after_word, reply_to}
-use Rattle.tn_wire.specs.Prefixes.{IsRead}
-use Rattle.tn_wire.specs.Words.{word_items, payload_items, mode_items, payload_under}
-use Rattle.tn_wire.proofs.lemmas.Sizes.{size, size-append, size-one, size-word, size-mode, size-list, size-triple, answers-size, says_under, size-came}
-use Rattle.tn_wire.proofs.lemmas.Sizes.{size-least, size-params}
+use Rattle.tn_linemode.specs.Prefixes.{IsRead}
+use Rattle.tn_linemode.specs.Words.{word_items, payload_items, mode_items, payload_under}
+use Rattle.tn_linemode.proofs.lemmas.Sizes.{size, size-append, size-one, size-word, size-mode, size-list, size-triple, answers-size, says_under, size-came}
+use Rattle.tn_linemode.proofs.lemmas.Sizes.{size-least, size-params}
 use Rattle.tn_client.specs.Bounds.{held_sent, max_answered, max_of_calls, bytes_due}
 use Rattle.tn_client.specs.Events.{History, typed, got, resized, proposed, sent, begun, next, items}
 use Rattle.tn_client.specs.Lines.{role_at, held_bytes, count_under, line}

@@ -4,7 +4,7 @@ use Rattle.tn_nvt.specs.Feeding.{DecoderState, IsLetGo}
 use Rattle.tn_nvt.specs.Feeding as nvt
 use Rattle.tn_nvt.specs.declared.items.Item.{Item}
 use Rattle.tn_nvt.proofs.lemmas.Dropping.{gives_nothing, keeps_nothing}
-use Rattle.tn_wire.specs.Prefixes.{WantsMemory}
+use Rattle.tn_linemode.specs.Prefixes.{WantsMemory}
 use Rattle.tn_client.specs.Calls.{End, StopsWithin, IsStopCause}
 use Rattle.tn_client.specs.Course.{Course, stream, CourseLeadsTo}
 use Rattle.tn_client.specs.Events.{History, items, gets}

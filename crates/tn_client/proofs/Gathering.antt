@@ -13,7 +13,7 @@ use Rattle.tn_client.specs.Screen.{text_shown, item_shown}
 use Rattle.tn_client.specs.Calls.{End, LeadsTo, ReadsNothing, AdvancesAll}
 use Rattle.tn_client.specs.Steps.{line_left, count_left, count_told, end_after_item, says_got}
 use Rattle.tn_client.proofs.lemmas.Histories.{gets-append}
-use Rattle.tn_wire.proofs.lemmas.Cutting.{added_on, spelled_on}
+use Rattle.tn_linemode.proofs.lemmas.Cutting.{added_on, spelled_on}
 use Rattle.tn_client.proofs.Standings.{stands_got, replies_got}
 
 pub keeps_same : (old : End) → ReadsNothing old old

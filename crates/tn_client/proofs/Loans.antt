@@ -16,10 +16,10 @@ use Rattle.tn_client.specs.Replies.{items_said}
 use Rattle.tn_client.specs.Screen.{text_shown, item_shown}
 use Rattle.tn_client.specs.Calls.{End, LeadsTo, ReadsNothing, AdvancesAll, Feeds, IsStopCause, StopsWithin, ReadsList}
 use Rattle.tn_client.specs.Steps.{end_after_item, says_got, says_sub, MayWantMemoryNow}
-use Rattle.tn_wire.specs.Prefixes.{AppendsPrefix}
+use Rattle.tn_linemode.specs.Prefixes.{AppendsPrefix}
 use Rattle.tn_client.specs.Lending.{IsSameLoan, TakesItems, RefusesItems}
 use Rattle.tn_client.specs.declared.taking.Lent.{Lent}
-use Rattle.tn_wire.proofs.lemmas.Cutting.{spelled_on, cons_some}
+use Rattle.tn_linemode.proofs.lemmas.Cutting.{spelled_on, cons_some}
 use Rattle.tn_client.proofs.Gathering.{keeps_same, keeps_both, gets_none, gets_one, gets_both, gets_plain}
 use Rattle.tn_client.proofs.Standings.{refuses_got}
 

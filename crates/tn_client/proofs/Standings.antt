@@ -23,7 +23,7 @@ use Rattle.tn_client.specs.Screen.{shows, key_shown}
 use Rattle.tn_client.specs.Calls.{End, LeadsTo, ReadsNothing, Advances, Sends, LacksMemoryFor, Shows, SaysOrShows, ReadsList, MayWantMemory, RefusesItem}
 use Rattle.tn_client.specs.Steps.{role_now, is_sent_now, line_sent, line_typed, count_typed, end_after_key, says_key, shows_key, LacksMemoryNow, line_left}
 use Rattle.tn_client.specs.Steps.{count_left, count_told, end_after_item, says_got, MayWantMemoryNow}
-use Rattle.tn_wire.specs.Prefixes.{AppendsPrefix}
+use Rattle.tn_linemode.specs.Prefixes.{AppendsPrefix}
 use Rattle.tn_client.proofs.lemmas.Histories.{unedited, unedited-ahead, edited-typed, edited-stays, edited-begins, under-typed, under-ends, under-stays}
 use Rattle.tn_client.proofs.lemmas.Histories.{count-none, count-is, ahead-typed, ahead-stays, ahead-begins}
 use Rattle.tn_client.proofs.lemmas.Ends.{line_is}

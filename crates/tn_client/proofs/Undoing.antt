@@ -12,7 +12,7 @@ use Rattle.tn_client.specs.Calls.{End}
 use Rattle.tn_client.specs.Lines.{is_forward}
 use Rattle.tn_client.specs.Replies.{byte_items, sent_ahead_items, key_items}
 use Rattle.tn_client.specs.Steps.{sends_where}
-use Rattle.tn_wire.proofs.lemmas.Cutting.{cons_some}
+use Rattle.tn_linemode.proofs.lemmas.Cutting.{cons_some}
 
 -- a key that sends something ahead is an ordinary byte that was kept
 undone_by_test : (f : Option Mask) (l : HalfLine) (byte : ℕ) (full : Bool)

@@ -13,8 +13,8 @@ use Rattle.tn_nvt.specs.Feeding.{DecoderState}
 use Rattle.tn_nvt.specs.Feeding as nvt
 use Rattle.tn_nvt.specs.declared.items.Item.{Item}
 use Rattle.tn_option.specs.Options.{Options}
-use Rattle.tn_wire.specs.Prefixes.{WantsMemory}
-use Rattle.tn_wire.specs.Words.{IsList}
+use Rattle.tn_linemode.specs.Prefixes.{WantsMemory}
+use Rattle.tn_linemode.specs.Words.{IsList}
 use Rattle.tn_client.specs.Events.{History, Event, typed, got, next, gets}
 use Rattle.tn_client.specs.Terms.{options, mode, forward, chars, size, linemode, payload_at}
 use Rattle.tn_client.specs.Lines.{role_at, line_limit, edited_roles, ahead, count_under, line}

@@ -2,7 +2,7 @@
 use Rattle.std.specs.Prelude.{◌≡◌, ℕ, List, [], ◌++◌}
 use Rattle.tn_nvt.specs.Feeding as nvt
 use Rattle.tn_nvt.specs.declared.items.Item.{Item}
-use Rattle.tn_wire.specs.Prefixes.{IsRead}
+use Rattle.tn_linemode.specs.Prefixes.{IsRead}
 use Rattle.tn_client.specs.Events.{Event, typed, got, resized, proposed, sent, History, begun, next, items}
 use Rattle.tn_client.specs.Events.{gets}
 use Rattle.tn_client.specs.Calls.{End, LeadsTo}

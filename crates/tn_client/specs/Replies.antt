@@ -20,7 +20,7 @@ use Rattle.tn_linemode.specs.Triples.{triple_of}
 use Rattle.tn_nvt.specs.declared.items.Item.{Item}
 use Rattle.tn_nvt.specs.declared.items.Item.TheVariants.{Byte, Newline, Cmd, Neg, Sub}
 use Rattle.tn_option.specs.Options.{Options, reply_to}
-use Rattle.tn_wire.specs.Words.{word_items, payload_items, mode_items, list_items}
+use Rattle.tn_linemode.specs.Words.{word_items, payload_items, mode_items, list_items}
 use Rattle.tn_client.specs.Events.{Event, typed, got, resized, proposed, sent, History, begun, next}
 use Rattle.tn_client.specs.Terms.{options, mode, forward, chars, size, payload_at, options_after, mode_at}
 use Rattle.tn_client.specs.Terms.{tells_size}

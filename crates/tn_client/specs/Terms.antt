@@ -13,7 +13,7 @@ use Rattle.tn_nvt.specs.declared.items.Item.TheVariants.{Neg, Sub}
 use Rattle.tn_option.specs.Options.{Options, new_options, options_after_word, state_of, is_yes}
 use Rattle.tn_option.specs.declared.negotiation.Agree.{Agree}
 use Rattle.tn_option.specs.declared.q_method.Side.TheVariants.{Us, Them}
-use Rattle.tn_wire.specs.Words.{payload_under, differ}
+use Rattle.tn_linemode.specs.Words.{payload_under, differ}
 use Rattle.tn_client.specs.Events.{got, resized, History, begun, next}
 
 -- the client's own SUPPRESS-GO-AHEAD, NAWS and LINEMODE are agreed to, and the server's ECHO and

@@ -24,10 +24,9 @@ use std::marker::Model;
 use std::mem;
 use tn_codes::{Func, Mask, Payload};
 use tn_discipline::{Chars, Limit, Line};
-use tn_linemode::{ClientMode, ClientTable};
+use tn_linemode::{ClientMode, ClientTable, put_payload, put_triple};
 use tn_nvt::{Decoder, put_cmd};
 use tn_option::{Agree, Engine, LINEMODE, NAWS, QState, Side};
-use tn_wire::{put_payload, put_triple};
 
 /// The client end of one connection. Its owner types keys and feeds it what comes from the network,
 /// sends what is appended to `out`, and shows what is appended to `screen`.

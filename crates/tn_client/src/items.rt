@@ -12,8 +12,8 @@ ghost use Rattle.tn_client.specs.Screen.{item_shown};
 ghost use Rattle.tn_client.specs.Calls.{ReadsList};
 ghost use Rattle.tn_client.specs.Steps.{MayWantMemoryNow, with_mode, end_handed_over, end_taken_over};
 ghost use Rattle.tn_client.specs.Steps.{says_mode, end_after_item, says_got, end_after_payload, says_sub};
-ghost use Rattle.tn_wire.specs.Prefixes.{AppendsPrefix};
-ghost use Rattle.tn_wire.specs.Words.{payload_items};
+ghost use Rattle.tn_linemode.specs.Prefixes.{AppendsPrefix};
+ghost use Rattle.tn_linemode.specs.Words.{payload_items};
 ghost use Rattle.tn_codes.specs.Payloads.{IsShort, max_triples};
 
 use crate::end::ClientEnd;
@@ -21,10 +21,9 @@ use crate::screen::{show_byte, show_new_line};
 use crate::sending::put_bytes;
 use std::alloc::AllocError;
 use tn_codes::{Mask, Payload, Triples, Verb};
-use tn_linemode::ClientMode;
+use tn_linemode::{ClientMode, put_list, put_mode, put_payload, put_word, read_under};
 use tn_nvt::{Item, Params};
 use tn_option::{Engine, LINEMODE, NAWS, Side};
-use tn_wire::{put_list, put_mode, put_payload, put_word, read_under};
 
 impl ClientEnd {
     /// What an item does, from what the end knows now. After a refusal the end is not used again.

@@ -11,7 +11,7 @@ ghost use Rattle.tn_codes.specs.declared.codes.Verb.{Verb};
 ghost use Rattle.tn_nvt.specs.declared.items.Item.{Item};
 ghost use Rattle.tn_client.specs.Events.{Event, got, sent, History, begun, next, items, keys, gets};
 ghost use Rattle.tn_client.specs.Bounds.{held_sent, max_answered, max_of_calls, bytes_due};
-ghost use Rattle.tn_wire.specs.Prefixes.{IsRead};
+ghost use Rattle.tn_linemode.specs.Prefixes.{IsRead};
 ghost use Rattle.tn_client.specs.Terms.{options, mode, forward, linemode};
 ghost use Rattle.tn_client.specs.Lines.{line_limit, ahead, held_bytes, half_line, count_under, line};
 ghost use Rattle.tn_client.specs.Replies.{replies, items_said};

@@ -1,8 +1,8 @@
 -- What the bytes of a reader are as keys.
 use Rattle.std.proofs.Common.{◌≡◌, ℕ, Bool, true, false, if◌then◌else◌, Option, Some, None, List, [], ◌∷◌, map, option_map, refl, ap}
 use Rattle.tn_connect.specs.Talks.{keys_in, own_by}
-use Rattle.tn_connect.specs.declared.settings.Origin.{Origin}
-use Rattle.tn_connect.specs.declared.settings.Origin.TheVariants.{Reader, Input, Terminal}
+use Rattle.tn_connect.specs.declared.settings.KeySource.{KeySource}
+use Rattle.tn_connect.specs.declared.settings.KeySource.TheVariants.{Reader, Input, Terminal}
 use Rattle.tn_discipline.specs.Characters.{is_reserved}
 use Rattle.tn_sockets.specs.Mapping.{mapped, none_own}
 
@@ -18,7 +18,7 @@ none_changes : (bytes : Option (List ℕ)) → option_map (map (mapped none_own)
 none_changes None = refl
 none_changes (Some bytes) = ap Some (all_stay bytes)
 
-pub keys_by : (origin : Origin) (bytes : Option (List ℕ)) → option_map (map (mapped (own_by origin))) bytes ≡ keys_in origin bytes
+pub keys_by : (origin : KeySource) (bytes : Option (List ℕ)) → option_map (map (mapped (own_by origin))) bytes ≡ keys_in origin bytes
 keys_by Reader bytes = none_changes bytes
 keys_by Input bytes = none_changes bytes
 keys_by (Terminal own) bytes = refl

@@ -7,8 +7,8 @@ use Rattle.tn_connect.specs.declared.connected.Connected.{Connected}
 use Rattle.tn_connect.specs.declared.fault.ConnectFault.{ConnectFault}
 use Rattle.tn_connect.specs.declared.fault.ConnectFault.TheVariants.{Network, Session, Memory}
 use Rattle.tn_connect.specs.declared.settings.Connecting.{Connecting}
-use Rattle.tn_connect.specs.declared.settings.Origin.{Origin}
-use Rattle.tn_connect.specs.declared.settings.Origin.TheVariants.{Reader, Input, Terminal}
+use Rattle.tn_connect.specs.declared.settings.KeySource.{KeySource}
+use Rattle.tn_connect.specs.declared.settings.KeySource.TheVariants.{Reader, Input, Terminal}
 use Rattle.tn_sockets.specs.Typing.{of_bytes}
 use Rattle.tn_sockets.specs.declared.escaping.Keyboard.{Keyboard}
 use Rattle.tn_session.specs.Client.{RunningClient}
@@ -25,7 +25,7 @@ window_of connecting =
 -- What is known beforehand of the keys of a reader with these bytes: the bytes, and that no size of a window
 -- is told and nothing asked for; or nothing where they are waited for, but that only at a terminal anything
 -- is asked for.
-abbrev pub foreseen : Origin → Option (List ℕ) → KnownTyping
+abbrev pub foreseen : KeySource → Option (List ℕ) → KnownTyping
 foreseen Reader bytes =
     record { reader = record { bytes = bytes; failures = None; sizes = Some [] }; controls = Some [] }
 foreseen Input bytes =
@@ -34,7 +34,7 @@ foreseen (Terminal own) bytes =
     record { reader = record { bytes = None; failures = None; sizes = None }; controls = None }
 
 -- what the bytes of keys stand for: only at a terminal for anything but themselves
-abbrev pub keyboard_by : Origin → Option ℕ → Keyboard
+abbrev pub keyboard_by : KeySource → Option ℕ → Keyboard
 keyboard_by Reader escape = of_bytes
 keyboard_by Input escape = of_bytes
 keyboard_by (Terminal own) escape = record { escape = escape; own = own }

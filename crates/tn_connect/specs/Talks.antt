@@ -1,8 +1,8 @@
 -- Which talk a client has with a service that takes lines.
 use Rattle.std.specs.Prelude.{◌≡◌, ℕ, Bool, true, false, Option, Some, List, [], length, map, option_map}
 use Rattle.std.specs.declared.net.tcp.TcpStream.{TcpStream}
-use Rattle.tn_connect.specs.declared.settings.Origin.{Origin}
-use Rattle.tn_connect.specs.declared.settings.Origin.TheVariants.{Reader, Input, Terminal}
+use Rattle.tn_connect.specs.declared.settings.KeySource.{KeySource}
+use Rattle.tn_connect.specs.declared.settings.KeySource.TheVariants.{Reader, Input, Terminal}
 use Rattle.tn_connect.specs.declared.settings.Plain.{Plain}
 use Rattle.tn_connect.specs.declared.talks.TalkReport.{TalkReport}
 use Rattle.tn_discipline.specs.Characters.{standard_characters}
@@ -18,7 +18,7 @@ use Rattle.tn_sockets.specs.Logs.{logged}
 abbrev pub standard_settings : Settings
 standard_settings = record { flags = standard_flags; chars = standard_characters }
 
-abbrev pub kind_by : Origin → Plain → Kind
+abbrev pub kind_by : KeySource → Plain → Kind
 kind_by (Terminal own) plain = typed (record { settings = standard_settings; limit = plain.line_limit })
     plain.line_end
 kind_by Reader plain = read plain.line_end
@@ -28,19 +28,19 @@ kind_by Input plain = read plain.line_end
 abbrev pub kind_of : Plain → Kind
 kind_of plain = kind_by plain.origin plain
 
-abbrev pub is_terminal : Origin → Bool
+abbrev pub is_terminal : KeySource → Bool
 is_terminal (Terminal own) = true
 is_terminal Reader = false
 is_terminal Input = false
 
-abbrev pub own_by : Origin → OwnCharacters
+abbrev pub own_by : KeySource → OwnCharacters
 own_by (Terminal own) = own
 own_by Reader = none_own
 own_by Input = none_own
 
 -- the keys that the bytes of a reader are: at a terminal its own special characters stand for the standard
 -- ones
-abbrev pub keys_in : Origin → Option (List ℕ) → Option (List ℕ)
+abbrev pub keys_in : KeySource → Option (List ℕ) → Option (List ℕ)
 keys_in (Terminal own) bytes = option_map (map (mapped own)) bytes
 keys_in Reader bytes = bytes
 keys_in Input bytes = bytes

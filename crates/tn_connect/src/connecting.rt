@@ -21,7 +21,7 @@ use crate::fault::ConnectFault;
 use crate::news::tell_that_it_stands;
 use crate::publishing::Publisher;
 use crate::sending::{Delivered, Sender};
-use crate::settings::{Connecting, Notes, Origin};
+use crate::settings::{ClientContext, Connecting, KeySource};
 use crate::waiting::{Brought, Patient};
 use std::alloc::Global;
 use std::fs::File;
@@ -153,11 +153,11 @@ fn talk_from<H: Host, K: Read + Drop + Send + 'static, S: Write, Q: Queue>(
 {
     let origin = connecting.origin;
     match origin {
-        Origin::Reader => {
+        KeySource::Reader => {
             let keys = Keys::new(typing);
             talk(rt, alloc, incoming, outgoing, keys, screen, connecting)
         },
-        Origin::Input => {
+        KeySource::Input => {
             let seconds = connecting.wait;
             let keys = console_of(rt, alloc, typing, &connecting);
             let keys = Patient {
@@ -168,7 +168,7 @@ fn talk_from<H: Host, K: Read + Drop + Send + 'static, S: Write, Q: Queue>(
             };
             talk(rt, alloc, incoming, outgoing, keys, screen, connecting)
         },
-        Origin::Terminal(_) => {
+        KeySource::Terminal(_) => {
             let keys = console_of(rt, alloc, typing, &connecting);
             talk(rt, alloc, incoming, outgoing, keys, screen, connecting)
         },
@@ -193,11 +193,11 @@ fn keyboard_of(connecting: &Connecting) -> Keyboard
     ensures { result ≡ keyboard_of connecting.now }
 {
     match connecting.origin {
-        Origin::Terminal(own) => Keyboard {
+        KeySource::Terminal(own) => Keyboard {
             escape: connecting.escape,
             own,
         },
-        Origin::Reader | Origin::Input => Keyboard::of_bytes(),
+        KeySource::Reader | KeySource::Input => Keyboard::of_bytes(),
     }
 }
 
@@ -263,7 +263,7 @@ pub fn connect<H: Host + Network, K: Read + Drop + Send + 'static, S: Write, E: 
     connecting: Connecting,
     keys: K,
     screen: &mut S,
-    notes: Notes<'_, E>,
+    notes: ClientContext<'_, E>,
 ) -> Result<Connected, ConnectFault>
     ensures ran { IfOk result (RunsClient (window_of connecting)
         (foreseen connecting.origin (K.remaining keys))
@@ -275,7 +275,7 @@ pub fn connect<H: Host + Network, K: Read + Drop + Send + 'static, S: Write, E: 
     ensures reached { ConnectsBy connection_of
         (Reaches (H.finds rt host.now connecting.port) (H.dials rt)) result }
 {
-    let Notes {
+    let ClientContext {
         trace,
         sizes,
         stands,
@@ -288,7 +288,7 @@ pub fn connect<H: Host + Network, K: Read + Drop + Send + 'static, S: Write, E: 
         news.trace();
     }
     let stream = reach(&rt, host, connecting.port, &mut news, causes)?;
-    let notes = Notes {
+    let notes = ClientContext {
         trace,
         sizes,
         stands,
@@ -309,7 +309,7 @@ fn connect_over<H: Host, K: Read + Drop + Send + 'static, S: Write, E: Drain>(
     connecting: Connecting,
     keys: K,
     screen: &mut S,
-    notes: Notes<'_, E>,
+    notes: ClientContext<'_, E>,
 ) -> Result<Connected, ConnectFault>
     ensures ran { IfOk result (RunsClient (window_of connecting)
         (foreseen connecting.origin (K.remaining keys))
@@ -321,7 +321,7 @@ fn connect_over<H: Host, K: Read + Drop + Send + 'static, S: Write, E: Drain>(
     ensures connection { IfOk result (λ connected. connection_of connected ≡ stream) }
 {
     let connection = Snapshot::of(&stream);
-    let Notes {
+    let ClientContext {
         trace,
         sizes,
         mut stands,

@@ -12,7 +12,7 @@ pub use connected::Connected;
 pub use connecting::connect;
 pub use fault::ConnectFault;
 pub use news::News;
-pub use settings::{Connecting, Notes, Origin, Plain};
+pub use settings::{ClientContext, Connecting, KeySource, Plain};
 pub use talks::{TalkReport, connect_plain};
 pub use tn_lines::LineEnd;
 pub use tn_lines_client::{Over, ReadLog};

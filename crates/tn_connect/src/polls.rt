@@ -1,7 +1,7 @@
 //! Waiting for keys, for what a service says, and for room.
 
 use crate::news::tell;
-use crate::settings::{Origin, Plain};
+use crate::settings::{KeySource, Plain};
 use libc::net::{POLLIN, POLLOUT, poll};
 use libc::types::pollfd;
 use std::sync::Wait;
@@ -27,7 +27,7 @@ const TELNET: &[u8] = b"tn: the other end speaks Telnet: leave out --plain\n";
 #[derive(Drop)]
 pub(crate) struct Polling<'a, H, E> {
     rt: H,
-    origin: Origin,
+    origin: KeySource,
     service: i32,
     /// How many seconds after the end of the keys the service is told that no more comes.
     wait: u32,
@@ -55,8 +55,8 @@ impl<'a, H, E> Polling<'a, H, E> {
 // A user who types the end of file means it at once.
 fn wait_of(plain: &Plain) -> u32 {
     match plain.origin {
-        Origin::Terminal(_) => 0,
-        Origin::Reader | Origin::Input => plain.wait,
+        KeySource::Terminal(_) => 0,
+        KeySource::Reader | KeySource::Input => plain.wait,
     }
 }
 
@@ -87,7 +87,7 @@ fn waits_at(wanted: bool, fd: i32, events: i16) -> pollfd {
 
 impl<'a, H: Clock + Copy + Wait, E: Drain> Await for Polling<'a, H, E> {
     fn next(&mut self, wants: Wants) -> Ready {
-        if wants.keys && self.origin == Origin::Reader {
+        if wants.keys && self.origin == KeySource::Reader {
             return Ready::Keys;
         }
         self.hears_next = !self.hears_next;

@@ -10,7 +10,7 @@ use tn_sockets::{Link, OwnCharacters};
 
 /// Where the keys of a client come from.
 #[derive(Clone, Copy, Debug, PartialEq, Eq)]
-pub enum Origin {
+pub enum KeySource {
     /// A reader of which nothing else is known: each of its bytes is a key.
     Reader,
     /// Standard input, each of whose bytes is a key; it is waited for, so that the session ends though
@@ -32,7 +32,7 @@ pub struct Connecting {
     pub height: u16,
     /// How many bytes a line has at most.
     pub line_limit: Limit,
-    pub origin: Origin,
+    pub origin: KeySource,
     /// The escape character of a terminal, if it has one.
     pub escape: Option<u8>,
     /// How many seconds after the end of standard input the server is told that no more comes.
@@ -48,14 +48,14 @@ pub struct Plain {
     pub line_limit: Limit,
     pub line_end: LineEnd,
     /// Where the lines come from: they are edited where it is a terminal.
-    pub origin: Origin,
+    pub origin: KeySource,
     /// How many seconds after the end of standard input the service is told that no more comes.
     pub wait: u32,
 }
 
 /// What a client's session has beside its keys and its screen.
 #[derive(Drop)]
-pub struct Notes<'a, W> {
+pub struct ClientContext<'a, W> {
     /// Gets a line for each item that comes and goes.
     pub trace: Option<File>,
     /// Tells each new size of the window, where standard input is waited for: width and height, five

@@ -10,7 +10,7 @@ use crate::fault::ConnectFault;
 use crate::mapping::MappedKeys;
 use crate::news::tell_standing;
 use crate::polls::Polling;
-use crate::settings::{Notes, Origin, Plain};
+use crate::settings::{ClientContext, KeySource, Plain};
 use std::alloc::{AllocError, Global};
 use std::io::{Read, Write};
 use std::net::TcpStream;
@@ -45,11 +45,11 @@ fn lines_of(alloc: Global, plain: Plain) -> Result<AnyLines, AllocError>
 {
     let line_end = plain.line_end;
     match plain.origin {
-        Origin::Terminal(_) => {
+        KeySource::Terminal(_) => {
             let lines = KeyLines::new(alloc, Settings::standard(), plain.line_limit, line_end)?;
             Ok(AnyLines::Typed(lines))
         },
-        Origin::Reader | Origin::Input => Ok(AnyLines::Read(FileLines::new(line_end))),
+        KeySource::Reader | KeySource::Input => Ok(AnyLines::Read(FileLines::new(line_end))),
     }
 }
 
@@ -87,19 +87,19 @@ fn talk<H: Wait, A: Await, K: Source + Drop, N: Source + Drop, W: Finish + Drop,
 }
 
 // The special characters of the terminal where keys are typed; none where they are read.
-fn own_of(origin: Origin) -> OwnCharacters
+fn own_of(origin: KeySource) -> OwnCharacters
     ensures { result ≡ own_by origin }
 {
     match origin {
-        Origin::Terminal(own) => own,
-        Origin::Reader | Origin::Input => OwnCharacters::none(),
+        KeySource::Terminal(own) => own,
+        KeySource::Reader | KeySource::Input => OwnCharacters::none(),
     }
 }
 
-fn is_terminal(origin: Origin) -> bool
+fn is_terminal(origin: KeySource) -> bool
     ensures { result ≡ is_terminal origin }
 {
-    matches!(origin, Origin::Terminal(_))
+    matches!(origin, KeySource::Terminal(_))
 }
 
 /// Connects to a host, an address or a name, and talks to the service there by lines, with these keys and
@@ -113,13 +113,13 @@ pub fn connect_plain<H: Host + Network, K: Read + Drop, S: Write, E: Drain>(
     plain: Plain,
     keys: K,
     screen: &mut S,
-    notes: Notes<'_, E>,
+    notes: ClientContext<'_, E>,
 ) -> Result<TalkReport, ConnectFault>
     ensures talked { IfOk result (RunsTalk plain (K.remaining keys) (S.contents screen.old)
         (S.contents screen.new)) }
     ensures reached { ConnectsBy talked_over (Reaches (H.finds rt host.now plain.port) (H.dials rt)) result }
 {
-    let Notes {
+    let ClientContext {
         stands,
         mut news,
         causes,

@@ -3,3 +3,4 @@ pub mod Taking
 pub mod Announcing
 pub mod Offers
 pub mod Ending
+pub mod Filling

@@ -1,17 +1,21 @@
-//! LINEMODE at its two ends (RFC 1184): which special characters both have, and who edits lines.
+//! LINEMODE at its two ends (RFC 1184): which special characters both have, and who edits lines; and how
+//! option words and payloads are said, and what a subnegotiation says where its option is on.
 //!
 //! ```
 //! let mut mode = ServerMode::new();
-//! mode.wish(3); // Some(3): the mask to send
+//! put_mode(mode.wish(3), &mut out)?; // ff fa 22 01 03 ff f0
 //! mode.got(7); // None: the client has acknowledged it, and it is in force
 //! ```
 //!
-//! It spells nothing, edits nothing, and keeps no forward mask. SOFT_TAB and LIT_ECHO are ignored.
+//! It edits nothing, and keeps no forward mask; what is said when is each end's. SOFT_TAB and LIT_ECHO
+//! are ignored.
 #![tactic(auto)]
 
 pub use client_mode::ClientMode;
 pub use client_table::ClientTable;
 pub use masks::Mode;
+pub use reading::read_under;
+pub use sending::{put_list, put_mode, put_payload, put_triple, put_word};
 pub use server_mode::ServerMode;
 pub use server_table::ServerTable;
 pub use tn_codes::{EDIT, MODE_ACK, TRAPSIG};
@@ -22,6 +26,9 @@ mod client_mode;
 mod client_table;
 pub mod laws;
 mod masks;
+mod parameters;
+mod reading;
+mod sending;
 mod server_mode;
 mod server_table;
 mod triples;

@@ -5,7 +5,7 @@ use Rattle.tn_machines.specs.declared.messages.Message.TheVariants.{Piece}
 use Rattle.tn_nvt.specs.Feeding.{DecoderState}
 use Rattle.tn_nvt.specs.Feeding as nvt
 use Rattle.tn_nvt.specs.declared.items.Item.{Item}
-use Rattle.tn_wire.specs.Prefixes.{WantsMemory}
+use Rattle.tn_linemode.specs.Prefixes.{WantsMemory}
 
 -- the bytes that a message brings
 abbrev pub bytes_in : Message → List ℕ

@@ -16,8 +16,8 @@
 //! Once no more keys come it sends nothing more, and still shows what comes. It has no handle and never
 //! blocks: it reads and writes nothing itself, and opens no connection.
 pub use crate::client::machine::Core;
-pub use crate::client::messages::{Mark, Origin, Told};
-pub use crate::client::progress::Progress;
+pub use crate::client::messages::{ClientMark, Origin, Told};
+pub use crate::client::progress::ClientProgress;
 pub use crate::client::terms::Terms;
 
 mod commands;

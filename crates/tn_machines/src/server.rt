@@ -20,8 +20,8 @@
 //! It moves the jobs of its table, counts what was done, and knows how the session ends. It has no handle
 //! and never blocks: it reads and writes nothing itself, runs no job, and does not hold back a reader, but
 //! says by `is_welcoming` when to.
-pub use crate::server::messages::{Mark, Outcome, Put};
-pub use crate::server::progress::Progress;
+pub use crate::server::messages::{MessageOutcome, Put, ServerMark};
+pub use crate::server::progress::ServerProgress;
 pub use crate::server::terminal::{MAX_PIECE, Term};
 
 pub mod laws;

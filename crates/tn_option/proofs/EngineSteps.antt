@@ -16,8 +16,8 @@ use Rattle.tn_option.specs.declared.known.Known.TheVariants.{Echo, SuppressGoAhe
 use Rattle.tn_option.specs.declared.negotiation.Agree.{Agree}
 use Rattle.tn_option.specs.declared.q_method.Answer.{Answer}
 use Rattle.tn_option.specs.declared.q_method.Answer.TheVariants as answer
-use Rattle.tn_option.specs.declared.q_method.Cause.{Cause}
-use Rattle.tn_option.specs.declared.q_method.Cause.TheVariants.{HeardOn}
+use Rattle.tn_option.specs.declared.q_method.OptionEvent.{OptionEvent}
+use Rattle.tn_option.specs.declared.q_method.OptionEvent.TheVariants.{HeardOn}
 use Rattle.tn_option.specs.declared.q_method.Side.{Side}
 use Rattle.tn_option.specs.declared.q_method.Side.TheVariants.{Us, Them}
 use Rattle.tn_option.specs.declared.q_method.QState.{QState}
@@ -134,28 +134,28 @@ said-elsewhere side code s c answer.SayOn other = ap (λ (b : Bool). told_if b (
 said-elsewhere side code s c answer.SayOff other = ap (λ (b : Bool). told_if b (says_on (word_off s))) (off-elsewhere side code s c other)
 said-elsewhere side code s c a other = refl
 
-said_now-elsewhere : (o : Options) (side : Side) (code : ℕ) (s : Side) (c : ℕ) (cause : Cause) (option : Option Known) → IsElsewhere s c side code
+said_now-elsewhere : (o : Options) (side : Side) (code : ℕ) (s : Side) (c : ℕ) (cause : OptionEvent) (option : Option Known) → IsElsewhere s c side code
     → told_one (facing side) code (word_now o s c cause option) ≡ None
 said_now-elsewhere o side code s c cause (Some option) other = said-elsewhere side code s c _ other
 said_now-elsewhere o side code s c HeardOn None other = ap (λ (b : Bool). told_if b (says_on (word_off s))) (off-elsewhere side code s c other)
 said_now-elsewhere o side code s c cause None other = refl
 
-answered_now-elsewhere : (o : Options) (side : Side) (code : ℕ) (s : Side) (c : ℕ) (cause : Cause) (option : Option Known) → IsElsewhere s c side code
+answered_now-elsewhere : (o : Options) (side : Side) (code : ℕ) (s : Side) (c : ℕ) (cause : OptionEvent) (option : Option Known) → IsElsewhere s c side code
     → told_one (facing side) code (asked_word (answer_now o s c cause option)) ≡ None
 answered_now-elsewhere o side code s c cause (Some option) other =
     ap (λ (r : Option (Verb × ℕ)). told_one (facing side) code r) (asked-said s c _) ∙ said-elsewhere side code s c _ other
 answered_now-elsewhere o side code s c cause None other = refl
 
 -- the cell that a cause has at one side of an option, by what the ends show
-abbrev cell_shown : Options → Side → ℕ → Cause → QState × Answer
+abbrev cell_shown : Options → Side → ℕ → OptionEvent → QState × Answer
 cell_shown o side code cause = cell (agrees_to o side code) cause (state_of o side code)
 
-said_now-told : (o : Options) (side : Side) (code : ℕ) (cause : Cause) (option : Known) → known_option code ≡ Some option
+said_now-told : (o : Options) (side : Side) (code : ℕ) (cause : OptionEvent) (option : Known) → known_option code ≡ Some option
     → told_one (facing side) code (word_now o side code cause (known_option code)) ≡ word_of (cell_shown o side code cause).1
 unfolding state_of agrees_to
 said_now-told o side code cause option e = rw e (said-told side code _)
 
-answered_now-told : (o : Options) (side : Side) (code : ℕ) (cause : Cause) (option : Known) → known_option code ≡ Some option
+answered_now-told : (o : Options) (side : Side) (code : ℕ) (cause : OptionEvent) (option : Known) → known_option code ≡ Some option
     → told_one (facing side) code (asked_word (answer_now o side code cause (known_option code))) ≡ word_of (cell_shown o side code cause).1
 unfolding state_of agrees_to
 answered_now-told o side code cause option e = rw e (ap (λ (r : Option (Verb × ℕ)). told_one (facing side) code r) (asked-said side code _)
@@ -194,9 +194,9 @@ got-this : (o : Options) (verb : Verb) (c : ℕ) (rest out : List (Verb × ℕ))
 unfolding options_after_word reply_to
 got-this o verb c rest out t option e st =
     heard-Standing (agrees_to o (side_of verb) c) (says_on verb) _ t _ _ _ _
-    (MovesByCell-moved o (side_of verb) c (cause_of verb) option e ∙ ap (λ (k : Cause). (cell_shown o (side_of verb) c k).0) (heard-cause verb))
+    (MovesByCell-moved o (side_of verb) c (cause_of verb) option e ∙ ap (λ (k : OptionEvent). (cell_shown o (side_of verb) c k).0) (heard-cause verb))
     (told-says (facing (side_of verb)) c out _ _ (said_now-told o (side_of verb) c (cause_of verb) option e
-    ∙ ap (λ (k : Cause). word_of (cell_shown o (side_of verb) c k).1) (heard-cause verb)))
+    ∙ ap (λ (k : OptionEvent). word_of (cell_shown o (side_of verb) c k).1) (heard-cause verb)))
     st
 
 -- a word about something else

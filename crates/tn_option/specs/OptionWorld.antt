@@ -6,8 +6,8 @@ use Rattle.tn_option.specs.declared.q_method.Side.{Side}
 use Rattle.tn_option.specs.declared.q_method.Side.TheVariants.{Us, Them}
 use Rattle.tn_option.specs.declared.q_method.QState.{QState}
 use Rattle.tn_option.specs.declared.q_method.QState.TheVariants.{No, Yes}
-use Rattle.tn_option.specs.declared.q_method.Cause.{Cause}
-use Rattle.tn_option.specs.declared.q_method.Cause.TheVariants.{HeardOn, HeardOff}
+use Rattle.tn_option.specs.declared.q_method.OptionEvent.{OptionEvent}
+use Rattle.tn_option.specs.declared.q_method.OptionEvent.TheVariants.{HeardOn, HeardOff}
 use Rattle.tn_option.specs.declared.q_method.Answer.{Answer}
 use Rattle.tn_option.specs.declared.q_method.Answer.TheVariants as answer
 
@@ -33,7 +33,7 @@ pub data OptionStep : Type 0 where
   -- the next word comes, if there is one
   deliver : Side → Bool → OptionStep
 
-abbrev pub cause_of_word : Bool → Cause
+abbrev pub cause_of_word : Bool → OptionEvent
 cause_of_word true = HeardOn
 cause_of_word false = HeardOff
 

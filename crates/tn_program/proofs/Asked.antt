@@ -2,7 +2,7 @@
 use Rattle.std.proofs.Common.{◌≡◌, ◌≤◌, ◌∙◌, inl, inr, ℕ, List, Option, Some, None, Result, Ok, Err, IfOk, IfSome, IsErrAnd, option_map, string_bytes, subst}
 use Rattle.std.specs.declared.net.tcp.TcpStream.{TcpStream}
 use Rattle.tn_services.specs.declared.answerers.Answerers.{Answerers}
-use Rattle.tn_services.specs.declared.cutting.Lines.{Lines}
+use Rattle.tn_services.specs.declared.cutting.LineFormat.{LineFormat}
 use Rattle.tn_services.specs.declared.dialing.Joiner.{Joiner}
 use Rattle.tn_serve.specs.Ends.{IfAny, ServesUntil}
 use Rattle.tn_serve.specs.Counted.{CountsSessions, server_of}
@@ -40,12 +40,12 @@ answers facts left turned result options options' ticks ticks' so often counted 
     (subst (λ (n : ℕ). Counted facts left turned result options (AnswersAsAsked n)) often counted)
 
 pub joins : {H N J : Type 0} (facts : Joiner H N → JobFacts J) (left : Joiner H N → Option ℕ) (turned : TcpStream → Type 0) (result : Result Served ServeFault)
-    (rt : H) (port : ℕ) (options options' : SessionOptions) (name name' : List ℕ) (ends ends' : Lines) → options ≡ options' → name ≡ name' → ends ≡ ends'
+    (rt : H) (port : ℕ) (options options' : SessionOptions) (name name' : List ℕ) (ends ends' : LineFormat) → options ≡ options' → name ≡ name' → ends ≡ ends'
     → Counted facts left turned result options (JoinsAsAsked rt name port ends) → Counted facts left turned result options' (JoinsAsAsked rt name' port ends')
 joins facts left turned result rt port options options' name name' ends ends' so named ended counted =
     subst (λ (o : SessionOptions). Counted facts left turned result o (JoinsAsAsked rt name' port ends')) so
     (subst (λ (n : List ℕ). Counted facts left turned result options (JoinsAsAsked rt n port ends')) named
-    (subst (λ (e : Lines). Counted facts left turned result options (JoinsAsAsked rt name port e)) ended counted))
+    (subst (λ (e : LineFormat). Counted facts left turned result options (JoinsAsAsked rt name port e)) ended counted))
 
 -- the file that was asked for was seen, and no other
 pub seen : {H : Type 0} (sees : H → List ℕ → Type 0) (rt : H) (until : Option (AtFile H)) (path : Option (List ℕ)) → IfSome until (λ at. at.rt ≡ rt)

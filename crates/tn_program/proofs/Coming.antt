@@ -13,7 +13,7 @@ use Rattle.tn_program.specs.Runs.{DoesAsAsked, RunsAsked}
 use Rattle.tn_program.specs.Statuses.{status_of, status_of_connecting, status_of_serving}
 use Rattle.tn_program.specs.declared.outcome.Outcome.{Outcome}
 use Rattle.tn_program.specs.declared.outcome.Outcome.TheVariants as outcome
-use Rattle.tn_connect.specs.declared.settings.Origin.{Origin}
+use Rattle.tn_connect.specs.declared.settings.KeySource.{KeySource}
 use Rattle.tn_words.specs.declared.words.Asked.{Asked}
 
 -- what follows of a value follows of it where it is there
@@ -43,7 +43,7 @@ unconnected connect.Memory zero = omega (arith, zero)
 
 -- the run that was asked for
 
-ran : (machine : Machine) (a : Asked) (origin : Origin) (bytes : Option (List ℕ)) (old new : Option (List ℕ)) (came : Outcome)
+ran : (machine : Machine) (a : Asked) (origin : KeySource) (bytes : Option (List ℕ)) (old new : Option (List ℕ)) (came : Outcome)
     → ComesOfRun machine a origin bytes old new came
     → status_of came ≡ 0 → RunsAsked machine a origin bytes old new
 ran machine a origin bytes old new (outcome.Local (Ok done)) (e, ends) zero = subst (λ a. RunsAsked machine a origin bytes old new) (sym e) ends.run.ok
@@ -71,7 +71,7 @@ ran machine a origin bytes old new outcome.Memory h zero = absurd h
 
 -- or the help or the version
 
-helped : (machine : Machine) (words : List (List ℕ)) (origin : Origin) (bytes : Option (List ℕ)) (old new : Option (List ℕ)) (came : Outcome)
+helped : (machine : Machine) (words : List (List ℕ)) (origin : KeySource) (bytes : Option (List ℕ)) (old new : Option (List ℕ)) (came : Outcome)
     → ComesOfNoRun words old new came → status_of came ≡ 0 → DoesAsAsked machine words origin bytes old new
 helped machine words origin bytes old new (outcome.Help (Ok done)) (asks, ends) zero = inr (inl (asks, ends.ok))
 helped machine words origin bytes old new (outcome.Help (Err f)) h zero = absurd (faulted f zero)
@@ -89,7 +89,7 @@ helped machine words origin bytes old new (outcome.Connected ended) h zero = abs
 helped machine words origin bytes old new (outcome.Talked ended) h zero = absurd h
 helped machine words origin bytes old new outcome.Untraced h zero = absurd h
 
-pub does : (machine : Machine) (words : List (List ℕ)) (origin : Origin) (bytes : Option (List ℕ)) (old new : Option (List ℕ)) (came : Outcome)
+pub does : (machine : Machine) (words : List (List ℕ)) (origin : KeySource) (bytes : Option (List ℕ)) (old new : Option (List ℕ)) (came : Outcome)
     → status_of came ≡ 0 → ComesOf machine words origin bytes old new came → DoesAsAsked machine words origin bytes old new
 does machine words origin bytes old new came zero (inl (a, asks, h)) = inl (a, asks, ran machine a origin bytes old new came h zero)
 does machine words origin bytes old new came zero (inr h) = helped machine words origin bytes old new came h zero
@@ -112,12 +112,12 @@ unrun words old new (outcome.Connected ended) nothing h = absurd h
 unrun words old new (outcome.Talked ended) nothing h = absurd h
 unrun words old new outcome.Untraced nothing h = absurd h
 
-comes_of_nothing : (machine : Machine) (words : List (List ℕ)) (origin : Origin) (bytes : Option (List ℕ)) (old new : Option (List ℕ)) (came : Outcome)
+comes_of_nothing : (machine : Machine) (words : List (List ℕ)) (origin : KeySource) (bytes : Option (List ℕ)) (old new : Option (List ℕ)) (came : Outcome)
     → AskForNothing words → ComesOf machine words origin bytes old new came → ((status_of came ≡ 2) ⊎ (status_of came ≡ 1)) × (new ≡ old)
 comes_of_nothing machine words origin bytes old new came nothing (inl (a, asks, h)) = absurd (nothing.0 a asks)
 comes_of_nothing machine words origin bytes old new came nothing (inr h) = unrun words old new came nothing h
 
-pub refused : (machine : Machine) (words : List (List ℕ)) (origin : Origin) (bytes : Option (List ℕ)) (old new : Option (List ℕ)) (came : Outcome) (status : ℕ)
+pub refused : (machine : Machine) (words : List (List ℕ)) (origin : KeySource) (bytes : Option (List ℕ)) (old new : Option (List ℕ)) (came : Outcome) (status : ℕ)
     → status ≡ status_of came → ComesOf machine words origin bytes old new came → AskForNothing words → ((status ≡ 2) ⊎ (status ≡ 1)) × (new ≡ old)
 refused machine words origin bytes old new came status is comes nothing =
     subst (λ (s : ℕ). ((s ≡ 2) ⊎ (s ≡ 1)) × (new ≡ old)) (sym is) (comes_of_nothing machine words origin bytes old new came nothing comes)

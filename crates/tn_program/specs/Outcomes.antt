@@ -24,17 +24,17 @@ use Rattle.tn_program.specs.declared.outcome.Outcome.TheVariants as outcome
 use Rattle.tn_program.specs.Settings.{UnlessMemory, count_as, plain_as, window_as}
 use Rattle.tn_roster.specs.Held.{IsLimit}
 use Rattle.tn_streams.specs.Known.{KnownTyping}
-use Rattle.tn_connect.specs.declared.settings.Origin.{Origin}
+use Rattle.tn_connect.specs.declared.settings.KeySource.{KeySource}
 use Rattle.tn_words.specs.Words.{AskFor, AsksForHelp, AsksForVersion, Refuses, version_line}
 use Rattle.tn_connect.specs.declared.talks.TalkReport.{TalkReport}
-use Rattle.tn_words.specs.declared.settings.Connecting.{Connecting}
-use Rattle.tn_words.specs.declared.settings.Serving.{Serving}
+use Rattle.tn_words.specs.declared.settings.ConnectWords.{ConnectWords}
+use Rattle.tn_words.specs.declared.settings.ServeWords.{ServeWords}
 use Rattle.tn_words.specs.declared.words.Asked.{Asked}
 use Rattle.tn_words.specs.declared.words.Asked.TheVariants as asked
 use Rattle.tn_words.specs.declared.words.WordsFault.TheVariants as words_fault
 
 -- What came of serving.
-pub record EndsServing (machine : Machine) (serving : Serving) (ended : Result Served ServeFault)
+pub record EndsServing (machine : Machine) (serving : ServeWords) (ended : Result Served ServeFault)
     (old new : Option (List ℕ)) : Type 0 where
   pub all : IfOk ended (ServesUntil (count_as serving.count)
       (IfAny machine.sees (option_map string_bytes serving.until)))
@@ -45,7 +45,7 @@ pub record EndsServing (machine : Machine) (serving : Serving) (ended : Result S
   pub unwritten : new ≡ old
 
 -- What came of connecting.
-pub record EndsConnecting (machine : Machine) (connecting : Connecting)
+pub record EndsConnecting (machine : Machine) (connecting : ConnectWords)
     (ended : Result Connected ConnectFault) (input : KnownTyping)
     (old new : Option (List ℕ)) : Type 0 where
   pub telnet : connecting.plain ≡ None
@@ -56,8 +56,8 @@ pub record EndsConnecting (machine : Machine) (connecting : Connecting)
   pub unwritten : OnErr ended (ended ≢ Err connect.Session → new ≡ old)
 
 -- What came of a talk with a service that takes lines.
-pub record EndsTalking (machine : Machine) (connecting : Connecting) (ended : Result TalkReport ConnectFault)
-    (origin : Origin)
+pub record EndsTalking (machine : Machine) (connecting : ConnectWords) (ended : Result TalkReport ConnectFault)
+    (origin : KeySource)
     (bytes old new : Option (List ℕ)) : Type 0 where
   pub line_end : LineEnd
   pub plain : connecting.plain ≡ Some line_end
@@ -76,7 +76,7 @@ pub record EndsVersion (ended : Result ⊤ CliFault) (old new : Option (List ℕ
   pub fault : IfErr ended (λ f. f ≡ fault.Write)
 
 -- what was asked for was run, and this came of it
-abbrev pub ComesOfRun : Machine → Asked → Origin → Option (List ℕ) → Option (List ℕ) → Option (List ℕ)
+abbrev pub ComesOfRun : Machine → Asked → KeySource → Option (List ℕ) → Option (List ℕ) → Option (List ℕ)
     → Outcome → Type 0
 ComesOfRun machine a origin bytes old new (outcome.Local ended) =
     (a ≡ asked.Local) × EndsLocal ended bytes old new
@@ -87,15 +87,15 @@ ComesOfRun machine a origin bytes old new (outcome.Decode ended) =
 ComesOfRun machine a origin bytes old new (outcome.World ended) =
     (a ≡ asked.World) × EndsWorld ended bytes old new
 ComesOfRun machine a origin bytes old new (outcome.Served ended) =
-    (serving : Serving) × (a ≡ asked.Serve serving) × EndsServing machine serving ended old new
+    (serving : ServeWords) × (a ≡ asked.Serve serving) × EndsServing machine serving ended old new
 ComesOfRun machine a origin bytes old new (outcome.Connected ended) =
-    (connecting : Connecting) × (a ≡ asked.Connect connecting)
+    (connecting : ConnectWords) × (a ≡ asked.Connect connecting)
     × EndsConnecting machine connecting ended (foreseen origin bytes) old new
 ComesOfRun machine a origin bytes old new (outcome.Talked ended) =
-    (connecting : Connecting) × (a ≡ asked.Connect connecting)
+    (connecting : ConnectWords) × (a ≡ asked.Connect connecting)
     × EndsTalking machine connecting ended origin bytes old new
 ComesOfRun machine a origin bytes old new outcome.Untraced =
-    (connecting : Connecting) × (a ≡ asked.Connect connecting) × (connecting.trace ≢ None) × (new ≡ old)
+    (connecting : ConnectWords) × (a ≡ asked.Connect connecting) × (connecting.trace ≢ None) × (new ≡ old)
 ComesOfRun machine a origin bytes old new (outcome.Help ended) = ⊥
 ComesOfRun machine a origin bytes old new (outcome.Version ended) = ⊥
 ComesOfRun machine a origin bytes old new (outcome.Usage detail) = ⊥
@@ -119,14 +119,14 @@ ComesOfNoRun words old new (outcome.Talked ended) = ⊥
 ComesOfNoRun words old new outcome.Untraced = ⊥
 
 -- this came of the words: the run that they ask for, or none
-abbrev pub ComesOf : Machine → List (List ℕ) → Origin → Option (List ℕ) → Option (List ℕ) → Option (List ℕ)
+abbrev pub ComesOf : Machine → List (List ℕ) → KeySource → Option (List ℕ) → Option (List ℕ) → Option (List ℕ)
     → Outcome → Type 0
 ComesOf machine words origin bytes old new came =
     ((a : Asked) × AskFor words a × ComesOfRun machine a origin bytes old new came)
     ⊎ ComesOfNoRun words old new came
 
 -- the status of what came of the words, of which this was told
-abbrev pub EndsWith : Machine → List (List ℕ) → Origin → Option (List ℕ) → Option (List ℕ) → Option (List ℕ)
+abbrev pub EndsWith : Machine → List (List ℕ) → KeySource → Option (List ℕ) → Option (List ℕ) → Option (List ℕ)
     → (Outcome → Type 0) → ℕ → Type 0
 EndsWith machine words origin bytes old new told status =
     (came : Outcome) × ComesOf machine words origin bytes old new came × told came × (status ≡ status_of came)

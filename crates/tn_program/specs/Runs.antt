@@ -19,7 +19,7 @@ use Rattle.tn_machines.specs.Ending.{EndsWhole}
 use Rattle.tn_network.specs.Asked.{Listens, Reaches}
 use Rattle.tn_program.specs.Machine.{Machine}
 use Rattle.tn_program.specs.Settings.{count_as, plain_as, window_as}
-use Rattle.tn_connect.specs.declared.settings.Origin.{Origin}
+use Rattle.tn_connect.specs.declared.settings.KeySource.{KeySource}
 use Rattle.tn_words.specs.Words.{AskFor, AsksForHelp, AsksForVersion, version_line}
 use Rattle.tn_words.specs.declared.words.Asked.{Asked}
 use Rattle.tn_words.specs.declared.words.Asked.TheVariants.{Local, Replay, Decode, World, Serve, Connect}
@@ -38,7 +38,7 @@ talked report = Ok report
 -- Where it served, as many connections were accepted as were asked for, or the file was seen, and nothing was
 -- written; where it connected, a client's session ran with these keys and this screen, and ended in no fault,
 -- or a talk was held.
-abbrev pub RunsAsked : Machine → Asked → Origin → Option (List ℕ) → Option (List ℕ) → Option (List ℕ) → Type 0
+abbrev pub RunsAsked : Machine → Asked → KeySource → Option (List ℕ) → Option (List ℕ) → Option (List ℕ) → Type 0
 RunsAsked machine Local origin bytes old new = IfSome bytes (λ keys. PrintsKeys keys old new)
 RunsAsked machine Replay origin bytes old new = IfSome bytes (λ stream. Replays stream old new)
 RunsAsked machine Decode origin bytes old new = IfSome bytes (λ stream. Decodes stream old new)
@@ -60,7 +60,7 @@ RunsAsked machine (Connect connecting) origin bytes old new =
     machine.network.dials) (talked report))
 
 -- the run that the words ask for, or some text where they ask for help, or the version
-abbrev pub DoesAsAsked : Machine → List (List ℕ) → Origin → Option (List ℕ) → Option (List ℕ)
+abbrev pub DoesAsAsked : Machine → List (List ℕ) → KeySource → Option (List ℕ) → Option (List ℕ)
     → Option (List ℕ) → Type 0
 DoesAsAsked machine words origin bytes old new =
     ((asked : Asked) × AskFor words asked × RunsAsked machine asked origin bytes old new)

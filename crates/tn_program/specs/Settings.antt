@@ -2,13 +2,13 @@
 use Rattle.std.specs.Prelude.{◌≡◌, ℕ, Bool, true, false, Option, None, Some, IsSome, unwrap_or, List, Result}
 use Rattle.std.specs.Prelude.{Ok, Err, string_bytes}
 use Rattle.tn_services.specs.declared.answerers.Answerers.{Answerers}
-use Rattle.tn_services.specs.declared.cutting.Lines.{Lines}
+use Rattle.tn_services.specs.declared.cutting.LineFormat.{LineFormat}
 use Rattle.tn_services.specs.declared.dialing.Joiner.{Joiner}
 use Rattle.tn_serve.specs.declared.fault.ServeFault.{ServeFault}
 use Rattle.tn_serve.specs.declared.fault.ServeFault.TheVariants.{Network, Memory, Limit as BadLimit}
 use Rattle.tn_serve.specs.declared.settings.SessionOptions.{SessionOptions}
-use Rattle.tn_connect.specs.declared.settings.Origin.{Origin}
-use Rattle.tn_connect.specs.declared.settings.Origin.TheVariants.{Reader, Input, Terminal}
+use Rattle.tn_connect.specs.declared.settings.KeySource.{KeySource}
+use Rattle.tn_connect.specs.declared.settings.KeySource.TheVariants.{Reader, Input, Terminal}
 use Rattle.tn_connect.specs.declared.settings.Plain.{Plain}
 use Rattle.tn_sockets.specs.Mapping.{none_own}
 use Rattle.tn_lines.specs.declared.line_ends.LineEnd.{LineEnd}
@@ -17,10 +17,10 @@ use Rattle.tn_server.specs.declared.wishes.Editing.TheVariants.{Local, Remote}
 use Rattle.tn_session.specs.Facts.{Window}
 use Rattle.tn_words.specs.declared.settings.Characters.{Characters}
 use Rattle.tn_words.specs.declared.settings.Characters.TheVariants.{Own, Standard}
-use Rattle.tn_words.specs.declared.settings.Connecting.{Connecting}
+use Rattle.tn_words.specs.declared.settings.ConnectWords.{ConnectWords}
 use Rattle.tn_words.specs.declared.settings.Escape.{Escape}
 use Rattle.tn_words.specs.declared.settings.Escape.TheVariants as escape
-use Rattle.tn_words.specs.declared.settings.Serving.{Serving}
+use Rattle.tn_words.specs.declared.settings.ServeWords.{ServeWords}
 
 abbrev pub editing_as : Bool → Editing
 editing_as true = Local
@@ -38,7 +38,7 @@ UnlessMemory (Err Network) asked = asked
 UnlessMemory (Err BadLimit) asked = asked
 UnlessMemory (Err Memory) asked = Unit {0}
 
-abbrev pub options_as : Serving → SessionOptions
+abbrev pub options_as : ServeWords → SessionOptions
 options_as asked =
     record {
       line_limit = asked.line_limit;
@@ -53,7 +53,7 @@ pub record AnswersAsAsked (count : ℕ) (jobs : Answerers) : Type 0 where
   pub ticks : jobs.ticks ≡ count
 
 -- how lines go to the service
-abbrev pub lines_as : Serving → Lines
+abbrev pub lines_as : ServeWords → LineFormat
 lines_as asked =
     record {
       line_end = asked.line_end;
@@ -62,7 +62,7 @@ lines_as asked =
     }
 
 -- the jobs are still to be joined, over this network, to the service at this host and port, where lines go so
-pub record JoinsAsAsked {H N : Type 0} (network : H) (name : List ℕ) (number : ℕ) (so : Lines)
+pub record JoinsAsAsked {H N : Type 0} (network : H) (name : List ℕ) (number : ℕ) (so : LineFormat)
     (jobs : Joiner H N)
     : Type 0 where
   pub new : IsSome jobs.hook
@@ -72,7 +72,7 @@ pub record JoinsAsAsked {H N : Type 0} (network : H) (name : List ℕ) (number :
   pub lines : jobs.lines ≡ so
 
 -- a window of which no size is given has 80 characters and 24 lines
-abbrev pub window_as : Connecting → Window
+abbrev pub window_as : ConnectWords → Window
 window_as asked =
     record {
       width = unwrap_or asked.width 80;
@@ -85,14 +85,14 @@ escape_as (escape.Key key) = Some key
 escape_as escape.None = None
 
 -- where the keys come from: with the standard characters a terminal has none of its own
-abbrev pub origin_as : Characters → Origin → Origin
+abbrev pub origin_as : Characters → KeySource → KeySource
 origin_as Standard (Terminal own) = Terminal none_own
 origin_as Standard Reader = Reader
 origin_as Standard Input = Input
 origin_as Own origin = origin
 
 -- a talk with a service that takes lines
-abbrev pub plain_as : Connecting → LineEnd → Origin → Plain
+abbrev pub plain_as : ConnectWords → LineEnd → KeySource → Plain
 plain_as asked line_end origin =
     record {
       port = asked.port;

@@ -2,8 +2,9 @@
 //!
 //! ```
 //! let link = Arc::new(alloc, Link::new())?;
-//! let seat = Seat { origin: Origin::Input, reader: rt.stdin(), sizes: None, stands: None, terminal: None, link };
-//! let status = run_words(rt, alloc, Ok(words), seat, &mut rt.stdout(), &mut rt.stderr());
+//! let reader = rt.stdin();
+//! let streams = Streams { origin: KeySource::Input, reader, sizes: None, stands: None, terminal: None, link };
+//! let status = run_words(rt, alloc, Ok(words), streams, &mut rt.stdout(), &mut rt.stderr());
 //! ```
 //!
 //! It does not set a terminal to raw mode: whoever starts it does.
@@ -12,10 +13,10 @@
 pub use outcome::Outcome;
 pub use own::{OWN_LENGTH, own_characters};
 pub use program::{outcome_of_words, run_words};
-pub use seat::Seat;
 pub use serving::{Joining, Noting};
 pub use settings::Answering;
-pub use tn_connect::{Link, Origin, OwnCharacters, Screen};
+pub use streams::Streams;
+pub use tn_connect::{KeySource, Link, OwnCharacters, Screen};
 pub use tn_network::Network;
 pub use watching::Lookout;
 
@@ -23,7 +24,7 @@ mod lines;
 mod outcome;
 mod own;
 mod program;
-mod seat;
 mod serving;
 mod settings;
+mod streams;
 mod watching;

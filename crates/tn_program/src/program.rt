@@ -9,9 +9,9 @@ ghost use Rattle.tn_program.specs.Told.{IsConnecting, IsTold, UnlessConnected, U
 
 use crate::lines::Lines;
 use crate::outcome::Outcome;
-use crate::seat::Seat;
 use crate::serving::serve_asked;
 use crate::settings::{connecting_of, plain_of};
+use crate::streams::Streams;
 use crate::watching::Lookout;
 use std::alloc::{AllocError, Global};
 use std::fs::{File, Files, OpenOptions};
@@ -19,10 +19,10 @@ use std::io;
 use std::io::{ErrorKind, Read, Write};
 use std::os::unix::fs::OpenOptionsExt;
 use tn_cli::{CliFault, run_decode, run_local, run_replay, run_world};
-use tn_connect::{Host, News, Notes, Origin, connect, connect_plain};
+use tn_connect::{ClientContext, Host, KeySource, News, connect, connect_plain};
 use tn_network::Network;
 use tn_streams::Drain;
-use tn_words::{Asked, Connecting, LineEnd, VERSION_LINE, WordsFault, read_words};
+use tn_words::{Asked, ConnectWords, LineEnd, VERSION_LINE, WordsFault, read_words};
 
 /// Who reads and writes a trace: its owner alone, since what is typed stands there.
 const TRACE_MODE: u32 = 0o600;
@@ -30,7 +30,7 @@ const TRACE_MODE: u32 = 0o600;
 /// Runs what the words of the command line ask for, where they could be read. The program's name is the
 /// first of them. Returns the status to end with: 0 where that was done, and else the status of its fault
 /// (`EndsWith`). A fault is told in one line on `errors`, and behind it what is wrong with words, or why;
-/// what cannot be written is dropped. Of a seat at standard input nothing is known beforehand.
+/// what cannot be written is dropped. Of a streams at standard input nothing is known beforehand.
 pub fn run_words<
     H: Network + Host + Lookout + Files<File = File>,
     R: Read + Drop + Send + 'static,
@@ -40,7 +40,7 @@ pub fn run_words<
     rt: H,
     alloc: Global,
     words: io::Result<Vec<String>>,
-    seat: Seat<R>,
+    streams: Streams<R>,
     writer: &mut W,
     errors: &mut E,
 ) -> u8
@@ -50,11 +50,11 @@ pub fn run_words<
     ensures unwritten { OnErr words (W.contents writer.new ≡ W.contents writer.old) }
     ensures done { result ≡ 0 → IfOk words (λ words. DoesAsAsked
         (machine_of (H.listens rt) (H.shares rt) (H.accepts rt) (H.finds rt) (H.dials rt) (H.sees rt))
-        (map string_bytes words.items) seat.origin (R.remaining seat.reader)
+        (map string_bytes words.items) streams.origin (R.remaining streams.reader)
         (W.contents writer.old) (W.contents writer.new)) }
     ensures ended { IfOk words (λ words. EndsWith
         (machine_of (H.listens rt) (H.shares rt) (H.accepts rt) (H.finds rt) (H.dials rt) (H.sees rt))
-        (map string_bytes words.items) seat.origin (R.remaining seat.reader)
+        (map string_bytes words.items) streams.origin (R.remaining streams.reader)
         (W.contents writer.old) (W.contents writer.new)
         (IsTold E.contents E.told errors.old errors.new) result) }
     // 1 when out of memory
@@ -62,7 +62,7 @@ pub fn run_words<
         ((result ≡ 2) ⊎ (result ≡ 1)) × (W.contents writer.new ≡ W.contents writer.old)) }
 {
     let mut causes = Vec::new(alloc);
-    let outcome = outcome_of_words(rt, alloc, words, seat, writer, errors, &mut causes);
+    let outcome = outcome_of_words(rt, alloc, words, streams, writer, errors, &mut causes);
     outcome.tell(alloc, &causes, errors);
     outcome.status()
 }
@@ -78,7 +78,7 @@ pub fn outcome_of_words<
     rt: H,
     alloc: Global,
     words: io::Result<Vec<String>>,
-    seat: Seat<R>,
+    streams: Streams<R>,
     writer: &mut W,
     errors: &mut E,
     causes: &mut Vec<u8>,
@@ -90,13 +90,13 @@ pub fn outcome_of_words<
     ensures unwritten { OnErr words (W.contents writer.new ≡ W.contents writer.old) }
     ensures comes { IfOk words (λ words. ComesOf
         (machine_of (H.listens rt) (H.shares rt) (H.accepts rt) (H.finds rt) (H.dials rt) (H.sees rt))
-        (map string_bytes words.items) seat.origin (R.remaining seat.reader)
+        (map string_bytes words.items) streams.origin (R.remaining streams.reader)
         (W.contents writer.old) (W.contents writer.new) result) }
     ensures quiet { UnlessTelling result (errors.new ≡ errors.old) }
     ensures uncaused { UnlessConnected result (causes.new.items ≡ causes.old.items) }
 {
     match words {
-        Ok(words) => run_strings(rt, alloc, &words, seat, writer, errors, causes),
+        Ok(words) => run_strings(rt, alloc, &words, streams, writer, errors, causes),
         Err(error) => refusal(error.kind()),
     }
 }
@@ -122,20 +122,20 @@ fn run_strings<
     rt: H,
     alloc: Global,
     words: &[String],
-    seat: Seat<R>,
+    streams: Streams<R>,
     writer: &mut W,
     errors: &mut E,
     causes: &mut Vec<u8>,
 ) -> Outcome
     ensures comes { ComesOf
         (machine_of (H.listens rt) (H.shares rt) (H.accepts rt) (H.finds rt) (H.dials rt) (H.sees rt))
-        (map string_bytes words.now) seat.origin (R.remaining seat.reader)
+        (map string_bytes words.now) streams.origin (R.remaining streams.reader)
         (W.contents writer.old) (W.contents writer.new) result }
     ensures quiet { UnlessTelling result (errors.new ≡ errors.old) }
     ensures uncaused { UnlessConnected result (causes.new.items ≡ causes.old.items) }
 {
     match texts_of(alloc, words) {
-        Ok(texts) => run_texts(rt, alloc, &texts, seat, writer, errors, causes),
+        Ok(texts) => run_texts(rt, alloc, &texts, streams, writer, errors, causes),
         Err(_) => Outcome::Memory,
     }
 }
@@ -159,20 +159,20 @@ fn run_texts<
     rt: H,
     alloc: Global,
     words: &[&str],
-    seat: Seat<R>,
+    streams: Streams<R>,
     writer: &mut W,
     errors: &mut E,
     causes: &mut Vec<u8>,
 ) -> Outcome
     ensures comes { ComesOf
         (machine_of (H.listens rt) (H.shares rt) (H.accepts rt) (H.finds rt) (H.dials rt) (H.sees rt))
-        (map (λ word. word.now) words.now) seat.origin (R.remaining seat.reader)
+        (map (λ word. word.now) words.now) streams.origin (R.remaining streams.reader)
         (W.contents writer.old) (W.contents writer.new) result }
     ensures quiet { UnlessTelling result (errors.new ≡ errors.old) }
     ensures uncaused { UnlessConnected result (causes.new.items ≡ causes.old.items) }
 {
     match read_words(alloc, words) {
-        Ok(asked) => return run_asked(rt, alloc, asked, seat, writer, errors, causes),
+        Ok(asked) => return run_asked(rt, alloc, asked, streams, writer, errors, causes),
         Err(WordsFault::Help(text)) => {
             let written = writer.write_all(text.as_bytes());
             return Outcome::Help(written.map_err(|_| CliFault::Write));
@@ -201,28 +201,28 @@ fn run_asked<
     rt: H,
     alloc: Global,
     asked: Asked,
-    mut seat: Seat<R>,
+    mut streams: Streams<R>,
     writer: &mut W,
     errors: &mut E,
     causes: &mut Vec<u8>,
 ) -> Outcome
     ensures comes { ComesOfRun
         (machine_of (H.listens rt) (H.shares rt) (H.accepts rt) (H.finds rt) (H.dials rt) (H.sees rt))
-        asked seat.origin (R.remaining seat.reader)
+        asked streams.origin (R.remaining streams.reader)
         (W.contents writer.old) (W.contents writer.new) result }
     ensures quiet { UnlessTelling result (errors.new ≡ errors.old) }
     ensures uncaused { UnlessConnected result (causes.new.items ≡ causes.old.items) }
 {
     match asked {
-        Asked::Local => Outcome::Local(run_local(alloc, &mut seat, writer)),
-        Asked::Replay => Outcome::Replay(run_replay(alloc, &mut seat, writer)),
-        Asked::Decode => Outcome::Decode(run_decode(alloc, &mut seat, writer)),
-        Asked::World => Outcome::World(run_world(alloc, &mut seat, writer)),
+        Asked::Local => Outcome::Local(run_local(alloc, &mut streams, writer)),
+        Asked::Replay => Outcome::Replay(run_replay(alloc, &mut streams, writer)),
+        Asked::Decode => Outcome::Decode(run_decode(alloc, &mut streams, writer)),
+        Asked::World => Outcome::World(run_world(alloc, &mut streams, writer)),
         Asked::Serve(asked) => {
             let served = serve_asked(rt, alloc, &asked, &mut Lines(errors), causes);
             Outcome::Served(served)
         },
-        Asked::Connect(asked) => run_connecting(rt, alloc, asked, seat, writer, errors, causes),
+        Asked::Connect(asked) => run_connecting(rt, alloc, asked, streams, writer, errors, causes),
     }
 }
 
@@ -235,31 +235,31 @@ fn run_connecting<
 >(
     rt: H,
     alloc: Global,
-    asked: Connecting,
-    seat: Seat<R>,
+    asked: ConnectWords,
+    streams: Streams<R>,
     writer: &mut W,
     errors: &mut E,
     causes: &mut Vec<u8>,
 ) -> Outcome
     ensures comes { ComesOfRun
         (machine_of (H.listens rt) (H.shares rt) (H.accepts rt) (H.finds rt) (H.dials rt) (H.sees rt))
-        (Asked.Connect asked) seat.origin (R.remaining seat.reader)
+        (Asked.Connect asked) streams.origin (R.remaining streams.reader)
         (W.contents writer.old) (W.contents writer.new) result }
     ensures connects { IsConnecting result }
     ensures quiet { UnlessTelling result (errors.new ≡ errors.old) }
 {
     match asked.plain {
-        Some(line_end) => run_plain(rt, alloc, &asked, line_end, seat, writer, errors, causes),
-        None => run_connect(rt, alloc, asked, seat, writer, errors, causes),
+        Some(line_end) => run_plain(rt, alloc, &asked, line_end, streams, writer, errors, causes),
+        None => run_connect(rt, alloc, asked, streams, writer, errors, causes),
     }
 }
 
 fn run_plain<H: Network + Host + Lookout, R: Read + Drop + Send + 'static, W: Write, E: Drain>(
     rt: H,
     alloc: Global,
-    asked: &Connecting,
+    asked: &ConnectWords,
     line_end: LineEnd,
-    seat: Seat<R>,
+    streams: Streams<R>,
     writer: &mut W,
     errors: &mut E,
     causes: &mut Vec<u8>,
@@ -267,25 +267,25 @@ fn run_plain<H: Network + Host + Lookout, R: Read + Drop + Send + 'static, W: Wr
     requires { asked.now.plain ≡ Some line_end }
     ensures comes { ComesOfRun
         (machine_of (H.listens rt) (H.shares rt) (H.accepts rt) (H.finds rt) (H.dials rt) (H.sees rt))
-        (Asked.Connect asked.now) seat.origin (R.remaining seat.reader)
+        (Asked.Connect asked.now) streams.origin (R.remaining streams.reader)
         (W.contents writer.old) (W.contents writer.new) result }
     ensures connects { IsConnecting result }
     ensures quiet { UnlessTelling result (errors.new ≡ errors.old) }
 {
-    let Seat {
+    let Streams {
         origin,
         reader,
         sizes,
         stands,
         terminal,
         link,
-    } = seat;
+    } = streams;
     let news = News {
         writer: errors,
         alloc,
-        is_told: matches!(origin, Origin::Terminal(_)) && !asked.quiet,
+        is_told: matches!(origin, KeySource::Terminal(_)) && !asked.quiet,
     };
-    let notes = Notes {
+    let notes = ClientContext {
         trace: None,
         sizes,
         stands,
@@ -307,8 +307,8 @@ fn run_connect<
 >(
     rt: H,
     alloc: Global,
-    asked: Connecting,
-    seat: Seat<R>,
+    asked: ConnectWords,
+    streams: Streams<R>,
     writer: &mut W,
     errors: &mut E,
     causes: &mut Vec<u8>,
@@ -316,7 +316,7 @@ fn run_connect<
     requires { asked.plain ≡ None }
     ensures comes { ComesOfRun
         (machine_of (H.listens rt) (H.shares rt) (H.accepts rt) (H.finds rt) (H.dials rt) (H.sees rt))
-        (Asked.Connect asked) seat.origin (R.remaining seat.reader)
+        (Asked.Connect asked) streams.origin (R.remaining streams.reader)
         (W.contents writer.old) (W.contents writer.new) result }
     ensures connects { IsConnecting result }
     ensures quiet { UnlessTelling result (errors.new ≡ errors.old) }
@@ -324,20 +324,20 @@ fn run_connect<
     let Ok(trace) = open_trace(&rt, &asked, causes) else {
         return Outcome::Untraced;
     };
-    let Seat {
+    let Streams {
         origin,
         reader,
         sizes,
         stands,
         terminal,
         link,
-    } = seat;
+    } = streams;
     let news = News {
         writer: errors,
         alloc,
-        is_told: matches!(origin, Origin::Terminal(_)) && !asked.quiet,
+        is_told: matches!(origin, KeySource::Terminal(_)) && !asked.quiet,
     };
-    let notes = Notes {
+    let notes = ClientContext {
         trace,
         sizes,
         stands,
@@ -354,7 +354,7 @@ fn run_connect<
 // The file that gets the trace, if one is wanted. Where it can't be made, that is noted.
 fn open_trace<H: Files<File = File>>(
     rt: &H,
-    asked: &Connecting,
+    asked: &ConnectWords,
     causes: &mut Vec<u8>,
 ) -> io::Result<Option<File>>
     ensures { OnErr result (asked.now.trace ≢ None) }

@@ -19,14 +19,16 @@ use std::sync::Wait;
 use tn_jobs::Job;
 use tn_network::Network;
 use tn_serve::{At, Call, Finished, Host, Notes, ServeFault, Served, Service, serve};
-use tn_services::{Answerer, Answerers, Gateway, Heard, HearsCut, Joiner, Lines, Told};
+use tn_services::{
+    Answerer, Answerers, Gateway, HearsCut, Joiner, LineFormat, ServiceReader, ServiceWriter,
+};
 use tn_session::Maker;
 
 /// Serves as was asked for. Where it cannot listen, `causes` gets a line.
 pub(crate) fn serve_asked<H, E>(
     rt: H,
     alloc: Global,
-    asked: &tn_words::Serving,
+    asked: &tn_words::ServeWords,
     errors: &mut E,
     causes: &mut Vec<u8>,
 ) -> Result<Served, ServeFault>
@@ -50,10 +52,10 @@ where
 
     // jobs that are joined to the service that was asked for
     ensures joins { IfSome asked.now.to (λ to. IfOk result (λ served. CountsSessions (server_of (facts_of
-        ⟦<Gateway<Heard<H, TcpStream>, Told<H, TcpStream, Noting<H>>> as Job>⟧.fresh ⟦<Joiner<H, Noting<H>> as Maker>⟧.gives
-        ⟦<Gateway<Heard<H, TcpStream>, Told<H, TcpStream, Noting<H>>> as Job>⟧.reacts
-        ⟦<Gateway<Heard<H, TcpStream>, Told<H, TcpStream, Noting<H>>> as Job>⟧.steps
-        ⟦<Gateway<Heard<H, TcpStream>, Told<H, TcpStream, Noting<H>>> as Job>⟧.refuses) ⟦<Joiner<H, Noting<H>> as Maker>⟧.left
+        ⟦<Gateway<ServiceReader<H, TcpStream>, ServiceWriter<H, TcpStream, Noting<H>>> as Job>⟧.fresh ⟦<Joiner<H, Noting<H>> as Maker>⟧.gives
+        ⟦<Gateway<ServiceReader<H, TcpStream>, ServiceWriter<H, TcpStream, Noting<H>>> as Job>⟧.reacts
+        ⟦<Gateway<ServiceReader<H, TcpStream>, ServiceWriter<H, TcpStream, Noting<H>>> as Job>⟧.steps
+        ⟦<Gateway<ServiceReader<H, TcpStream>, ServiceWriter<H, TcpStream, Noting<H>>> as Job>⟧.refuses) ⟦<Joiner<H, Noting<H>> as Maker>⟧.left
         (options_as asked.now) (JoinsAsAsked rt (string_bytes to.host) to.port (lines_as asked.now))
         (WasTurnedAway (H.dismisses rt))) served.whole served.faulted served.refused)) }
     ensures limit { IsErrOf result ServeFault.Limit → ¬ IsLimit asked.now.sessions }
@@ -81,7 +83,7 @@ where
 fn until_of<H: Copy + Lookout>(
     rt: H,
     alloc: Global,
-    asked: &tn_words::Serving,
+    asked: &tn_words::ServeWords,
 ) -> Result<Option<AtFile<H>>, AllocError>
     ensures rt { IfOk result (λ until. IfSome until (λ at. at.rt ≡ rt)) }
     ensures path { IfOk result (λ until. option_map (λ at. string_bytes at.path) until
@@ -103,7 +105,7 @@ pub struct Joining<H> {
     pub host: String,
     pub port: u16,
     /// How lines go there.
-    pub lines: Lines,
+    pub lines: LineFormat,
 }
 
 /// Has the server note a line that may have been cut.
@@ -123,7 +125,7 @@ impl<H: Host + Network> Service for Joining<H> {
     ghost use Rattle.std.specs.Prelude.{string_bytes};
     ghost use Rattle.tn_program.specs.Settings.{JoinsAsAsked};
 
-    type Job = Gateway<Heard<H, TcpStream>, Told<H, TcpStream, Noting<H>>>;
+    type Job = Gateway<ServiceReader<H, TcpStream>, ServiceWriter<H, TcpStream, Noting<H>>>;
 
     type Jobs = Joiner<H, Noting<H>>;
 

@@ -6,10 +6,10 @@ ghost use Rattle.tn_program.specs.Settings.{count_as, escape_as, lines_as, optio
 ghost use Rattle.tn_program.specs.Settings.{window_as};
 
 use std::alloc::{AllocError, Global};
-use tn_connect::{Connecting, Origin, OwnCharacters, Plain};
+use tn_connect::{Connecting, KeySource, OwnCharacters, Plain};
 use tn_serve::{Call, Finished, Service, Serving, SessionOptions};
 use tn_server::Editing;
-use tn_services::{Answerer, Answerers, Lines};
+use tn_services::{Answerer, Answerers, LineFormat};
 use tn_words::{Characters, Escape, LineEnd, USUAL_HEIGHT, USUAL_WIDTH};
 
 /// After how many connections a server without end stops: more than can ever be accepted.
@@ -39,7 +39,7 @@ impl Service for Answering {
 }
 
 // How it was asked to serve.
-pub(crate) fn serving_of(asked: &tn_words::Serving) -> Serving
+pub(crate) fn serving_of(asked: &tn_words::ServeWords) -> Serving
     ensures sessions { result.sessions ≡ asked.now.sessions }
     ensures per_host { result.per_host ≡ asked.now.per_host }
     ensures count { result.count ≡ count_as asked.now.count }
@@ -66,17 +66,17 @@ fn count_of(asked: Option<u32>) -> u64
 }
 
 // The jobs that were asked for, where each session has its own.
-pub(crate) fn answering_of(asked: &tn_words::Serving) -> Answering
+pub(crate) fn answering_of(asked: &tn_words::ServeWords) -> Answering
     ensures { result.ticks ≡ asked.now.ticks }
 {
     Answering { ticks: asked.ticks }
 }
 
 // How lines go to the service that was asked for.
-pub(crate) fn lines_of(asked: &tn_words::Serving) -> Lines
+pub(crate) fn lines_of(asked: &tn_words::ServeWords) -> LineFormat
     ensures { result ≡ lines_as asked.now }
 {
-    Lines {
+    LineFormat {
         line_end: asked.line_end,
         limit: asked.line_limit,
         ends_cut: asked.ends_cut,
@@ -84,7 +84,7 @@ pub(crate) fn lines_of(asked: &tn_words::Serving) -> Lines
 }
 
 // What is the same of all sessions that were asked for.
-pub(crate) fn options_of(asked: &tn_words::Serving) -> SessionOptions
+pub(crate) fn options_of(asked: &tn_words::ServeWords) -> SessionOptions
     ensures { result ≡ options_as asked.now }
 {
     let editing = if asked.local {
@@ -100,7 +100,7 @@ pub(crate) fn options_of(asked: &tn_words::Serving) -> SessionOptions
     }
 }
 
-pub(crate) fn connecting_of(asked: &tn_words::Connecting, origin: Origin) -> Connecting
+pub(crate) fn connecting_of(asked: &tn_words::ConnectWords, origin: KeySource) -> Connecting
     ensures window { window_of result ≡ window_as asked.now }
     ensures origin { result.origin ≡ origin_as asked.now.characters origin }
     ensures escape { result.escape ≡ escape_as asked.now.escape }
@@ -119,7 +119,11 @@ pub(crate) fn connecting_of(asked: &tn_words::Connecting, origin: Origin) -> Con
 }
 
 // How it was asked to talk to a service that takes lines.
-pub(crate) fn plain_of(asked: &tn_words::Connecting, line_end: LineEnd, origin: Origin) -> Plain
+pub(crate) fn plain_of(
+    asked: &tn_words::ConnectWords,
+    line_end: LineEnd,
+    origin: KeySource,
+) -> Plain
     ensures { result ≡ plain_as asked.now line_end origin }
 {
     let port = asked.port;
@@ -134,11 +138,13 @@ pub(crate) fn plain_of(asked: &tn_words::Connecting, line_end: LineEnd, origin: 
 }
 
 // Where the keys come from, and by whose characters those of a terminal are taken.
-fn origin_of(characters: Characters, origin: Origin) -> Origin
+fn origin_of(characters: Characters, origin: KeySource) -> KeySource
     ensures { result ≡ origin_as characters origin }
 {
     match (characters, origin) {
-        (Characters::Standard, Origin::Terminal(_)) => Origin::Terminal(OwnCharacters::none()),
+        (Characters::Standard, KeySource::Terminal(_)) => KeySource::Terminal(
+            OwnCharacters::none(),
+        ),
         _ => origin,
     }
 }

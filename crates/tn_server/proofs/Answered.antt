@@ -11,7 +11,7 @@ use Rattle.tn_nvt.specs.declared.items.Item.{Item}
 use Rattle.tn_nvt.specs.declared.items.Item.TheVariants.{Sub}
 use Rattle.tn_option.specs.Options.{state_of, is_yes}
 use Rattle.tn_option.specs.declared.q_method.Side.TheVariants.{Them}
-use Rattle.tn_wire.specs.Words.{list_items}
+use Rattle.tn_linemode.specs.Words.{list_items}
 use Rattle.tn_server.specs.Events.{History, got}
 use Rattle.tn_server.specs.Replies.{items_at, list_replies, table_items, replies}
 use Rattle.tn_server.specs.Terms.{options, flags, chars, terms, payload_at, chars_after}

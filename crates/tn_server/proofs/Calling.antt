@@ -19,7 +19,7 @@ use Rattle.tn_pty.specs.Terminal.{Terminal, fitting_count, output_symbols}
 use Rattle.tn_server.specs.Events.{History, next, took, wrote, pulled, wished, echo_set, mask_set}
 use Rattle.tn_server.specs.Terms.{Terms, terms, terms_by, flags, chars, settings, asked_mask, asked_mask_of, asked_mask_while, changes, mask_after, linemode}
 use Rattle.tn_server.specs.Terms.{mask_for, asks_echo, options_with_echo, wants_echo, mask_told}
-use Rattle.tn_wire.specs.Words.{differ, payload_items, mode_items}
+use Rattle.tn_linemode.specs.Words.{differ, payload_items, mode_items}
 use Rattle.tn_server.specs.Lines.{entries, taken_count}
 use Rattle.tn_server.specs.Screen.{queue, due}
 use Rattle.tn_server.specs.Replies.{items_by, echo_items, new_table_items, forward_payload}

@@ -13,7 +13,7 @@ use Rattle.tn_pty.specs.declared.pty.PtyFault.{PtyFault}
 use Rattle.tn_pty.specs.declared.pty.PtyFault.TheVariants as pty
 use Rattle.tn_server.specs.Events.{Event, History, got}
 use Rattle.tn_server.specs.Faults.{IsCause, SaysSomething}
-use Rattle.tn_wire.specs.Words.{IsList}
+use Rattle.tn_linemode.specs.Words.{IsList}
 use Rattle.tn_server.specs.Lines.{role_at, role_of_item}
 use Rattle.tn_server.specs.Replies.{replies}
 use Rattle.tn_server.specs.Calls.{End, LeadsTo}

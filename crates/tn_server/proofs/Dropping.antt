@@ -4,7 +4,7 @@ use Rattle.tn_nvt.specs.Feeding.{DecoderState, KeepsParameter, overlong, failed,
 use Rattle.tn_nvt.specs.Feeding as nvt
 use Rattle.tn_nvt.specs.declared.items.Item.{Item}
 use Rattle.tn_nvt.proofs.lemmas.Dropping.{gives_nothing, keeps_nothing}
-use Rattle.tn_wire.specs.Prefixes.{WantsMemory}
+use Rattle.tn_linemode.specs.Prefixes.{WantsMemory}
 use Rattle.tn_server.specs.Calls.{End, LeadsTo, StopsWithin, IsStopCause}
 use Rattle.tn_server.specs.Events.{History, gets}
 use Rattle.tn_server.specs.declared.faults.ServerFault.{ServerFault}

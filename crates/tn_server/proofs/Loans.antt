@@ -17,7 +17,7 @@ use Rattle.tn_server.specs.Lending.{IsSameLoan, TakesItems, RefusesItems}
 use Rattle.tn_server.specs.declared.faults.ServerFault.{ServerFault}
 use Rattle.tn_server.specs.declared.faults.ServerFault.TheVariants.{Pty, Memory, Failed, Char, NotOn}
 use Rattle.tn_server.specs.declared.taking.Lent.{Lent}
-use Rattle.tn_wire.proofs.lemmas.Cutting.{spelled_on}
+use Rattle.tn_linemode.proofs.lemmas.Cutting.{spelled_on}
 use Rattle.tn_server.proofs.Passing.{gets_none, gets_one, gets_both, stands_decoder, stops_at}
 
 -- ONE CALL

@@ -14,12 +14,12 @@ use Rattle.tn_server.specs.Replies.{replies, items_said}
 use Rattle.tn_server.specs.Terms.{payload_at}
 use Rattle.tn_server.specs.Calls.{End, LeadsTo, Advances, AdvancesAll, RefusesItem, StopsWithinItems}
 use Rattle.tn_server.specs.Steps.{IsShut, IsKeyCause, MayWantMemory, role_of_typed, end_after_byte, says_got, says_sub}
-use Rattle.tn_wire.specs.Prefixes.{AppendsPrefix}
+use Rattle.tn_linemode.specs.Prefixes.{AppendsPrefix}
 use Rattle.tn_server.specs.declared.faults.ServerFault.{ServerFault}
 use Rattle.tn_server.specs.declared.faults.ServerFault.TheVariants.{Pty, Memory}
 use Rattle.tn_server.proofs.Causes.{typed_cause, sub_cause}
 use Rattle.tn_server.proofs.Wishing.{sub_said}
-use Rattle.tn_wire.proofs.lemmas.Cutting.{added_on, spelled_on}
+use Rattle.tn_linemode.proofs.lemmas.Cutting.{added_on, spelled_on}
 use Rattle.tn_server.proofs.lemmas.Histories.{gets-append}
 use Rattle.tn_server.proofs.Standings.{replies_got}
 use Rattle.tn_server.proofs.Turning.{IsSound, sound, goes_typed}

@@ -18,7 +18,7 @@ use Rattle.tn_pty.specs.Typing.{terminal_after}
 use Rattle.tn_server.specs.Events.{History, next, got}
 use Rattle.tn_server.specs.Terms.{Terms, terms_by, mask_told, asks_echo, wants_echo, asked_mask_of, asked_mask_while, changes, mask_after, chars_after}
 use Rattle.tn_server.specs.Terms.{payload_at, wish_in, options_after, linemode, echoes, wish_after}
-use Rattle.tn_wire.specs.Words.{differ}
+use Rattle.tn_linemode.specs.Words.{differ}
 use Rattle.tn_server.specs.Lines.{role_at}
 use Rattle.tn_server.specs.Screen.{shows, size_after}
 use Rattle.tn_server.specs.Replies.{items_at, items_by, reply_items, list_replies}

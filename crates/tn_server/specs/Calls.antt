@@ -12,7 +12,7 @@ use Rattle.tn_nvt.specs.Feeding.{DecoderState, failed}
 use Rattle.tn_nvt.specs.Feeding as nvt
 use Rattle.tn_nvt.specs.declared.items.Item.{Item}
 use Rattle.tn_pty.specs.Terminal.{Terminal}
-use Rattle.tn_wire.specs.Prefixes.{WantsMemory}
+use Rattle.tn_linemode.specs.Prefixes.{WantsMemory}
 use Rattle.tn_server.specs.Events.{History, Event, next, got, gets, limit}
 use Rattle.tn_server.specs.Terms.{Terms, terms, linemode, asked_mask, mode, settings, chars}
 use Rattle.tn_server.specs.Lines.{roles, entries, taken_count}

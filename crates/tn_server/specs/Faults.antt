@@ -5,7 +5,7 @@ use Rattle.tn_discipline.specs.Keys.{gives_entry}
 use Rattle.tn_nvt.specs.declared.items.Item.{Item}
 use Rattle.tn_pty.specs.Terminal.{max_waiting}
 use Rattle.tn_pty.specs.declared.pty.PtyFault.TheVariants as pty
-use Rattle.tn_wire.specs.Words.{IsList}
+use Rattle.tn_linemode.specs.Words.{IsList}
 use Rattle.tn_server.specs.Events.{Event, got, History}
 use Rattle.tn_server.specs.Lines.{role_of_item, line, waiting}
 use Rattle.tn_server.specs.Replies.{replies}

@@ -26,7 +26,7 @@ use Rattle.tn_server.specs.Terms.{Terms, terms, options, flags, chars, linemode,
 use Rattle.tn_server.specs.Terms.{asked_mask_of, wish_after, wish_at, wants_echo, mask_told, asks_echo}
 use Rattle.tn_server.specs.Terms.{is_echo_set, chars_after}
 use Rattle.tn_server.specs.declared.wishes.Editing.{Editing}
-use Rattle.tn_wire.specs.Words.{word_items, payload_items, mode_items, list_items}
+use Rattle.tn_linemode.specs.Words.{word_items, payload_items, mode_items, list_items}
 use Rattle.tn_server.specs.Screen.{sends_ga, none_waits, due, queue}
 
 -- a wish that is refused says nothing

@@ -22,7 +22,7 @@ use Rattle.tn_pty.specs.Typing.{terminal_after, command_role, command_shows}
 use Rattle.tn_pty.specs.declared.pty.PtyFault.{PtyFault}
 use Rattle.tn_pty.specs.declared.pty.PtyFault.TheVariants as pty
 use Rattle.tn_server.specs.Events.{Event, got}
-use Rattle.tn_wire.specs.Words.{IsList, differ, word_items, mode_items}
+use Rattle.tn_linemode.specs.Words.{IsList, differ, word_items, mode_items}
 use Rattle.tn_server.specs.Terms.{Terms, terms_after, payload_at, asked_mask_of, changes, mask_after}
 use Rattle.tn_server.specs.Terms.{chars_after, echoes, linemode, options_with_echo, wants_echo, mask_for}
 use Rattle.tn_server.specs.Terms.{editing}

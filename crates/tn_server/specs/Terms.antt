@@ -15,7 +15,7 @@ use Rattle.tn_option.specs.Options.{Options, new_options, options_after_word, op
 use Rattle.tn_option.specs.Options.{is_yes}
 use Rattle.tn_option.specs.declared.negotiation.Agree.{Agree}
 use Rattle.tn_option.specs.declared.q_method.Side.TheVariants.{Us, Them}
-use Rattle.tn_wire.specs.Words.{payload_under, differ}
+use Rattle.tn_linemode.specs.Words.{payload_under, differ}
 use Rattle.tn_server.specs.Events.{Event, got, wished, char_set, echo_set, History, begun, next}
 use Rattle.tn_server.specs.declared.wishes.Editing.{Editing}
 use Rattle.tn_server.specs.declared.wishes.Editing.TheVariants.{Remote, Local}

@@ -18,7 +18,7 @@ ghost use Rattle.tn_server.specs.Steps.{role_of_typed, end_after_byte, end_after
 ghost use Rattle.tn_server.specs.Steps.{MayWantMemory, end_after_word, says_words, end_after_wish};
 ghost use Rattle.tn_server.specs.Steps.{says_wished, sends_wished, end_after_mode, says_mode_got};
 ghost use Rattle.tn_server.specs.Steps.{end_after_list, end_after_payload, says_sub};
-ghost use Rattle.tn_wire.specs.Prefixes.{AppendsPrefix};
+ghost use Rattle.tn_linemode.specs.Prefixes.{AppendsPrefix};
 
 use crate::end::ServerEnd;
 use crate::faults::ServerFault;
@@ -26,10 +26,10 @@ use crate::terms::announce;
 use crate::wishes::Editing;
 use std::alloc::AllocError;
 use tn_codes::{Command, Payload, Triples, Verb};
+use tn_linemode::{put_list, put_word, read_under};
 use tn_nvt::{Item, Params};
 use tn_option::Side;
 use tn_pty::PtyFault;
-use tn_wire::{put_list, put_word, read_under};
 
 impl ServerEnd {
     /// Takes bytes of data, one after another.

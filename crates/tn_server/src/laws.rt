@@ -27,7 +27,7 @@ ghost use Rattle.tn_server.specs.Lines.{entries, half, waiting};
 ghost use Rattle.tn_server.specs.OtherClients.{StaysRemote, opening_canon, roles_of_items, keys_of};
 ghost use Rattle.tn_server.specs.OtherClients.{IsNoCommand, line_items, AreOrdinary};
 ghost use Rattle.tn_server.specs.Bounds.{max_said, HasAllowedCharacters, max_of_calls, bytes_due};
-ghost use Rattle.tn_wire.specs.Prefixes.{IsRead};
+ghost use Rattle.tn_linemode.specs.Prefixes.{IsRead};
 ghost use Rattle.tn_server.specs.Replies.{data_of, replies, items_said};
 ghost use Rattle.tn_server.specs.Screen.{queue};
 ghost use Rattle.tn_server.specs.Calls.{End, LeadsTo, Advances, ReadsNothing, Feeds, StopsWithin};

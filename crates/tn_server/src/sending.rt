@@ -4,12 +4,11 @@ ghost use Rattle.std.specs.Prelude.{◌≡◌, ◌++◌, true, length, OnOk, OnE
 ghost use Rattle.tn_nvt.specs.Room.{LacksRoom};
 ghost use Rattle.tn_nvt.specs.Spelling.{spells};
 ghost use Rattle.tn_server.specs.Replies.{triple_items, forward_payload};
-ghost use Rattle.tn_wire.specs.Words.{payload_items};
+ghost use Rattle.tn_linemode.specs.Words.{payload_items};
 
 use std::alloc::AllocError;
 use tn_codes::{Func, Mask, Payload};
-use tn_linemode::triple_of;
-use tn_wire::{put_payload, put_triple};
+use tn_linemode::{put_payload, put_triple, triple_of};
 
 /// Appends the triple of one character, where it is to be told.
 pub(crate) fn put_char(

@@ -7,16 +7,15 @@ ghost use Rattle.tn_nvt.specs.Room.{LacksRoom};
 ghost use Rattle.tn_nvt.specs.Spelling.{spells};
 ghost use Rattle.tn_server.specs.Terms.{opening_options, linemode, echoes, options_with_echo, wants_echo};
 ghost use Rattle.tn_server.specs.Replies.{new_table_items, echo_items};
-ghost use Rattle.tn_wire.specs.Words.{list_items};
+ghost use Rattle.tn_linemode.specs.Words.{list_items};
 ghost use Rattle.tn_linemode.specs.Exchange.{announcement};
 ghost use Rattle.tn_server.specs.Steps.{told_now, masks_by, negotiation_after, negotiation_items};
-ghost use Rattle.tn_wire.specs.Prefixes.{AppendsPrefix};
+ghost use Rattle.tn_linemode.specs.Prefixes.{AppendsPrefix};
 
 use std::alloc::{AllocError, Global};
 use tn_discipline::Flags;
-use tn_linemode::{ServerMode, ServerTable};
+use tn_linemode::{ServerMode, ServerTable, put_list, put_mode, put_word};
 use tn_option::{Agree, ECHO, Engine, LINEMODE, NAWS, SUPPRESS_GO_AHEAD, Side};
-use tn_wire::{put_list, put_mode, put_word};
 
 /// The options, the masks, and the mask of the last wish that was allowed.
 #[derive(Clone, Copy)]

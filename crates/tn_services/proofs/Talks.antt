@@ -9,10 +9,10 @@ use Rattle.tn_services.specs.Joining.{Reacts}
 use Rattle.tn_services.specs.Cutting.{is_ending}
 use Rattle.tn_services.specs.Sending.{Goes, GoesLine, WritesNothing, way_after}
 use Rattle.tn_services.specs.Talks.{SendsAll, SendsTalk, due, due_from, goes_well}
-use Rattle.tn_services.specs.declared.cutting.Lines.{Lines}
+use Rattle.tn_services.specs.declared.cutting.LineFormat.{LineFormat}
 use Rattle.tn_services.specs.declared.joining.Gateway.{Gateway}
 use Rattle.tn_services.specs.declared.joining.Gateway.TheVariants as side
-use Rattle.tn_services.specs.declared.sending.Sending.{Sending}
+use Rattle.tn_services.specs.declared.sending.SendingLines.{SendingLines}
 use Rattle.tn_services.specs.declared.sending.Way.{Way}
 use Rattle.tn_services.specs.declared.sending.Way.TheVariants.{Open, Ended, Broken}
 use Rattle.tn_jobs.specs.declared.reactions.Reaction.{Reaction}
@@ -27,7 +27,7 @@ abbrev pub between : KnownWriter → KnownWriter → KnownWriting
 between before after = record { before = before; after = after }
 
 -- one entry after another, with what is known of the writer between them
-abbrev pub GoThrough : Lines → Way → KnownWriter → List Entry → Way → KnownWriter → Type 0
+abbrev pub GoThrough : LineFormat → Way → KnownWriter → List Entry → Way → KnownWriter → Type 0
 GoThrough lines old before [] new after = (new ≡ old) × (after ≡ before)
 GoThrough lines old before (entry ∷ entries) new after =
     (way : Way) × (writer : KnownWriter) × Goes lines old entry (between before writer) way
@@ -48,7 +48,7 @@ nothing_more a b c one two = record {
 }
 
 -- where the way is not open
-goes_nowhere : (lines : Lines) (old : Way) (entry : Entry) (a b : KnownWriter) (way : Way) → old ≢ Open → Goes lines old entry (between a b) way
+goes_nowhere : (lines : LineFormat) (old : Way) (entry : Entry) (a b : KnownWriter) (way : Way) → old ≢ Open → Goes lines old entry (between a b) way
     → WritesNothing (between a b) × (way ≡ old)
 goes_nowhere lines Open entry a b way shut goes = absurd (shut refl)
 goes_nowhere lines Ended (Text line) a b way shut goes = goes
@@ -62,7 +62,7 @@ goes_nowhere lines Broken (Signal Int) a b way shut goes = goes
 goes_nowhere lines Broken (Signal Quit) a b way shut goes = goes
 goes_nowhere lines Broken (Signal Tstp) a b way shut goes = goes
 
-stays_shut : (lines : Lines) (old : Way) (before : KnownWriter) (entries : List Entry) (new : Way) (after : KnownWriter) → old ≢ Open
+stays_shut : (lines : LineFormat) (old : Way) (before : KnownWriter) (entries : List Entry) (new : Way) (after : KnownWriter) → old ≢ Open
     → GoThrough lines old before entries new after → WritesNothing (between before after) × (new ≡ old)
 stays_shut lines old before [] new after shut (way_is, writer_is) =
     let P : KnownWriter → Type 0 = λ w. WritesNothing (between before w) in
@@ -91,7 +91,7 @@ sent_as bytes before after way new is wrote tells =
     subst P (sym is) (record { wrote = wrote; tells = tells })
 
 -- the end of file, an interrupt or a quit
-ends : (lines : Lines) (before writer : KnownWriter) (entries : List Entry) (way new : Way) (after : KnownWriter) → WritesNothing (between before writer)
+ends : (lines : LineFormat) (before writer : KnownWriter) (entries : List Entry) (way new : Way) (after : KnownWriter) → WritesNothing (between before writer)
     → way ≡ Ended → GoThrough lines way writer entries new after → Sent [] before after new
 ends lines before writer entries way new after nothing is rest =
     let Q : Way → Type 0 = λ w. GoThrough lines w writer entries new after in
@@ -100,7 +100,7 @@ ends lines before writer entries way new after nothing is rest =
     sent_as [] before after Ended new later.1 both.0 both.1
 
 -- a line, of which the first bytes went
-breaks : (lines : Lines) (line more : List ℕ) (before writer : KnownWriter) (entries : List Entry) (way new : Way) (after : KnownWriter)
+breaks : (lines : LineFormat) (line more : List ℕ) (before writer : KnownWriter) (entries : List Entry) (way new : Way) (after : KnownWriter)
     → Writes false before.bytes writer.bytes line → Tells false before.calls writer.calls → way ≡ Broken → GoThrough lines way writer entries new after
     → Sent (line ++ more) before after new
 breaks lines line more before writer entries way new after wrote tells is rest =
@@ -120,7 +120,7 @@ goes_on line more before writer after new wrote tells rest = record {
 }
 
 -- a line, and then what is due of the other entries
-line_due : (lines : Lines) (line more : List ℕ) (before writer : KnownWriter) (entries : List Entry) (way new : Way) (after : KnownWriter) (whole : Bool)
+line_due : (lines : LineFormat) (line more : List ℕ) (before writer : KnownWriter) (entries : List Entry) (way new : Way) (after : KnownWriter) (whole : Bool)
     → Writes whole before.bytes writer.bytes line → Tells whole before.calls writer.calls → way ≡ way_after whole → GoThrough lines way writer entries new after
     → (GoThrough lines Open writer entries new after → Sent more writer after new) → Sent (line ++ more) before after new
 line_due lines line more before writer entries way new after true wrote tells is rest others =
@@ -130,7 +130,7 @@ line_due lines line more before writer entries way new after false wrote tells i
     breaks lines line more before writer entries way new after wrote tells is rest
 
 -- a line that ends the session, or goes
-open_line : (lines : Lines) (ending : Bool) (line more : List ℕ) (before writer : KnownWriter) (entries : List Entry) (way new : Way) (after : KnownWriter)
+open_line : (lines : LineFormat) (ending : Bool) (line more : List ℕ) (before writer : KnownWriter) (entries : List Entry) (way new : Way) (after : KnownWriter)
     → GoesLine ending line (between before writer) way → GoThrough lines way writer entries new after
     → (GoThrough lines Open writer entries new after → Sent more writer after new) → Sent (due_from ending line more) before after new
 open_line lines true line more before writer entries way new after (nothing, is) rest others =
@@ -138,7 +138,7 @@ open_line lines true line more before writer entries way new after (nothing, is)
 open_line lines false line more before writer entries way new after goes rest others =
     line_due lines line more before writer entries way new after goes.whole goes.wrote goes.tells goes.leaves rest others
 
-pub all_due : (lines : Lines) (before : KnownWriter) (entries : List Entry) (new : Way) (after : KnownWriter) → GoThrough lines Open before entries new after
+pub all_due : (lines : LineFormat) (before : KnownWriter) (entries : List Entry) (new : Way) (after : KnownWriter) → GoThrough lines Open before entries new after
     → Sent (due lines entries) before after new
 all_due lines before [] new after (way_is, writer_is) =
     let P : KnownWriter → Type 0 = λ w. WritesNothing (between before w) in
@@ -162,20 +162,20 @@ all_due lines before (Signal Tstp ∷ entries) new after (way, writer, goes, res
 -- THE TALK OF THE JOB
 
 module _ {R W : Type 0} (contents : W → Option (List ℕ)) (told : W → Option Calls) where
-  abbrev pub Through : Sending W → List Entry → Gateway R W → Type 0
+  abbrev pub Through : SendingLines W → List Entry → Gateway R W → Type 0
   Through first entries (side.Sends last) =
       GoThrough first.lines first.way (known_writer contents told first.writer) entries last.way (known_writer contents told last.writer)
   Through first entries (side.Shows last) = ⊥
 
-  one_more : (first mid : Sending W) (entry : Entry) (entries : List Entry) (last : Gateway R W)
+  one_more : (first mid : SendingLines W) (entry : Entry) (entries : List Entry) (last : Gateway R W)
       → Goes first.lines first.way entry (known_writing contents told first.writer mid.writer) mid.way → mid.lines ≡ first.lines → Through mid entries last
       → Through first (entry ∷ entries) last
   one_more first mid entry entries (side.Sends last) goes same rest =
-      let P : Lines → Type 0 = λ e. GoThrough e mid.way (known_writer contents told mid.writer) entries last.way (known_writer contents told last.writer) in
+      let P : LineFormat → Type 0 = λ e. GoThrough e mid.way (known_writer contents told mid.writer) entries last.way (known_writer contents told last.writer) in
       (mid.way, known_writer contents told mid.writer, goes, subst P same rest)
   one_more first mid entry entries (side.Shows last) goes same rest = absurd rest
 
-  through : (first : Sending W) (turns : List (Entry × Reaction)) (last : Gateway R W) → Answers (Reacts {R = R} contents told) (side.Sends first) turns last
+  through : (first : SendingLines W) (turns : List (Entry × Reaction)) (last : Gateway R W) → Answers (Reacts {R = R} contents told) (side.Sends first) turns last
       → Through first (map (λ turn. turn.0) turns) last
   through first [] last is =
       let P : Gateway R W → Type 0 = λ g. Through first [] g in subst P is (refl, refl)
@@ -183,14 +183,14 @@ module _ {R W : Type 0} (contents : W → Option (List ℕ)) (told : W → Optio
       one_more first mid turn.0 (map (λ turn. turn.0) turns) last one.goes one.lines (through mid turns last rest)
   through first (turn ∷ turns) last (side.Shows mid, one, rest) = absurd one
 
-  talk : (first : Sending W) (entries : List Entry) (last : Gateway R W) → first.way ≡ Open → Through first entries last
+  talk : (first : SendingLines W) (entries : List Entry) (last : Gateway R W) → first.way ≡ Open → Through first entries last
       → SendsTalk {R = R} contents told first entries last
   talk first entries (side.Sends last) way_is all =
       let P : Way → Type 0 = λ w. GoThrough first.lines w (known_writer contents told first.writer) entries last.way (known_writer contents told last.writer) in
       all_due first.lines (known_writer contents told first.writer) entries last.way (known_writer contents told last.writer) (subst P way_is all)
   talk first entries (side.Shows last) way_is all = absurd all
 
-  pub in_order : (first : Sending W) (turns : List (Entry × Reaction)) (last : Gateway R W) → first.way ≡ Open
+  pub in_order : (first : SendingLines W) (turns : List (Entry × Reaction)) (last : Gateway R W) → first.way ≡ Open
       → Answers (Reacts {R = R} contents told) (side.Sends first) turns last → SendsTalk {R = R} contents told first (map (λ turn. turn.0) turns) last
   in_order first turns last way_is answers =
       talk first (map (λ turn. turn.0) turns) last way_is (through first turns last answers)

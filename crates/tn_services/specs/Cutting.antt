@@ -1,7 +1,7 @@
 -- Which lines may have been cut at the terminal's limit, and what comes of them.
 use Rattle.std.specs.Prelude.{ℕ, ◌+◌, ◌-◌, ◌==◌, ◌&&◌, nat_le, Bool, Option, Some, None, List, length}
 use Rattle.std.specs.Prelude.{slice_get, if◌then◌else◌}
-use Rattle.tn_services.specs.declared.cutting.Lines.{Lines}
+use Rattle.tn_services.specs.declared.cutting.LineFormat.{LineFormat}
 
 -- how many bytes a line that ends by this one has less than with a line feed: an end of file closes it with
 -- none
@@ -14,5 +14,5 @@ abbrev pub is_full : ℕ → List ℕ → Bool
 is_full limit line = nat_le limit (length line + missing (slice_get line (length line - 1)))
 
 -- the line ends the session
-abbrev pub is_ending : Lines → List ℕ → Bool
+abbrev pub is_ending : LineFormat → List ℕ → Bool
 is_ending lines line = lines.ends_cut && is_full lines.limit line

@@ -3,7 +3,7 @@ use Rattle.std.specs.Prelude.{◌≡◌, ℕ, ◌+◌, false, Option, Some, None
 use Rattle.tn_discipline.specs.declared.reads.Entry.{Entry}
 use Rattle.tn_services.specs.Sending.{SendsEntry, WantsMemory, silent}
 use Rattle.tn_services.specs.Showing.{Shows}
-use Rattle.tn_services.specs.declared.cutting.Lines.{Lines}
+use Rattle.tn_services.specs.declared.cutting.LineFormat.{LineFormat}
 use Rattle.tn_services.specs.declared.joining.Gateway.{Gateway}
 use Rattle.tn_services.specs.declared.joining.Gateway.TheVariants as side
 use Rattle.tn_services.specs.declared.makers.Gateways.{Gateways}
@@ -32,13 +32,13 @@ GivesSide left (side.Sends sending) = Unit {0}
 GivesSide left (side.Shows showing) = left ≡ 1
 
 -- it has the reader or the writer that was there for it, and its lines go so
-abbrev pub GivesPart : {R W : Type 0} → Option R → Option W → Lines → Gateway R W → Type 0
+abbrev pub GivesPart : {R W : Type 0} → Option R → Option W → LineFormat → Gateway R W → Type 0
 GivesPart reader writer lines (side.Sends sending) =
     (writer ≡ Some sending.writer) × (sending.lines ≡ lines)
 GivesPart reader writer lines (side.Shows showing) = reader ≡ Some showing.reader
 
 -- where its connection was still to be made, such a writer is its, and its lines go so
-abbrev pub GivesReached : {R W A : Type 0} → (W → Type 0) → Lines → Option A → Gateway R W → Type 0
+abbrev pub GivesReached : {R W A : Type 0} → (W → Type 0) → LineFormat → Option A → Gateway R W → Type 0
 GivesReached reached lines (Some hook) (side.Sends sending) =
     reached sending.writer × (sending.lines ≡ lines)
 GivesReached reached lines (Some hook) (side.Shows showing) = Unit {0}

@@ -5,8 +5,8 @@ use Rattle.tn_discipline.specs.declared.reads.Entry.{Entry}
 use Rattle.tn_discipline.specs.declared.reads.Entry.TheVariants.{Text, Eof, Signal}
 use Rattle.tn_discipline.specs.declared.reads.Sig.TheVariants.{Int, Quit, Tstp}
 use Rattle.tn_services.specs.Cutting.{is_ending}
-use Rattle.tn_services.specs.declared.cutting.Lines.{Lines}
-use Rattle.tn_services.specs.declared.sending.Sending.{Sending}
+use Rattle.tn_services.specs.declared.cutting.LineFormat.{LineFormat}
+use Rattle.tn_services.specs.declared.sending.SendingLines.{SendingLines}
 use Rattle.tn_services.specs.declared.sending.Way.{Way}
 use Rattle.tn_services.specs.declared.sending.Way.TheVariants.{Open, Ended, Broken}
 use Rattle.tn_jobs.specs.declared.reactions.Reaction.{Reaction}
@@ -29,7 +29,7 @@ line_answer true = say (codes "line cut\n") Done
 line_answer false = silent Stay
 
 -- The user is told only that a line behind the end of file goes nowhere, and of one that ends the session.
-abbrev pub answer : Lines → Way → Entry → Reaction
+abbrev pub answer : LineFormat → Way → Entry → Reaction
 answer lines Open (Text line) = line_answer (is_ending lines line)
 answer lines Ended (Text line) = say (codes "closed\n") Stay
 answer lines Broken (Text line) = silent Stay
@@ -66,7 +66,7 @@ GoesLine true bytes writer new = WritesNothing writer × (new ≡ Ended)
 GoesLine false bytes writer new = WritesBytes bytes writer new
 
 -- what goes to the service at an entry, and how the way there stands before and after it
-abbrev pub Goes : Lines → Way → Entry → KnownWriting → Way → Type 0
+abbrev pub Goes : LineFormat → Way → Entry → KnownWriting → Way → Type 0
 Goes lines Open (Text line) writer new =
     GoesLine (is_ending lines line) (line_said lines.line_end line) writer new
 Goes lines Ended (Text line) writer new = WritesNothing writer × (new ≡ Ended)
@@ -78,12 +78,12 @@ Goes lines old (Signal Tstp) writer new = WritesNothing writer × (new ≡ old)
 
 -- one entry was answered, with a writer of which this is known
 pub record SendsEntry {W : Type 0} (contents : W → Option (List ℕ)) (told : W → Option Calls)
-    (old : Sending W) (entry : Entry) (reaction : Reaction) (new : Sending W) : Type 0 where
+    (old : SendingLines W) (entry : Entry) (reaction : Reaction) (new : SendingLines W) : Type 0 where
   pub says : reaction ≡ answer old.lines old.way entry
   pub goes : Goes old.lines old.way entry (known_writing contents told old.writer new.writer) new.way
   pub lines : new.lines ≡ old.lines
 
 -- memory may be wanted for a line that goes to the service, and for telling that one goes nowhere
-abbrev pub WantsMemory : {W : Type 0} → Sending W → Entry → Type 0
+abbrev pub WantsMemory : {W : Type 0} → SendingLines W → Entry → Type 0
 WantsMemory sending (Text line) = sending.way ≢ Broken
 WantsMemory sending entry = ⊥

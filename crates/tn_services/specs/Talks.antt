@@ -8,10 +8,10 @@ use Rattle.tn_discipline.specs.declared.reads.Sig.TheVariants.{Int, Quit, Tstp}
 use Rattle.tn_services.specs.Cutting.{is_ending}
 use Rattle.tn_services.specs.NewLines.{shown_of, waiting}
 use Rattle.tn_services.specs.Showing.{IsToFail}
-use Rattle.tn_services.specs.declared.cutting.Lines.{Lines}
+use Rattle.tn_services.specs.declared.cutting.LineFormat.{LineFormat}
 use Rattle.tn_services.specs.declared.joining.Gateway.{Gateway}
 use Rattle.tn_services.specs.declared.joining.Gateway.TheVariants as side
-use Rattle.tn_services.specs.declared.sending.Sending.{Sending}
+use Rattle.tn_services.specs.declared.sending.SendingLines.{SendingLines}
 use Rattle.tn_services.specs.declared.sending.Way.{Way}
 use Rattle.tn_services.specs.declared.sending.Way.TheVariants.{Open, Ended, Broken}
 use Rattle.tn_services.specs.declared.showing.Showing.{Showing}
@@ -31,7 +31,7 @@ due_from false bytes more = bytes ++ more
 
 -- what is due to the service: each line once, in order, up to the end of file, an interrupt or a quit, or to
 -- a line that ends the session
-abbrev pub due : Lines → List Entry → List ℕ
+abbrev pub due : LineFormat → List Entry → List ℕ
 due lines [] = []
 due lines (Text line ∷ entries) =
     due_from (is_ending lines line) (line_said lines.line_end line) (due lines entries)
@@ -53,7 +53,7 @@ pub record SendsAll (bytes : List ℕ) (writer : KnownWriting) (way : Way) : Typ
 
 -- these entries with their answers led the job in the foreground here
 abbrev pub SendsTalk : {R W : Type 0} → (W → Option (List ℕ)) → (W → Option Calls)
-    → Sending W → List Entry → Gateway R W → Type 0
+    → SendingLines W → List Entry → Gateway R W → Type 0
 SendsTalk contents told first entries (side.Sends last) =
     SendsAll (due first.lines entries) (known_writing contents told first.writer last.writer) last.way
 SendsTalk contents told first entries (side.Shows last) = ⊥

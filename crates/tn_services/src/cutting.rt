@@ -14,7 +14,7 @@ pub trait HearsCut {
 
 /// How lines go to a service.
 #[derive(Clone, Copy, Debug, PartialEq, Eq)]
-pub struct Lines {
+pub struct LineFormat {
     /// What ends each of them there.
     pub line_end: LineEnd,
     /// The limit of the terminal that they are edited for.
@@ -23,7 +23,7 @@ pub struct Lines {
     pub ends_cut: bool,
 }
 
-impl Lines {
+impl LineFormat {
     // Whether a line is as long as one may be. A terminal drops what is typed behind that, wherever the line
     // is edited, and so one that was typed to that length looks the same.
     pub(crate) fn is_full(self, line: &[u8]) -> bool

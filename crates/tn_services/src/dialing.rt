@@ -8,7 +8,7 @@ ghost use Rattle.tn_services.specs.Joining.{count};
 ghost use Rattle.tn_network.specs.Asked.{Reaches};
 ghost use Rattle.tn_sockets.specs.Passing.{HandsOn};
 
-use crate::cutting::{HearsCut, Lines};
+use crate::cutting::{HearsCut, LineFormat};
 use crate::joining::Gateway;
 use crate::makers::Gateways;
 use std::alloc::{AllocError, Global};
@@ -65,15 +65,22 @@ pub struct Joiner<H, N> {
     rt: H,
     host: String,
     port: u16,
-    lines: Lines,
+    lines: LineFormat,
     hook: Option<(Hook, N)>,
-    jobs: Option<Gateways<Heard<H, TcpStream>, Told<H, TcpStream, N>>>,
+    jobs: Option<Gateways<ServiceReader<H, TcpStream>, ServiceWriter<H, TcpStream, N>>>,
 }
 
 impl<H, N> Joiner<H, N> {
     /// Jobs that are joined to the service at this host and port, hang up by this hook where it ends, and
     /// tell `notes` of lines that may have been cut.
-    pub fn new(rt: H, host: String, port: u16, lines: Lines, hook: Hook, notes: N) -> Joiner<H, N>
+    pub fn new(
+        rt: H,
+        host: String,
+        port: u16,
+        lines: LineFormat,
+        hook: Hook,
+        notes: N,
+    ) -> Joiner<H, N>
         ensures rt { result.rt ≡ rt }
         ensures host { result.host ≡ host }
         ensures port { result.port ≡ port }
@@ -118,7 +125,7 @@ impl<H: Copy + Network + Wait, N: Drop> Joiner<H, N> {
         alloc: Global,
         hook: Hook,
         notes: N,
-    ) -> Result<Gateways<Heard<H, TcpStream>, Told<H, TcpStream, N>>, AllocError>
+    ) -> Result<Gateways<ServiceReader<H, TcpStream>, ServiceWriter<H, TcpStream, N>>, AllocError>
         ensures both { IfOk result (λ jobs. count jobs.writer + count jobs.reader ≡ 2) }
         ensures lines { IfOk result (λ jobs. jobs.lines ≡ self.now.lines) }
         ensures reached { IfOk result (λ jobs. IfSome jobs.writer (λ told. IsReached
@@ -132,14 +139,14 @@ impl<H: Copy + Network + Wait, N: Drop> Joiner<H, N> {
         };
         hook.hold();
         let said_all = Arc::new(alloc, AtomicBool::new(false))?;
-        let writer = Told {
+        let writer = ServiceWriter {
             rt,
             stream: told,
             hook: hook.another()?,
             said_all: Arc::try_clone(&said_all)?,
             notes,
         };
-        let reader = Heard {
+        let reader = ServiceReader {
             rt,
             stream: heard,
             words: UNREACHED,
@@ -157,7 +164,7 @@ impl<H: Copy + Network + Wait, N: HearsCut + Drop> Maker for Joiner<H, N> {
     ghost use Rattle.tn_services.specs.Joining.{GivesReached, GivesSide, left_to_make};
     ghost use Rattle.tn_network.specs.Asked.{Reaches};
 
-    type Job = Gateway<Heard<H, TcpStream>, Told<H, TcpStream, N>>;
+    type Job = Gateway<ServiceReader<H, TcpStream>, ServiceWriter<H, TcpStream, N>>;
 
     ghost left = { λ joiner. Some (left_to_make joiner.hook joiner.jobs) };
 
@@ -168,7 +175,10 @@ impl<H: Copy + Network + Wait, N: HearsCut + Drop> Maker for Joiner<H, N> {
     fn next(
         &mut self,
         alloc: Global,
-    ) -> Result<Option<Gateway<Heard<H, TcpStream>, Told<H, TcpStream, N>>>, AllocError> {
+    ) -> Result<
+        Option<Gateway<ServiceReader<H, TcpStream>, ServiceWriter<H, TcpStream, N>>>,
+        AllocError,
+    > {
         if let Some((hook, notes)) = self.hook.take() {
             self.jobs = Some(self.join(alloc, hook, notes)?);
         }
@@ -186,7 +196,7 @@ impl<H: Copy + Network + Wait, N: HearsCut + Drop> Maker for Joiner<H, N> {
 /// return a read is interrupted where nothing comes soon, so that one by itself does not wait for what
 /// comes next.
 #[derive(Drop)]
-pub struct Heard<H, S> {
+pub struct ServiceReader<H, S> {
     rt: H,
     stream: Option<S>,
     /// What is read where the service was not reached.
@@ -226,7 +236,7 @@ fn hear<H: Wait, S: Read>(
     Ok(0)
 }
 
-impl<H: Copy + Wait, S: Drop + Read + Pacing> Heard<H, S> {
+impl<H: Copy + Wait, S: Drop + Read + Pacing> ServiceReader<H, S> {
     fn hear(&mut self, buf: &mut [u8]) -> io::Result<usize>
         ensures bound { ReadsAtMost result buf.new }
         ensures hands_on { HandsOn (bytes_left S.remaining self.old.stream self.old.words.now)
@@ -253,7 +263,7 @@ impl<H: Copy + Wait, S: Drop + Read + Pacing> Heard<H, S> {
     }
 }
 
-impl<H: Copy + Wait, S: Drop + Read + Pacing> Read for Heard<H, S> {
+impl<H: Copy + Wait, S: Drop + Read + Pacing> Read for ServiceReader<H, S> {
     fn read(&mut self, buf: &mut [u8]) -> io::Result<usize>
         ensures bound { ReadsAtMost result buf.new }
         ensures bytes { ReadConsumes None None result buf.new }
@@ -273,7 +283,7 @@ impl<H: Copy + Wait, S: Drop + Read + Pacing> Read for Heard<H, S> {
 /// What the service is told. Where the session is over, or the service has said all, one that takes nothing
 /// is given up in time.
 #[derive(Drop)]
-pub struct Told<H, S, N> {
+pub struct ServiceWriter<H, S, N> {
     rt: H,
     stream: Option<S>,
     hook: Hook,
@@ -314,7 +324,7 @@ fn tell<H: Wait, S: Write>(
     Err(io::Error::from(ErrorKind::BrokenPipe))
 }
 
-impl<H: Copy + Wait, S: Drop + Write, N: Drop> Write for Told<H, S, N> {
+impl<H: Copy + Wait, S: Drop + Write, N: Drop> Write for ServiceWriter<H, S, N> {
     ghost contents = { λ told. bytes_held S.Write.contents told.stream };
 
     fn write(&mut self, buf: &[u8]) -> io::Result<usize> {
@@ -329,7 +339,7 @@ impl<H: Copy + Wait, S: Drop + Write, N: Drop> Write for Told<H, S, N> {
     }
 }
 
-impl<H: Copy + Wait, S: Drop + Write + Closing, N: Drop> Finish for Told<H, S, N> {
+impl<H: Copy + Wait, S: Drop + Write + Closing, N: Drop> Finish for ServiceWriter<H, S, N> {
     fn finish(&mut self) {
         if let Some(stream) = &self.stream {
             stream.close(Shutdown::Write);
@@ -337,7 +347,7 @@ impl<H: Copy + Wait, S: Drop + Write + Closing, N: Drop> Finish for Told<H, S, N
     }
 }
 
-impl<H, S, N: HearsCut> HearsCut for Told<H, S, N> {
+impl<H, S, N: HearsCut> HearsCut for ServiceWriter<H, S, N> {
     fn hear_cut(&self, bytes: usize) {
         self.notes.hear_cut(bytes);
     }

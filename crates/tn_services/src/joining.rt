@@ -3,7 +3,7 @@
 ghost use Rattle.std.specs.Prelude.{◌≡◌};
 
 use crate::cutting::HearsCut;
-use crate::sending::{Sending, silent};
+use crate::sending::{SendingLines, silent};
 use crate::showing::Showing;
 use std::alloc::{AllocError, Global};
 use tn_discipline::Entry;
@@ -15,7 +15,7 @@ use tn_streams::Source;
 #[derive(Drop)]
 pub enum Gateway<R, W> {
     /// The job in the foreground.
-    Sends(Sending<W>),
+    Sends(SendingLines<W>),
     /// The job in the background.
     Shows(Showing<R>),
 }

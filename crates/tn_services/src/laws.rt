@@ -9,7 +9,7 @@ ghost use Rattle.tn_services.specs.Talks.{SendsTalk, ShowsTalk};
 ghost use Rattle.tn_services.specs.declared.answering.Answerer.{Answerer};
 ghost use Rattle.tn_services.specs.declared.joining.Gateway.{Gateway};
 ghost use Rattle.tn_services.specs.declared.joining.Gateway.TheVariants as side;
-ghost use Rattle.tn_services.specs.declared.sending.Sending.{Sending};
+ghost use Rattle.tn_services.specs.declared.sending.SendingLines.{SendingLines};
 ghost use Rattle.tn_services.specs.declared.sending.Way.TheVariants.{Open};
 ghost use Rattle.tn_services.specs.declared.showing.Showing.{Showing};
 ghost use Rattle.tn_jobs.specs.declared.reactions.Reaction.{Reaction};
@@ -21,7 +21,7 @@ use tn_streams::Source;
 /// The service gets each line of the entries that were answered, once and in order, with the line end that
 /// was chosen, and nothing else; where a write failed, the first bytes of that.
 pub fn lines_go_in_order<R: Source, W: Finish>()
-    ensures { (first : Sending W) (turns : List (Entry × Reaction)) (last : Gateway R W) → first.way ≡ Open
+    ensures { (first : SendingLines W) (turns : List (Entry × Reaction)) (last : Gateway R W) → first.way ≡ Open
         → Answers (Reacts W.contents W.told) (side.Sends first) turns last
         → SendsTalk W.contents W.told first (map (λ turn. turn.0) turns) last }
 {}

@@ -16,11 +16,11 @@
 
 pub use answerers::Answerers;
 pub use answering::Answerer;
-pub use cutting::{HearsCut, Lines};
-pub use dialing::{Heard, Joiner, Pacing, Told};
+pub use cutting::{HearsCut, LineFormat};
+pub use dialing::{Joiner, Pacing, ServiceReader, ServiceWriter};
 pub use joining::Gateway;
 pub use makers::Gateways;
-pub use sending::{Sending, Way};
+pub use sending::{SendingLines, Way};
 pub use showing::Showing;
 pub use tn_lines::LineEnd;
 pub use writing::write_whole;

@@ -2,9 +2,9 @@
 
 ghost use Rattle.std.specs.Prelude.{◌≡◌, Some};
 
-use crate::cutting::{HearsCut, Lines};
+use crate::cutting::{HearsCut, LineFormat};
 use crate::joining::Gateway;
-use crate::sending::{Sending, Way};
+use crate::sending::{SendingLines, Way};
 use crate::showing::Showing;
 use std::alloc::{AllocError, Global};
 use tn_session::{Finish, Maker};
@@ -16,12 +16,12 @@ use tn_streams::Source;
 pub struct Gateways<R, W> {
     reader: Option<R>,
     writer: Option<W>,
-    lines: Lines,
+    lines: LineFormat,
 }
 
 impl<R, W> Gateways<R, W> {
     /// Jobs that read what the service says by the reader, and write lines to it by the writer.
-    pub fn new(reader: R, writer: W, lines: Lines) -> Gateways<R, W>
+    pub fn new(reader: R, writer: W, lines: LineFormat) -> Gateways<R, W>
         ensures reader { result.reader ≡ Some reader }
         ensures writer { result.writer ≡ Some writer }
         ensures lines { result.lines ≡ lines }
@@ -47,7 +47,7 @@ impl<R: Source + Drop, W: Finish + HearsCut + Drop> Maker for Gateways<R, W> {
 
     fn next(&mut self, _alloc: Global) -> Result<Option<Gateway<R, W>>, AllocError> {
         if let Some(writer) = self.writer.take() {
-            return Ok(Some(Gateway::Sends(Sending {
+            return Ok(Some(Gateway::Sends(SendingLines {
                 writer,
                 lines: self.lines,
                 way: Way::Open,

@@ -6,7 +6,7 @@ ghost use Rattle.tn_services.specs.Sending.{silent, way_after};
 ghost use Rattle.tn_lines.specs.LineEnds.{line_said};
 ghost use Rattle.tn_streams.specs.Known.{known_writing};
 
-use crate::cutting::{HearsCut, Lines};
+use crate::cutting::{HearsCut, LineFormat};
 use crate::line_ends::line_sent;
 use crate::writing::write_whole;
 use std::alloc::{AllocError, Global};
@@ -26,13 +26,13 @@ pub enum Way {
 
 /// Sends each line to the service.
 #[derive(Drop)]
-pub struct Sending<W> {
+pub struct SendingLines<W> {
     pub(crate) writer: W,
-    pub(crate) lines: Lines,
+    pub(crate) lines: LineFormat,
     pub(crate) way: Way,
 }
 
-impl<W: Finish + HearsCut> Sending<W> {
+impl<W: Finish + HearsCut> SendingLines<W> {
     /// Answers an entry: a line goes to the service, or ends the session where it may have been cut and that
     /// is wanted, the end of file ends what goes there, an interrupt and a quit end the session too, and a
     /// stop does nothing. Out of memory nothing is sent.

@@ -7,8 +7,8 @@ use Rattle.tn_session.specs.Turns.{messages_of}
 use Rattle.tn_session.specs.declared.mail.Mail.{Mail}
 use Rattle.tn_session.specs.declared.mail.Sender.{Sender}
 use Rattle.tn_machines.specs.server.Marks.{no_write_failed, no_writes_failed}
-use Rattle.tn_machines.specs.declared.server.messages.Mark.{Mark}
-use Rattle.tn_machines.specs.declared.server.messages.Mark.TheVariants as mark
+use Rattle.tn_machines.specs.declared.server.messages.ServerMark.{ServerMark}
+use Rattle.tn_machines.specs.declared.server.messages.ServerMark.TheVariants as mark
 use Rattle.tn_streams.specs.declared.control.Control.{Control}
 use Rattle.tn_streams.specs.declared.window.WindowSize.{WindowSize}
 use Rattle.tn_machines.specs.declared.messages.Message.{Message}
@@ -77,10 +77,10 @@ never_and true b e = e
 never_and false b e = refl
 
 -- one of these messages was not written
-pub write_failed : (marked before : List (Message × Mark)) (last : Message × Mark) (after : List (Message × Mark)) → marked ≡ before ++ last ∷ after
+pub write_failed : (marked before : List (Message × ServerMark)) (last : Message × ServerMark) (after : List (Message × ServerMark)) → marked ≡ before ++ last ∷ after
     → last.1 ≡ mark.WriteFailed → no_writes_failed marked ≡ false
 write_failed marked before last after whole e = ap no_writes_failed whole ∙ at before
   where
-    at : (front : List (Message × Mark)) → no_writes_failed (front ++ last ∷ after) ≡ false
-    at [] = ap (λ (k : Mark). no_write_failed k && no_writes_failed after) e
+    at : (front : List (Message × ServerMark)) → no_writes_failed (front ++ last ∷ after) ≡ false
+    at [] = ap (λ (k : ServerMark). no_write_failed k && no_writes_failed after) e
     at (m ∷ ms) = never_and (no_write_failed m.1) (no_writes_failed (ms ++ last ∷ after)) (at ms)

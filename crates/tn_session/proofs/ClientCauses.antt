@@ -3,7 +3,7 @@ use Rattle.std.proofs.Common.{◌≡◌, ℕ, Bool, false, ◌&&◌, ◌⊎◌, 
 use Rattle.tn_machines.specs.client.Ending.{IsEndedAt}
 use Rattle.tn_machines.specs.client.Marks.{no_write_failed, no_show_failed, all_by}
 use Rattle.tn_machines.specs.client.Run.{Run}
-use Rattle.tn_machines.specs.declared.client.messages.Mark.{Mark}
+use Rattle.tn_machines.specs.declared.client.messages.ClientMark.{ClientMark}
 use Rattle.tn_machines.specs.declared.client.messages.Told.{Told}
 use Rattle.tn_session.proofs.Causes.{HasFailure, has_split, failure_from, failure_last, failure_never, never_and}
 use Rattle.tn_session.proofs.Ending.{messages_from}
@@ -30,16 +30,16 @@ messages_told [] = refl
 messages_told (x ∷ xs) = ap (λ (ms : List Message). x.message ∷ ms) (messages_told xs)
 
 -- the message in which the run ended, of those that were handled
-failure_told : (marked before : List (Told × Mark)) (last : Told × Mark) (after : List (Told × Mark)) (mails : List Mail) → marked ≡ before ++ last ∷ after
+failure_told : (marked before : List (Told × ClientMark)) (last : Told × ClientMark) (after : List (Told × ClientMark)) (mails : List Mail) → marked ≡ before ++ last ∷ after
     → map (λ m. m.0) marked ≡ all_told mails → last.0.message ≡ ReadFailed → HasFailure (messages_of mails)
 failure_told marked before last after mails whole is e =
-    let told = has_split (λ (m : Told × Mark). m.0.message) before last after e in
-    let all : HasFailure (map (λ (m : Told × Mark). m.0.message) marked) =
-    subst (λ (ms : List (Told × Mark)). HasFailure (map (λ (m : Told × Mark). m.0.message) ms)) (sym whole) told in
-    let same : map (λ (m : Told × Mark). m.0.message) marked ≡ messages_of mails = twice marked ∙ ap (map (λ (t : Told). t.message)) is ∙ messages_told mails in
+    let told = has_split (λ (m : Told × ClientMark). m.0.message) before last after e in
+    let all : HasFailure (map (λ (m : Told × ClientMark). m.0.message) marked) =
+    subst (λ (ms : List (Told × ClientMark)). HasFailure (map (λ (m : Told × ClientMark). m.0.message) ms)) (sym whole) told in
+    let same : map (λ (m : Told × ClientMark). m.0.message) marked ≡ messages_of mails = twice marked ∙ ap (map (λ (t : Told). t.message)) is ∙ messages_told mails in
     subst HasFailure same all
   where
-    twice : (ms : List (Told × Mark)) → map (λ (m : Told × Mark). m.0.message) ms ≡ map (λ (t : Told). t.message) (map (λ m. m.0) ms)
+    twice : (ms : List (Told × ClientMark)) → map (λ (m : Told × ClientMark). m.0.message) ms ≡ map (λ (t : Told). t.message) (map (λ m. m.0) ms)
     twice [] = refl
     twice (m ∷ ms) = ap (λ (xs : List Message). m.0.message ∷ xs) (twice ms)
 
@@ -56,7 +56,7 @@ close_cause may_stop foretold told left close closes h =
     closes
 
 pub read_cause : (stopped : Bool) (keys_reader net_reader : KnownReader) (from_keys from_net handled : List Mail) (keys net : View)
-    (marked : List (Told × Mark)) → keys ≡ sender Keys from_keys → net ≡ sender Net from_net → Interleaves handled (four from_net [] [] from_keys)
+    (marked : List (Told × ClientMark)) → keys ≡ sender Keys from_keys → net ≡ sender Net from_net → Interleaves handled (four from_net [] [] from_keys)
     → (typed : ReaderSends Keys stopped keys_reader keys) → (read : ReaderSends Net false net_reader net) → map (λ m. m.0) marked ≡ all_told handled → (c : Run)
     → IsEndedAt c marked (ended.Fault fault.Read) → WillFail max_reads (length (pieces_in typed.0)) keys_reader.failures
     ⊎ WillFail max_reads (length (pieces_in read.0)) net_reader.failures
@@ -77,15 +77,15 @@ read_cause stopped keys_reader net_reader from_keys from_net handled keys net ma
     by Back h = absurd (none Back (woven Back) h)
 
 -- a mark that says otherwise
-by_false : (is : Mark → Bool) (marked before : List (Told × Mark)) (last : Told × Mark) (after : List (Told × Mark)) → marked ≡ before ++ last ∷ after
+by_false : (is : ClientMark → Bool) (marked before : List (Told × ClientMark)) (last : Told × ClientMark) (after : List (Told × ClientMark)) → marked ≡ before ++ last ∷ after
     → is last.1 ≡ false → all_by is marked ≡ false
 by_false is marked before last after whole e = ap (all_by is) whole ∙ at before
   where
-    at : (front : List (Told × Mark)) → all_by is (front ++ last ∷ after) ≡ false
+    at : (front : List (Told × ClientMark)) → all_by is (front ++ last ∷ after) ≡ false
     at [] = ap (λ (b : Bool). b && all_by is after) e
     at ((m, k) ∷ ms) = never_and (is k) (all_by is (ms ++ last ∷ after)) (at ms)
 
-pub write_cause : (p q r t : Option Calls) (marked : List (Told × Mark)) → Tells (all_by no_write_failed marked) p q → Tells (all_by no_show_failed marked) r t
+pub write_cause : (p q r t : Option Calls) (marked : List (Told × ClientMark)) → Tells (all_by no_write_failed marked) p q → Tells (all_by no_show_failed marked) r t
     → (c : Run) → IsEndedAt c marked (ended.Fault fault.Write) → SomeFailed max_writes p q ⊎ SomeFailed max_writes r t
 write_cause p q r t marked tells shows c at =
     ⊎_elim

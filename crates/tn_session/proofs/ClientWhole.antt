@@ -7,10 +7,10 @@ use Rattle.tn_machines.specs.client.Bringing.{TakesInOrder, inputs_brought, brou
 use Rattle.tn_machines.specs.client.Marks.{Turns, all_written, all_whole}
 use Rattle.tn_machines.specs.client.Run.{Run, start}
 use Rattle.tn_machines.specs.declared.client.machine.Core.{Core}
-use Rattle.tn_machines.specs.declared.client.messages.Mark.{Mark}
+use Rattle.tn_machines.specs.declared.client.messages.ClientMark.{ClientMark}
 use Rattle.tn_machines.specs.declared.client.messages.Origin.TheVariants as origin
 use Rattle.tn_machines.specs.declared.client.messages.Told.{Told}
-use Rattle.tn_machines.specs.declared.client.progress.Progress.{Progress}
+use Rattle.tn_machines.specs.declared.client.progress.ClientProgress.{ClientProgress}
 use Rattle.tn_session.proofs.Brought.{keys_brought, commands_brought, net_all, net_brought}
 use Rattle.tn_session.proofs.ClientCauses.{read_cause, write_cause}
 use Rattle.tn_session.proofs.CoreGoing.{unwritten}
@@ -69,7 +69,7 @@ settles_two pass net keys p₁ p₂ p₃ n' p₄ k' p₅ e₁ e₂ e₃ held en 
     )
 
 -- where nothing failed, all was written
-all_out : (marked : List (Told × Mark)) (rest : List ℕ) → (all_written marked ≡ true → rest ≡ []) → (all_whole marked ≡ false → false ≡ true) → rest ≡ []
+all_out : (marked : List (Told × ClientMark)) (rest : List ℕ) → (all_written marked ≡ true → rest ≡ []) → (all_whole marked ≡ false → false ≡ true) → rest ≡ []
 all_out marked rest all never = by (all_written marked) refl
   where
     by : (b : Bool) → all_written marked ≡ b → rest ≡ []
@@ -77,14 +77,14 @@ all_out marked rest all never = by (all_written marked) refl
     by false e = absurd (false_true (never (unwritten marked e)))
 
 -- the transcript, as it was noted
-client_noted : (begin last : Run) (steps : List ((Told × Mark) × List ℕ)) (marked : List (Told × Mark)) (handled : List Mail) (bytes : List ℕ) (noted : Noted)
+client_noted : (begin last : Run) (steps : List ((Told × ClientMark) × List ℕ)) (marked : List (Told × ClientMark)) (handled : List Mail) (bytes : List ℕ) (noted : Noted)
     → FoldsTo (IsStep Turns says is_over is_marked_written) begin steps last → map (λ s. s.0) steps ≡ marked → map (λ m. m.0) marked ≡ all_told handled
     → bytes ≡ total steps → says begin ≡ [] → (all : NotesAll handled (map (λ s. s.1) steps) no_notes noted)
     → (transcript : List Exchange) × (transcript ≡ map (exchange_of brought_by) all.more) × Transcribes Turns brings says begin marked last bytes transcript
 client_noted begin last steps marked handled bytes noted goes of_steps messages whole silent all =
-    let of_message : Told × Mark → Told = λ m. m.0 in
+    let of_message : Told × ClientMark → Told = λ m. m.0 in
     let transcript : List Exchange = map (λ s. record { read = brings s.0; wrote = s.1 }) steps in
-    let by_marks : List (Told × Mark) → Type 0 = λ ms. Transcribes Turns brings of_client.says begin ms last (total steps) transcript in
+    let by_marks : List (Told × ClientMark) → Type 0 = λ ms. Transcribes Turns brings of_client.says begin ms last (total steps) transcript in
     let by_bytes : List ℕ → Type 0 = λ bs. Transcribes Turns brings of_client.says begin marked last bs transcript in (
       transcript,
       same_steps of_message told_of (λ (t : Told). brought_from origin.Net t.from t.message) steps all.more handled
@@ -92,7 +92,7 @@ client_noted begin last steps marked handled bytes noted goes of_steps messages 
       subst by_bytes (sym whole) (subst by_marks of_steps (client_stepped begin last steps goes silent)),
     )
   where
-    mapped : (f : Told × Mark → Told) (ss : List ((Told × Mark) × List ℕ)) → map (λ s. f s.0) ss ≡ map f (map (λ s. s.0) ss)
+    mapped : (f : Told × ClientMark → Told) (ss : List ((Told × ClientMark) × List ℕ)) → map (λ s. f s.0) ss ≡ map f (map (λ s. s.0) ss)
     mapped f [] = refl
     mapped f (s ∷ ss) = ap (λ (l : List Told). f s.0 ∷ l) (mapped f ss)
 
@@ -151,7 +151,7 @@ client_ran core last stopped keys_reader net_reader writer screen pass₀ pass�
       tells = acted.goes.tells;
       sends = g.3.1;
       all_sent = g.3.2;
-      sent_whole = λ on. all_out acted.goes.marked g.3.0 g.3.2 (λ e. sym on ∙ ap (λ (p : Progress). p.over) (sym g.2.progress) ∙ acted.goes.over e);
+      sent_whole = λ on. all_out acted.goes.marked g.3.0 g.3.2 (λ e. sym on ∙ ap (λ (p : ClientProgress). p.over) (sym g.2.progress) ∙ acted.goes.over e);
       transcript = said.transcript;
       was_read = as_read net_reader.bytes _ _ (client_reads begin acted.goes.marked g.0 acted.goes.bytes said ∙ ap (brought origin.Net) acted.goes.whole)
           net_first;

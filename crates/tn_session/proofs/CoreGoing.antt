@@ -11,10 +11,10 @@ use Rattle.tn_machines.specs.client.Marks.{Runs, Turns, no_write_failed, no_show
 use Rattle.tn_machines.specs.client.Reaching.{LeadsTo, IsTurn, SendsPrefix, ShowsPrefix}
 use Rattle.tn_machines.specs.client.Run.{Run, fail}
 use Rattle.tn_machines.specs.declared.client.machine.Core.{Core}
-use Rattle.tn_machines.specs.declared.client.messages.Mark.{Mark}
-use Rattle.tn_machines.specs.declared.client.messages.Mark.TheVariants as mark
+use Rattle.tn_machines.specs.declared.client.messages.ClientMark.{ClientMark}
+use Rattle.tn_machines.specs.declared.client.messages.ClientMark.TheVariants as mark
 use Rattle.tn_machines.specs.declared.client.messages.Told.{Told}
-use Rattle.tn_machines.specs.declared.client.progress.Progress.{Progress}
+use Rattle.tn_machines.specs.declared.client.progress.ClientProgress.{ClientProgress}
 use Rattle.tn_nvt.specs.Spelling.{spells}
 use Rattle.tn_session.proofs.Going.{true_false, false_true, appends_more, appends_kept, appends_none, from_to, left_over}
 use Rattle.tn_session.proofs.lemmas.Noting.{total-push}
@@ -71,7 +71,7 @@ shows_less c next all less text front back e weaker none s = rest_less all less 
     (text_shown next.history) text front back s.0 e weaker none s.1 s.2
 
 -- a message that is written and not shown was written, and its showing failed
-is_shown : (m : Mark) → no_show_failed m ≡ true → is_written m ≡ true → is_whole m ≡ true
+is_shown : (m : ClientMark) → no_show_failed m ≡ true → is_written m ≡ true → is_whole m ≡ true
 is_shown mark.Whole e f = refl
 is_shown mark.WriteFailed e f = absurd (false_true f)
 is_shown mark.ShowFailed e f = absurd (false_true e)
@@ -81,7 +81,7 @@ goes_well : (w well : Bool) (a b : Option Calls) → well ≡ true → Tells w a
 goes_well w well a b is told = subst (λ (v : Bool). Tells v a b) (sym is) (accounts_well max_writes w a b told)
 
 -- all was written and shown, or the message was refused
-turn_on : (w s : Bool) (m : Mark) (old new : Core) (told : Told) (bytes text : List ℕ) (writer screen : KnownWriting) (n o : Noted)
+turn_on : (w s : Bool) (m : ClientMark) (old new : Core) (told : Told) (bytes text : List ℕ) (writer screen : KnownWriting) (n o : Noted)
     → ((w && s) || not (is_whole m)) ≡ true → no_write_failed m ≡ true → no_show_failed m ≡ true → NotesWrite w writer.before.bytes writer.after.bytes bytes n o
     → Tells w writer.before.calls writer.after.calls → Written s screen.before.bytes screen.after.bytes text → Tells s screen.before.calls screen.after.calls
     → IsTurn m old told bytes text new → TurnsTold old told writer screen n o new
@@ -119,14 +119,14 @@ turn_on w s m old new told bytes text writer screen n o e well clear a tells b s
     both : is_whole m ≡ true → (w ≡ true) × (s ≡ true)
     both f = by_test w s (is_whole m) e f
 
-whole_mark : (m : Mark) → is_whole m ≡ true → m ≡ mark.Whole
+whole_mark : (m : ClientMark) → is_whole m ≡ true → m ≡ mark.Whole
 whole_mark mark.Whole e = refl
 whole_mark mark.WriteFailed e = absurd (false_true e)
 whole_mark mark.ShowFailed e = absurd (false_true e)
 whole_mark (mark.Refused f) e = absurd (false_true e)
 
 -- which write failed
-abbrev failed_mark : Bool → Mark
+abbrev failed_mark : Bool → ClientMark
 failed_mark true = mark.ShowFailed
 failed_mark false = mark.WriteFailed
 
@@ -171,7 +171,7 @@ turn_off w s old mid new told bytes text writer screen n o on broken a tells b s
         let n = t.leads c at in
         let next = fail fault.Write n.0 in (
           next,
-          fails_at w c n.0 told (false_from_ne_true c.progress.over (λ off. on (ap (λ (p : Progress). p.over) at.progress ∙ off)), n.0, n.1, refl),
+          fails_at w c n.0 told (false_from_ne_true c.progress.over (λ off. on (ap (λ (p : ClientProgress). p.over) at.progress ∙ off)), n.0, n.1, refl),
           leads n.0 n.2,
           sends_less c next true (is_written (failed_mark w)) bytes a.front a.back a.whole (λ f. refl) (λ f. a.all (sym (is_written_by w) ∙ f)) n.3,
           shows_less c next true (is_whole (failed_mark w)) text b.front b.back b.whole (λ f. refl) (λ f. absurd (never_whole w f)) n.4,
@@ -182,21 +182,21 @@ turn_off w s old mid new told bytes text writer screen n o on broken a tells b s
   };
 }
 
-pub turned_on : (w s : Bool) (m : Mark) (old new : Core) (told : Told) (bytes text : List ℕ) (writer screen : KnownWriting) (n o : Noted)
+pub turned_on : (w s : Bool) (m : ClientMark) (old new : Core) (told : Told) (bytes text : List ℕ) (writer screen : KnownWriting) (n o : Noted)
     → ((w && s) || not (is_whole m)) ≡ true → no_write_failed m ≡ true → no_show_failed m ≡ true → NotesWrite w writer.before.bytes writer.after.bytes bytes n o
     → Tells w writer.before.calls writer.after.calls → Writes s screen.before.bytes screen.after.bytes text → Tells s screen.before.calls screen.after.calls
     → IsTurn m old told bytes text new → TurnsTold old told writer screen n o new
 turned_on w s m old new told bytes text writer screen n o e well clear a tells b shows t =
     turn_on w s m old new told bytes text writer screen n o e well clear a tells (written s screen.before.bytes screen.after.bytes text b) shows t
 
-pub turned_off : (w s : Bool) (m : Mark) (old mid new : Core) (told : Told) (bytes text : List ℕ) (writer screen : KnownWriting) (n o : Noted)
+pub turned_off : (w s : Bool) (m : ClientMark) (old mid new : Core) (told : Told) (bytes text : List ℕ) (writer screen : KnownWriting) (n o : Noted)
     → ((w && s) || not (is_whole m)) ≡ false → NotesWrite w writer.before.bytes writer.after.bytes bytes n o → Tells w writer.before.calls writer.after.calls
     → Writes s screen.before.bytes screen.after.bytes text → Tells s screen.before.calls screen.after.calls → (bytes ≡ [] → w ≡ true) → (text ≡ [] → s ≡ true)
     → IsTurn m old told bytes text mid → ((c : Run) → LeadsTo c mid → LeadsTo (fail fault.Write c) new) → new.progress.over ≡ true
     → TurnsTold old told writer screen n o new
 turned_off w s m old mid new told bytes text writer screen n o e a tells b shows some_bytes some_text t leads over =
     let broken = by_test w s (is_whole m) e in
-    let M : Mark → Type 0 = λ n. IsTurn n old told bytes text mid in
+    let M : ClientMark → Type 0 = λ n. IsTurn n old told bytes text mid in
     let on : old.progress.over ≡ true → ⊥ = λ off. let n = t.idle off in true_false (sym (both w s (some_bytes n.0) (some_text n.1)) ∙ broken.1) in
     turn_off w s old mid new told bytes text writer screen n o on broken.1 a tells (written s screen.before.bytes screen.after.bytes text b) shows
     (subst M (whole_mark m broken.0) t) leads over
@@ -217,7 +217,7 @@ and-nil : (b : Bool) → (b && true) ≡ b
 and-nil true = refl
 and-nil false = refl
 
-by-push : (is : Mark → Bool) (ms : List (Told × Mark)) (m : Told) (k : Mark) → all_by is (ms ++ (m, k) ∷ []) ≡ (all_by is ms && is k)
+by-push : (is : ClientMark → Bool) (ms : List (Told × ClientMark)) (m : Told) (k : ClientMark) → all_by is (ms ++ (m, k) ∷ []) ≡ (all_by is ms && is k)
 by-push is [] m k = and-nil (is k)
 by-push is ((n, j) ∷ ms) m k = ap (λ (b : Bool). is j && b) (by-push is ms m k) ∙ assoc (is j) (all_by is ms) (is k)
   where
@@ -225,7 +225,7 @@ by-push is ((n, j) ∷ ms) m k = ap (λ (b : Bool). is j && b) (by-push is ms m 
     assoc true b c = refl
     assoc false b c = refl
 
-pub unwritten : (ms : List (Told × Mark)) → all_written ms ≡ false → all_whole ms ≡ false
+pub unwritten : (ms : List (Told × ClientMark)) → all_written ms ≡ false → all_whole ms ≡ false
 unwritten [] e = e
 unwritten ((n, mark.Whole) ∷ ms) e = unwritten ms e
 unwritten ((n, mark.WriteFailed) ∷ ms) e = refl
@@ -236,17 +236,17 @@ and_false : (a b : Bool) → (a && b) ≡ false → (a ≡ false) ⊎ (b ≡ fal
 and_false true b e = inr e
 and_false false b e = inl refl
 
-whole_written : (m : Mark) → is_whole m ≡ true → is_written m ≡ true
+whole_written : (m : ClientMark) → is_whole m ≡ true → is_written m ≡ true
 whole_written mark.Whole e = refl
 whole_written mark.WriteFailed e = e
 whole_written mark.ShowFailed e = refl
 whole_written (mark.Refused f) e = e
 
 -- what goes on by one message more: it, its mark, and what was written after it
-abbrev pub MovesOn : {a b d : Core} {ms ns : List Told} {w s w₁ s₁ : KnownWriting} → ToldAll a ms w s b → ToldAll a ns w₁ s₁ d → Told × Mark → List ℕ → Type 0
+abbrev pub MovesOn : {a b d : Core} {ms ns : List Told} {w s w₁ s₁ : KnownWriting} → ToldAll a ms w s b → ToldAll a ns w₁ s₁ d → Told × ClientMark → List ℕ → Type 0
 MovesOn one next m bytes = (next.marked ≡ one.marked ++ m ∷ []) × (next.steps ≡ one.steps ++ (m, bytes) ∷ [])
 
-unwritten_one : (m : Mark) → is_written m ≡ false → is_whole m ≡ false
+unwritten_one : (m : ClientMark) → is_written m ≡ false → is_whole m ≡ false
 unwritten_one mark.Whole e = e
 unwritten_one mark.WriteFailed e = refl
 unwritten_one mark.ShowFailed e = refl
@@ -256,15 +256,15 @@ going_on : (a b d : Core) (ms : List Told) (m : Told) (x y z u v w : KnownWriter
     → (t : TurnsTold b m (from_to y z) (from_to v w) n o d) → (next : ToldAll a (ms ++ m ∷ []) (from_to x z) (from_to u w) d)
     × MovesOn one next (m, t.mark) t.bytes
 going_on a b d ms m x y z u v w n o one t =
-    let marked : List (Told × Mark) = one.marked ++ (m, t.mark) ∷ [] in
+    let marked : List (Told × ClientMark) = one.marked ++ (m, t.mark) ∷ [] in
     let written-push : all_written marked ≡ (all_written one.marked && is_written t.mark) = by-push is_written one.marked m t.mark in
     let whole-push : all_whole marked ≡ (all_whole one.marked && is_whole t.mark) = by-push is_whole one.marked m t.mark in (
       record {
         marked = marked;
-        whole = map-append (λ (k : Told × Mark). k.0) one.marked ((m, t.mark) ∷ []) ∙ ap (λ (ks : List Told). ks ++ m ∷ []) one.whole;
+        whole = map-append (λ (k : Told × ClientMark). k.0) one.marked ((m, t.mark) ∷ []) ∙ ap (λ (ks : List Told). ks ++ m ∷ []) one.whole;
         steps = one.steps ++ ((m, t.mark), t.bytes) ∷ [];
-        of_steps = map-append (λ (k : (Told × Mark) × List ℕ). k.0) one.steps (((m, t.mark), t.bytes) ∷ [])
-            ∙ ap (λ (ks : List (Told × Mark)). ks ++ (m, t.mark) ∷ []) one.of_steps;
+        of_steps = map-append (λ (k : (Told × ClientMark) × List ℕ). k.0) one.steps (((m, t.mark), t.bytes) ∷ [])
+            ∙ ap (λ (ks : List (Told × ClientMark)). ks ++ (m, t.mark) ∷ []) one.of_steps;
         bytes = one.bytes ++ t.bytes;
         all_bytes = ap (λ (l : List ℕ). l ++ t.bytes) one.all_bytes ∙ sym (total-push one.steps ((m, t.mark), t.bytes));
         text = one.text ++ t.text;
@@ -292,9 +292,9 @@ going_on a b d ms m x y z u v w n o one t =
                 rest = q.3.0;
                 said = q.3.1;
                 all = q.3.2;
-                over = λ k. sym (ap (λ (r : Progress). r.over) q.2.progress) ∙ t.turn.over (unwritten_one t.mark k);
-                stays = λ off. sym (ap (λ (r : Progress). r.over) q.2.progress) ∙ t.turn.stays (ap (λ (r : Progress). r.over) p.2.progress ∙ off);
-                idle = λ off. (t.turn.idle (ap (λ (r : Progress). r.over) p.2.progress ∙ off)).0;
+                over = λ k. sym (ap (λ (r : ClientProgress). r.over) q.2.progress) ∙ t.turn.over (unwritten_one t.mark k);
+                stays = λ off. sym (ap (λ (r : ClientProgress). r.over) q.2.progress) ∙ t.turn.stays (ap (λ (r : ClientProgress). r.over) p.2.progress ∙ off);
+                idle = λ off. (t.turn.idle (ap (λ (r : ClientProgress). r.over) p.2.progress ∙ off)).0;
               }),
             );
         over = λ k. ⊎_elim (λ n. t.turn.stays (one.over n)) (λ n. t.turn.over n) (and_false (all_whole one.marked) (is_whole t.mark) (sym whole-push ∙ k));
@@ -379,10 +379,10 @@ core_told a b d xs x w s w₁ s₁ w₂ s₂ o r told due now gone one t next ma
     let B : Bool → Type 0 = λ n. StandsTold Keys all_told (Runs c) (λ r. core_stops r.progress) xs one.marked n told in
     let before = subst B (ap core_stops p.2.progress) (stands c at) in
     let due_now : due ≡ (core_stops q.0.progress && not (has_left Keys (xs ++ x ∷ []))) =
-    is_due ∙ ap (λ (n : Progress). core_stops n && not gone) q.2.progress ∙ ap (λ (n : Bool). core_stops q.0.progress && not n) left in
+    is_due ∙ ap (λ (n : ClientProgress). core_stops n && not gone) q.2.progress ∙ ap (λ (n : Bool). core_stops q.0.progress && not n) left in
     let after = stands_more Keys all_told (Runs c) (λ r. core_stops r.progress) xs x one.marked (told_of x, t.mark) p.0 q.0 told due now before one.whole p.1
     (core_stays p.0 q.0 (told_of x) t.mark q.1) due_now tells in
-    let M : List (Told × Mark) → Type 0 = λ ms. StandsTold Keys all_told (Runs c) (λ r. core_stops r.progress) (xs ++ x ∷ []) ms (core_stops q.0.progress) now
+    let M : List (Told × ClientMark) → Type 0 = λ ms. StandsTold Keys all_told (Runs c) (λ r. core_stops r.progress) (xs ++ x ∷ []) ms (core_stops q.0.progress) now
     in
     let N : Bool → Type 0 = λ n. StandsTold Keys all_told (Runs c) (λ r. core_stops r.progress) (xs ++ x ∷ []) next.marked n now in
     subst N (sym (ap core_stops q.2.progress)) (subst M (sym marks) after)

@@ -14,7 +14,7 @@ use Rattle.tn_session.specs.declared.channels.View.{View}
 use Rattle.tn_session.specs.declared.credit.Credit.{Credit}
 use Rattle.tn_session.specs.declared.credit.CreditSeat.{CreditSeat}
 use Rattle.tn_session.specs.declared.credit.StepCredits.{StepCredits}
-use Rattle.tn_session.specs.declared.credit.Tally.{Tally}
+use Rattle.tn_session.specs.declared.credit.CreditTally.{CreditTally}
 use Rattle.tn_jobs.specs.declared.held_jobs.JobId.{JobId}
 use Rattle.tn_jobs.specs.declared.reactions.Reaction.{Reaction}
 use Rattle.tn_session.specs.declared.mail.Mail.{Mail}
@@ -24,28 +24,28 @@ use Rattle.tn_session.proofs.Readers.{Says, said, said_two, said_piece, pieces-p
 
 -- THE RULE
 
-pub gives : (n pass : ℕ) (v : Tally) (x : Credit) → Pushes AnyTally n pass v x (λ w. w ≡ one_given v x)
+pub gives : (n pass : ℕ) (v : CreditTally) (x : Credit) → Pushes AnyTally n pass v x (λ w. w ≡ one_given v x)
 gives n pass v x items views room kept at = (one_given v x, tt, refl)
 
-pub takes : (pass : ℕ) (v : Tally) → Pops AnyTally pass v (λ x w. w ≡ one_taken v x)
+pub takes : (pass : ℕ) (v : CreditTally) → Pops AnyTally pass v (λ x w. w ≡ one_taken v x)
 takes pass v x items views kept at = (one_taken v x, tt, refl)
 
-pub learns : (pass : ℕ) (v : Tally) → Learns AnyTally pass v (λ items. Unit {0})
+pub learns : (pass : ℕ) (v : CreditTally) → Learns AnyTally pass v (λ items. Unit {0})
 learns pass v items views kept at = tt
 
-pub cuts : (pass : ℕ) (v : Tally) → Forks AnyTally pass v v none_taken
+pub cuts : (pass : ℕ) (v : CreditTally) → Forks AnyTally pass v v none_taken
 cuts pass v items views kept at = tt
 
 -- COUNTING
 
-pub taken_one : (v w : Tally) (x : Credit) → w ≡ one_taken v x → length w.taken ≡ length v.taken + 1
-taken_one v w x e = ap (λ (t : Tally). length t.taken) e ∙ length-append v.taken (x ∷ [])
+pub taken_one : (v w : CreditTally) (x : Credit) → w ≡ one_taken v x → length w.taken ≡ length v.taken + 1
+taken_one v w x e = ap (λ (t : CreditTally). length t.taken) e ∙ length-append v.taken (x ∷ [])
 
 -- one at most was given, whatever was answered
-pub given_one : {U E : Type 0} (r : Result U E) (v w : Tally) (x : Credit) (P : E → Type 0) → MatchResult r (λ _. w ≡ one_given v x) (λ e. P e × (w ≡ v))
+pub given_one : {U E : Type 0} (r : Result U E) (v w : CreditTally) (x : Credit) (P : E → Type 0) → MatchResult r (λ _. w ≡ one_given v x) (λ e. P e × (w ≡ v))
     → length w.given ≤ length v.given + 1
-given_one (Ok u) v w x P e = let n = ap (λ (t : Tally). length t.given) e ∙ length-append v.given (x ∷ []) in omega (arith, n)
-given_one (Err f) v w x P e = let n = ap (λ (t : Tally). length t.given) e.1 in omega (arith, n)
+given_one (Ok u) v w x P e = let n = ap (λ (t : CreditTally). length t.given) e ∙ length-append v.given (x ∷ []) in omega (arith, n)
+given_one (Err f) v w x P e = let n = ap (λ (t : CreditTally). length t.given) e.1 in omega (arith, n)
 
 or_one : (a b : Bool) → owed_one (a || b) ≤ owed_one a + owed_one b
 or_one true b = grind arith

@@ -28,11 +28,11 @@ use Rattle.tn_machines.specs.server.Run.{Run, fail, puts_of}
 use Rattle.tn_machines.specs.declared.faults.SessionFault.TheVariants as fault
 use Rattle.tn_machines.specs.declared.server.messages.Put.{Put}
 use Rattle.tn_machines.specs.declared.server.messages.Put.TheVariants.{Nothing}
-use Rattle.tn_machines.specs.declared.server.messages.Mark.{Mark}
-use Rattle.tn_machines.specs.declared.server.messages.Mark.TheVariants as mark
+use Rattle.tn_machines.specs.declared.server.messages.ServerMark.{ServerMark}
+use Rattle.tn_machines.specs.declared.server.messages.ServerMark.TheVariants as mark
 use Rattle.tn_machines.specs.declared.messages.Message.{Message}
 use Rattle.tn_machines.specs.declared.messages.Message.TheVariants.{Left}
-use Rattle.tn_machines.specs.declared.server.progress.Progress.{Progress}
+use Rattle.tn_machines.specs.declared.server.progress.ServerProgress.{ServerProgress}
 use Rattle.tn_machines.specs.declared.server.terminal.Term.{Term}
 
 pub true_false : true ≡ false → ⊥
@@ -115,7 +115,7 @@ notes_as w v x y bytes others t u f e h =
     subst P e (subst Q f h)
 
 -- where less was written than is to be, as if the rest had not been sent
-turn_front : (m : Mark) (old new : Term) (message : Message) (front back bytes : List ℕ) (put last : Put) → bytes ≡ front ++ back → is_whole m ≡ false
+turn_front : (m : ServerMark) (old new : Term) (message : Message) (front back bytes : List ℕ) (put last : Put) → bytes ≡ front ++ back → is_whole m ≡ false
     → IsTurn m old message bytes put last new → IsTurn m old message front put last new
 turn_front m old new message front back bytes put last e broken t = record {
   leads = λ c at.
@@ -143,7 +143,7 @@ turn_unwritten old mid new message front back bytes put last e on t leads puts o
   leads = λ c at.
       let l = t.leads c at in (
         fail fault.Write l.0,
-        (false_from_ne_true c.progress.over (λ off. on (ap (λ (p : Progress). p.over) at.progress ∙ off)), l.0, l.1, refl),
+        (false_from_ne_true c.progress.over (λ off. on (ap (λ (p : ServerProgress). p.over) at.progress ∙ off)), l.0, l.1, refl),
         leads l.0 l.2,
         puts l.0 l.2 ∙ ap (λ (ps : List (Option Entry)). ps ++ puts_of last) (l.3 ∙ ap (λ (ps : List (Option Entry)). c.puts ++ ps) (append-nil (puts_of put)))
             ∙ append_assoc c.puts (puts_of put) (puts_of last),
@@ -168,11 +168,11 @@ Puts v ps w = (l : List (Option Entry)) → v ≡ putter l → w ≡ putter (l +
 pub puts_two : (v u w : EntryHand) (ps qs : List (Option Entry)) → Puts v ps u → Puts u qs w → Puts v (ps ++ qs) w
 puts_two v u w ps qs one two l e = two (l ++ ps) (one l e) ∙ ap putter (append_assoc l ps qs)
 
-all_told : (written : Bool) (m : Mark) (a b : Option Calls) → no_write_failed m ≡ true → Tells written a b → Tells (no_write_failed m) a b
+all_told : (written : Bool) (m : ServerMark) (a b : Option Calls) → no_write_failed m ≡ true → Tells written a b → Tells (no_write_failed m) a b
 all_told written m a b well told = subst (λ (w : Bool). Tells w a b) (sym well) (accounts_well max_writes written a b told)
 
 -- all was written, or the message was refused
-pub turned_on : (written : Bool) (m : Mark) (old new : Term) (message : Message) (bytes : List ℕ) (writer : KnownWriting) (t u : Noted) (v w : EntryHand)
+pub turned_on : (written : Bool) (m : ServerMark) (old new : Term) (message : Message) (bytes : List ℕ) (writer : KnownWriting) (t u : Noted) (v w : EntryHand)
     (put last : Put) → (written || not (is_whole m)) ≡ true → no_write_failed m ≡ true → NotesWrite written writer.before.bytes writer.after.bytes bytes t u
     → Tells written writer.before.calls writer.after.calls → IsTurn m old message bytes put last new → Puts v (puts_of put ++ puts_of last) w
     → TurnsMessage old message writer t u v w new
@@ -193,13 +193,13 @@ turned_on written m old new message bytes writer t u v w put last e well h told 
         (h.whole ∙ ap (λ (l : List ℕ). h.front ++ l) (all refl) ∙ append-nil h.front) turn
     by false f all = turn_front m old new message h.front h.back bytes put last h.whole (not-true (is_whole m) f) turn
 
-whole_mark : (m : Mark) → is_whole m ≡ true → m ≡ mark.Whole
+whole_mark : (m : ServerMark) → is_whole m ≡ true → m ≡ mark.Whole
 whole_mark mark.Whole e = refl
 whole_mark mark.WriteFailed e = absurd (false_true e)
 whole_mark (mark.Refused f put) e = absurd (false_true e)
 
 -- a write failed
-pub turned_off : (written : Bool) (m : Mark) (old mid new : Term) (message : Message) (bytes : List ℕ) (writer : KnownWriting) (t u : Noted) (v w : EntryHand)
+pub turned_off : (written : Bool) (m : ServerMark) (old mid new : Term) (message : Message) (bytes : List ℕ) (writer : KnownWriting) (t u : Noted) (v w : EntryHand)
     (put other last : Put) → (written || not (is_whole m)) ≡ false → NotesWrite written writer.before.bytes writer.after.bytes bytes t u
     → Tells written writer.before.calls writer.after.calls → (bytes ≡ [] → written ≡ true) → IsTurn m old message bytes put other mid
     → (is_whole m ≡ true → other ≡ Nothing) → ((c : Run) → LeadsTo c mid → LeadsTo (fail fault.Write c) new)
@@ -208,7 +208,7 @@ pub turned_off : (written : Bool) (m : Mark) (old mid new : Term) (message : Mes
 turned_off true m old mid new message bytes writer t u v w put other last e h told some turn unsaid leads puts over p = absurd (true_false e)
 turned_off false m old mid new message bytes writer t u v w put other last e h told some turn unsaid leads puts over p =
     let is_all = not-false (is_whole m) e in
-    let M : Mark → Type 0 = λ n. IsTurn n old message bytes put other mid in
+    let M : ServerMark → Type 0 = λ n. IsTurn n old message bytes put other mid in
     let L : Put → Type 0 = λ o. IsTurn mark.Whole old message bytes put o mid in
     let whole = subst L (unsaid is_all) (subst M (whole_mark m is_all) turn) in
     record {
@@ -223,7 +223,7 @@ turned_off false m old mid new message bytes writer t u v w put other last e h t
       puts = p;
     }
 
-whole-push : (ms : List (Message × Mark)) (m : Message) (k : Mark) → all_whole (ms ++ (m, k) ∷ []) ≡ (all_whole ms && is_whole k)
+whole-push : (ms : List (Message × ServerMark)) (m : Message) (k : ServerMark) → all_whole (ms ++ (m, k) ∷ []) ≡ (all_whole ms && is_whole k)
 whole-push [] m mark.Whole = refl
 whole-push [] m mark.WriteFailed = refl
 whole-push [] m (mark.Refused f put) = refl
@@ -231,7 +231,7 @@ whole-push ((n, mark.Whole) ∷ ms) m k = whole-push ms m k
 whole-push ((n, mark.WriteFailed) ∷ ms) m k = refl
 whole-push ((n, mark.Refused f put) ∷ ms) m k = refl
 
-map-push : (ms : List (Message × Mark)) (m : Message × Mark) (xs : List Message) → map (λ u. u.0) ms ≡ xs → map (λ u. u.0) (ms ++ m ∷ []) ≡ xs ++ m.0 ∷ []
+map-push : (ms : List (Message × ServerMark)) (m : Message × ServerMark) (xs : List Message) → map (λ u. u.0) ms ≡ xs → map (λ u. u.0) (ms ++ m ∷ []) ≡ xs ++ m.0 ∷ []
 map-push [] m xs e = ap (λ (ys : List Message). ys ++ m.0 ∷ []) e
 map-push (n ∷ ms) m xs e = ap (λ (ys : List Message). n.0 ∷ ys) (map-push ms m (map (λ u. u.0) ms) refl) ∙ ap (λ (ys : List Message). ys ++ m.0 ∷ []) e
 
@@ -252,7 +252,7 @@ left_over false b s₀ s₁ s₂ b₁ b₂ r₁ r₂ e₁ e₂ w₁ w₂ q =
       λ e. absurd (false_true e),
     )
 
-well-push : (ms : List (Message × Mark)) (m : Message) (k : Mark) → no_writes_failed (ms ++ (m, k) ∷ []) ≡ (no_writes_failed ms && no_write_failed k)
+well-push : (ms : List (Message × ServerMark)) (m : Message) (k : ServerMark) → no_writes_failed (ms ++ (m, k) ∷ []) ≡ (no_writes_failed ms && no_write_failed k)
 well-push [] m mark.Whole = refl
 well-push [] m mark.WriteFailed = refl
 well-push [] m (mark.Refused f put) = refl
@@ -270,7 +270,7 @@ from_to x y = record { before = x; after = y }
 
 -- what goes on by one message more: it, its mark, and what was written after it
 abbrev pub MovesOn : {a d : Term} {ms ns : List Message} {w w₁ : KnownWriting} {puts later : List (Option Entry)} {b : Term} → GoesOn a ms w puts b
-    → GoesOn a ns w₁ later d → Message × Mark → List ℕ → Type 0
+    → GoesOn a ns w₁ later d → Message × ServerMark → List ℕ → Type 0
 MovesOn one next m bytes = (next.marked ≡ one.marked ++ m ∷ []) × (next.steps ≡ one.steps ++ (m, bytes) ∷ [])
 
 pub going_on : (a b d : Term) (ms : List Message) (m : Message) (x y z : KnownWriter) (puts : List (Option Entry)) (n o : Noted) (v w : EntryHand)
@@ -281,8 +281,8 @@ going_on a b d ms m x y z puts n o v w one t = (
     marked = one.marked ++ (m, t.mark) ∷ [];
     whole = map-push one.marked (m, t.mark) ms one.whole;
     steps = one.steps ++ ((m, t.mark), t.bytes) ∷ [];
-    of_steps = map-append (λ (s : (Message × Mark) × List ℕ). s.0) one.steps (((m, t.mark), t.bytes) ∷ [])
-        ∙ ap (λ (l : List (Message × Mark)). l ++ (m, t.mark) ∷ []) one.of_steps;
+    of_steps = map-append (λ (s : (Message × ServerMark) × List ℕ). s.0) one.steps (((m, t.mark), t.bytes) ∷ [])
+        ∙ ap (λ (l : List (Message × ServerMark)). l ++ (m, t.mark) ∷ []) one.of_steps;
     bytes = one.bytes ++ t.bytes;
     all_bytes = ap (λ (l : List ℕ). l ++ t.bytes) one.all_bytes ∙ sym (total-push one.steps ((m, t.mark), t.bytes));
     wrote = appends_more x.bytes y.bytes z.bytes one.bytes t.bytes one.wrote t.wrote;
@@ -305,9 +305,9 @@ going_on a b d ms m x y z puts n o v w one t = (
             rest = q.4;
             said = q.5;
             all = q.6;
-            over = λ e. sym (ap (λ (r : Progress). r.over) q.2.progress) ∙ t.turn.over e;
-            stays = λ off. sym (ap (λ (r : Progress). r.over) q.2.progress) ∙ t.turn.stays (ap (λ (r : Progress). r.over) p.2.progress ∙ off);
-            idle = λ off. (t.turn.idle (ap (λ (r : Progress). r.over) p.2.progress ∙ off)).0;
+            over = λ e. sym (ap (λ (r : ServerProgress). r.over) q.2.progress) ∙ t.turn.over e;
+            stays = λ off. sym (ap (λ (r : ServerProgress). r.over) q.2.progress) ∙ t.turn.stays (ap (λ (r : ServerProgress). r.over) p.2.progress ∙ off);
+            idle = λ off. (t.turn.idle (ap (λ (r : ServerProgress). r.over) p.2.progress ∙ off)).0;
           }),
         );
     over = λ e. ⊎_elim (λ f. t.turn.stays (one.over f)) (λ f. t.turn.over f)
@@ -427,10 +427,10 @@ term_told a b d xs x w w₁ w₂ puts later r o v h told due now gone one t next
     let B : Bool → Type 0 = λ n. StandsTold Back messages_of (Runs c) (λ r. term_stops r.progress) xs one.marked n told in
     let before = subst B (ap term_stops p.2.progress) (stands c at) in
     let due_now : due ≡ (term_stops q.0.progress && not (has_left Back (xs ++ x ∷ []))) =
-    is_due ∙ ap (λ (n : Progress). term_stops n && not gone) q.2.progress ∙ ap (λ (n : Bool). term_stops q.0.progress && not n) left in
+    is_due ∙ ap (λ (n : ServerProgress). term_stops n && not gone) q.2.progress ∙ ap (λ (n : Bool). term_stops q.0.progress && not n) left in
     let after = stands_more Back messages_of (Runs c) (λ r. term_stops r.progress) xs x one.marked (x.message, t.mark) p.0 q.0 told due now before one.whole p.1
     (term_stays p.0 q.0 x.message t.mark q.1) due_now tells in
-    let M : List (Message × Mark) → Type 0 = λ ms. StandsTold Back messages_of (Runs c) (λ r. term_stops r.progress) (xs ++ x ∷ []) ms
+    let M : List (Message × ServerMark) → Type 0 = λ ms. StandsTold Back messages_of (Runs c) (λ r. term_stops r.progress) (xs ++ x ∷ []) ms
     (term_stops q.0.progress) now in
     let N : Bool → Type 0 = λ n. StandsTold Back messages_of (Runs c) (λ r. term_stops r.progress) (xs ++ x ∷ []) next.marked n now in
     subst N (sym (ap term_stops q.2.progress)) (subst M (sym marks) after)

@@ -17,11 +17,11 @@ use Rattle.tn_machines.specs.server.Marks.{run_after_opening}
 use Rattle.tn_machines.specs.server.Reaching.{LeadsTo}
 use Rattle.tn_machines.specs.server.Run.{Run}
 use Rattle.tn_machines.specs.server.Welcoming.{IsWelcome, too_far_ahead}
-use Rattle.tn_machines.specs.declared.server.progress.Progress.{Progress}
+use Rattle.tn_machines.specs.declared.server.progress.ServerProgress.{ServerProgress}
 use Rattle.tn_machines.specs.declared.server.terminal.Term.{Term}
 
 ended_as : (c : Run) (t : Term) → LeadsTo c t → t.progress.ended ≡ c.progress.ended
-ended_as c t at = ap (λ (p : Progress). p.ended) at.progress
+ended_as c t at = ap (λ (p : ServerProgress). p.ended) at.progress
 
 pub reach_start : (t : Term) → StaysInReach t t.progress.ended
 reach_start t c at e = sym (ended_as c t at) ∙ e

@@ -3,12 +3,12 @@ use Rattle.std.proofs.Common.{◌≡◌, ℕ, Bool, true, false, ◌||◌, Optio
 use Rattle.tn_machines.specs.client.Counting as core_counting
 use Rattle.tn_machines.specs.client.Marks as core_marks
 use Rattle.tn_machines.specs.client.Run as core_run
-use Rattle.tn_machines.specs.declared.client.messages.Mark as core_mark
-use Rattle.tn_machines.specs.declared.client.messages.Mark.TheVariants as core_is
+use Rattle.tn_machines.specs.declared.client.messages.ClientMark as core_mark
+use Rattle.tn_machines.specs.declared.client.messages.ClientMark.TheVariants as core_is
 use Rattle.tn_machines.specs.declared.client.messages.Origin.{Origin}
 use Rattle.tn_machines.specs.declared.client.messages.Origin.TheVariants as origin
 use Rattle.tn_machines.specs.declared.client.messages.Told.{Told}
-use Rattle.tn_machines.specs.declared.client.progress.Progress.{Progress as CoreProgress}
+use Rattle.tn_machines.specs.declared.client.progress.ClientProgress.{ClientProgress}
 use Rattle.tn_discipline.specs.declared.reads.Entry.{Entry}
 use Rattle.tn_jobs.specs.declared.verdicts.JobState.{JobState}
 use Rattle.tn_jobs.specs.declared.verdicts.JobState.TheVariants as job
@@ -21,8 +21,8 @@ use Rattle.tn_server.specs.Lines.{waiting}
 use Rattle.tn_session.specs.Stops.{core_stops, term_stops}
 use Rattle.tn_machines.specs.server.Marks as term_marks
 use Rattle.tn_machines.specs.server.Run as term_run
-use Rattle.tn_machines.specs.declared.server.messages.Mark as term_mark
-use Rattle.tn_machines.specs.declared.server.messages.Mark.TheVariants as term_is
+use Rattle.tn_machines.specs.declared.server.messages.ServerMark as term_mark
+use Rattle.tn_machines.specs.declared.server.messages.ServerMark.TheVariants as term_is
 
 by_over : (over at_end : Bool) → over ≡ true → (over || at_end) ≡ true
 by_over over at_end e = ap (λ (b : Bool). b || at_end) e
@@ -36,7 +36,7 @@ the_end over at_end off e = sym (ap (λ (b : Bool). b || at_end) off) ∙ e
 
 -- THE CLIENT'S CORE
 
-message_ends : (from : Origin) (m : Message) (p : CoreProgress) → p.at_end ≡ true → (core_counting.after_message from m p).at_end ≡ true
+message_ends : (from : Origin) (m : Message) (p : ClientProgress) → p.at_end ≡ true → (core_counting.after_message from m p).at_end ≡ true
 message_ends origin.Net (Piece q) p on = on
 message_ends origin.Net HangUp p on = refl
 message_ends origin.Net ReadFailed p on = refl
@@ -83,7 +83,7 @@ core_handles c new t h on = by c.progress.over refl h
 core_failed : (new failed : core_run.Run) → failed.progress.over ≡ true → new ≡ failed → core_stops new.progress ≡ true
 core_failed new failed over e = by_over new.progress.over new.progress.at_end (ap (λ (r : core_run.Run). r.progress.over) e ∙ over)
 
-pub core_stays : (c new : core_run.Run) (t : Told) (k : core_mark.Mark) → core_marks.Turns c (t, k) new → core_stops c.progress ≡ true
+pub core_stays : (c new : core_run.Run) (t : Told) (k : core_mark.ClientMark) → core_marks.Turns c (t, k) new → core_stops c.progress ≡ true
     → core_stops new.progress ≡ true
 core_stays c new t core_is.Whole h on = core_handles c new t h on
 core_stays c new t core_is.WriteFailed h on = core_failed new _ refl h.3
@@ -144,7 +144,7 @@ term_handles c new m h on = by c.progress.over refl h
 term_failed : (new failed : term_run.Run) → failed.progress.over ≡ true → new ≡ failed → term_stops new.progress ≡ true
 term_failed new failed over e = by_over new.progress.over new.progress.at_end (ap (λ (r : term_run.Run). r.progress.over) e ∙ over)
 
-pub term_stays : (c new : term_run.Run) (m : Message) (k : term_mark.Mark) → term_marks.Turns c (m, k) new → term_stops c.progress ≡ true
+pub term_stays : (c new : term_run.Run) (m : Message) (k : term_mark.ServerMark) → term_marks.Turns c (m, k) new → term_stops c.progress ≡ true
     → term_stops new.progress ≡ true
 term_stays c new m term_is.Whole h on = term_handles c new m h on
 term_stays c new m term_is.WriteFailed h on = term_failed new _ refl h.3

@@ -42,8 +42,8 @@ use Rattle.tn_streams.proofs.lemmas.Telling.{accounts_both}
 use Rattle.tn_streams.specs.Known.{KnownReader, KnownWriter}
 use Rattle.tn_machines.specs.server.Marks.{Turns, run_after_opening, all_whole, no_writes_failed}
 use Rattle.tn_machines.specs.server.Run.{Run, start, opening}
-use Rattle.tn_machines.specs.declared.server.messages.Mark.{Mark}
-use Rattle.tn_machines.specs.declared.server.progress.Progress.{Progress}
+use Rattle.tn_machines.specs.declared.server.messages.ServerMark.{ServerMark}
+use Rattle.tn_machines.specs.declared.server.progress.ServerProgress.{ServerProgress}
 use Rattle.tn_machines.specs.Pieces.{bytes_in}
 use Rattle.tn_machines.specs.declared.messages.Message.{Message}
 use Rattle.tn_machines.specs.declared.messages.Message.TheVariants.{Take, Refused, Left}
@@ -163,17 +163,17 @@ opened_up true begin words front back x y is split none off =
 opened_up false begin words front back x y is split none off = ((back, sym split ∙ sym is), inr (off refl))
 
 -- the transcript, as it was noted
-noted_all : (begin last : Run) (steps : List ((Message × Mark) × List ℕ)) (marked : List (Message × Mark)) (handled : List Mail) (opened : Noted)
+noted_all : (begin last : Run) (steps : List ((Message × ServerMark) × List ℕ)) (marked : List (Message × ServerMark)) (handled : List Mail) (opened : Noted)
     (front : List ℕ) (noted : Noted) → FoldsTo (IsStep Turns says is_over is_marked_whole) begin steps last → map (λ s. s.0) steps ≡ marked
     → map (λ m. m.0) marked ≡ messages_of handled → IsUpTo Turns says is_over is_marked_whole begin front
     → notes opened ≡ record { took = None; wrote = front } ∷ [] → NotesAll handled (map (λ s. s.1) steps) opened noted
     → (transcript : List Exchange) × IsNoted begin marked last (front ++ total steps) handled noted transcript
 noted_all begin last steps marked handled opened front noted goes of_steps messages up first all =
-    let of_message : Message × Mark → Message = λ m. m.0 in
+    let of_message : Message × ServerMark → Message = λ m. m.0 in
     let noted_steps = same_steps of_message (λ (x : Mail). x.message) bytes_in steps all.more handled
     (mapped of_message steps ∙ ap (map of_message) of_steps ∙ messages) all.took all.wrote in
     let transcript : List Exchange = record { read = []; wrote = front } ∷ map (λ s. record { read = bytes_in s.0.0; wrote = s.1 }) steps in
-    let by_marks : List (Message × Mark) → Type 0 = λ ms. Transcribes OpensOrTurns brings of_server.says begin (None ∷ map (λ m. Some m) ms) last
+    let by_marks : List (Message × ServerMark) → Type 0 = λ ms. Transcribes OpensOrTurns brings of_server.says begin (None ∷ map (λ m. Some m) ms) last
     (front ++ total steps) transcript in (
       transcript,
       record {
@@ -184,7 +184,7 @@ noted_all begin last steps marked handled opened front noted goes of_steps messa
       },
     )
   where
-    mapped : (f : Message × Mark → Message) (ss : List ((Message × Mark) × List ℕ)) → map (λ s. f s.0) ss ≡ map f (map (λ s. s.0) ss)
+    mapped : (f : Message × ServerMark → Message) (ss : List ((Message × ServerMark) × List ℕ)) → map (λ s. f s.0) ss ≡ map f (map (λ s. s.0) ss)
     mapped f [] = refl
     mapped f (s ∷ ss) = ap (λ (l : List Message). f s.0 ∷ l) (mapped f ss)
 
@@ -226,7 +226,7 @@ scheduled {J} facts jobs stopped words reader x y z noted₀ term mid last pass�
     (all_whole acted.goes.marked) o.wrote.whole o.wrote.all o.wrote.wrote acted.goes.wrote (λ e. acted.goes.idle (o.over e)) sends g.6 in
     let at_first : says begin ≡ words = ap (λ h. spells (items_said h)) (same_history o.written canon editing table) ∙ sym ew in
     let up = opened_up o.written begin words o.wrote.front o.wrote.back x.bytes y.bytes at_first o.wrote.whole o.wrote.all
-    (λ e. sym (ap (λ (p : Progress). p.over) (o.leads (start canon editing table) at).progress) ∙ o.over e) in
+    (λ e. sym (ap (λ (p : ServerProgress). p.over) (o.leads (start canon editing table) at).progress) ∙ o.over e) in
     let transcript = noted_all begin g.0 acted.goes.steps acted.goes.marked acted.handled noted₀ o.wrote.front result.noted g.7 acted.goes.of_steps
     acted.goes.whole up (ap notes o.wrote.noted) acted.noted in
     let all_bytes : acted.goes.bytes ≡ total acted.goes.steps = acted.goes.all_bytes in

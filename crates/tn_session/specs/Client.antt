@@ -14,10 +14,10 @@ use Rattle.tn_machines.specs.client.Marks.{all_whole}
 use Rattle.tn_machines.specs.client.Reaching.{LeadsTo}
 use Rattle.tn_machines.specs.client.Run.{Run, start}
 use Rattle.tn_machines.specs.declared.client.machine.Core.{Core}
-use Rattle.tn_machines.specs.declared.client.messages.Mark.{Mark}
+use Rattle.tn_machines.specs.declared.client.messages.ClientMark.{ClientMark}
 use Rattle.tn_machines.specs.declared.client.messages.Origin.TheVariants as origin
 use Rattle.tn_machines.specs.declared.client.messages.Told.{Told}
-use Rattle.tn_machines.specs.declared.client.progress.Progress.{Progress}
+use Rattle.tn_machines.specs.declared.client.progress.ClientProgress.{ClientProgress}
 use Rattle.tn_nvt.specs.Spelling.{spells}
 use Rattle.tn_session.specs.CoreTurns as turns
 use Rattle.tn_session.specs.CoreTurns.{all_told, origin_of}
@@ -68,14 +68,14 @@ AreTwoSettled pass net keys net' keys' core' =
     → (net' ≡ sender Net a) × (keys' ≡ sender Keys d) × (core' ≡ core_view h)
     × ((items : List Mail) × Interleaves (h ++ items) (four a [] [] d))
 
-abbrev pub client_report : Progress → Report
+abbrev pub client_report : ClientProgress → Report
 client_report p = record { ended = p.ended; pieces = p.pieces; entries = 0; stops = 0 }
 
 -- what a mail brings from the network, and a message with its mark, and what the client says on it by now
 abbrev pub brought_by : Mail → List ℕ
 brought_by x = brought_from origin.Net (origin_of x.from) x.message
 
-abbrev pub brings : Told × Mark → List ℕ
+abbrev pub brings : Told × ClientMark → List ℕ
 brings m = brought_from origin.Net m.0.from m.0.message
 
 abbrev pub says : Run → List ℕ
@@ -100,7 +100,7 @@ pub record RunningClient (window : Window) (keys : KnownTyping) (net : KnownRead
   pub typed : ReaderSends Keys stopped keys.reader result.keys
   pub read : ReaderSends Net false net result.net
   -- the run of the messages with their marks
-  pub marked : List (Told × Mark)
+  pub marked : List (Told × ClientMark)
   pub messages : map (λ m. m.0) marked ≡ all_told handled
   pub run : Run
   pub runs : Runs (start window.width window.height window.limit) marked run

@@ -8,7 +8,7 @@ use Rattle.tn_machines.specs.client.Marks.{all_written, all_whole}
 use Rattle.tn_machines.specs.client.Reaching.{LeadsTo, IsTurn, SendsPrefix, ShowsPrefix}
 use Rattle.tn_machines.specs.client.Run.{Run}
 use Rattle.tn_machines.specs.declared.client.machine.Core.{Core}
-use Rattle.tn_machines.specs.declared.client.messages.Mark.{Mark}
+use Rattle.tn_machines.specs.declared.client.messages.ClientMark.{ClientMark}
 use Rattle.tn_machines.specs.declared.client.messages.Origin.{Origin}
 use Rattle.tn_machines.specs.declared.client.messages.Origin.TheVariants as origin
 use Rattle.tn_machines.specs.declared.client.messages.Told.{Told}
@@ -42,7 +42,7 @@ says c = spells (items_said c.sent)
 abbrev pub is_over : Run → Bool
 is_over c = c.progress.over
 
-abbrev pub is_marked_written : Told × Mark → Bool
+abbrev pub is_marked_written : Told × ClientMark → Bool
 is_marked_written m = is_written m.1
 
 -- one message with its mark: what was written and shown of what it sends and shows, what was noted,
@@ -50,7 +50,7 @@ is_marked_written m = is_written m.1
 pub record TurnsTold (old : Core) (told : Told) (writer screen : KnownWriting) (before after : Noted)
     (new : Core)
     : Type 0 where
-  pub mark : Mark
+  pub mark : ClientMark
   pub bytes : List ℕ
   pub text : List ℕ
   pub wrote : Appends writer.before.bytes writer.after.bytes bytes
@@ -64,10 +64,10 @@ pub record TurnsTold (old : Core) (told : Told) (writer screen : KnownWriting) (
 -- shown, the first of those that the run sends and shows, and all of them unless something failed.
 pub record ToldAll (old : Core) (messages : List Told) (writer screen : KnownWriting) (new : Core)
     : Type 0 where
-  pub marked : List (Told × Mark)
+  pub marked : List (Told × ClientMark)
   pub whole : map (λ m. m.0) marked ≡ messages
   -- each with what was written after it
-  pub steps : List ((Told × Mark) × List ℕ)
+  pub steps : List ((Told × ClientMark) × List ℕ)
   pub of_steps : map (λ s. s.0) steps ≡ marked
   pub bytes : List ℕ
   pub all_bytes : bytes ≡ total steps

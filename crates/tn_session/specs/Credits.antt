@@ -10,18 +10,18 @@ use Rattle.tn_session.specs.declared.credit.Credit.{Credit}
 use Rattle.tn_session.specs.declared.credit.CreditGiver.{CreditGiver}
 use Rattle.tn_session.specs.declared.credit.CreditSeat.{CreditSeat}
 use Rattle.tn_session.specs.declared.credit.StepCredits.{StepCredits}
-use Rattle.tn_session.specs.declared.credit.Tally.{Tally}
+use Rattle.tn_session.specs.declared.credit.CreditTally.{CreditTally}
 use Rattle.tn_session.specs.declared.mail.Mail.{Mail}
 use Rattle.tn_session.specs.declared.mail.Sender.{Sender}
 use Rattle.tn_session.specs.declared.mail.Sender.TheVariants.{Back}
 
-abbrev pub none_taken : Tally
+abbrev pub none_taken : CreditTally
 none_taken = record { taken = []; given = [] }
 
-abbrev pub one_taken : Tally → Credit → Tally
+abbrev pub one_taken : CreditTally → Credit → CreditTally
 one_taken v x = record v { taken = v.taken ++ x ∷ [] }
 
-abbrev pub one_given : Tally → Credit → Tally
+abbrev pub one_given : CreditTally → Credit → CreditTally
 one_given v x = record v { given = v.given ++ x ∷ [] }
 
 -- a credit is owed, or none is
@@ -30,7 +30,7 @@ owed_one true = 1
 owed_one false = 0
 
 -- each pass counts its own, whatever the channel holds
-abbrev pub AnyTally : List Credit → List Tally → Type 0
+abbrev pub AnyTally : List Credit → List CreditTally → Type 0
 AnyTally items views = ⊤
 
 -- a thread that needs no credit, or one at its seat
@@ -70,7 +70,7 @@ HaveUsed n old new =
     new.left + length (view old.seat.pass).taken + n ≤ old.left + length (view new.seat.pass).taken
 
 -- one credit at most is given for each step that was handled
-abbrev pub GivesStepCredits : View → View → Tally → Tally → Type 0
+abbrev pub GivesStepCredits : View → View → CreditTally → CreditTally → Type 0
 GivesStepCredits v w old new =
     (handled : List Mail) × (w ≡ with_handled v handled)
     × (length new.given ≤ length old.given + steps_among handled)
@@ -84,7 +84,7 @@ pub record AreNewCredits (giver : CreditGiver) (credits : StepCredits) : Type 0 
   pub first : credits.left ≡ 32
 
 -- one credit is given at first at most, and one more for each piece that was handled
-abbrev pub GivesCredits : View → View → Tally → Tally → Type 0
+abbrev pub GivesCredits : View → View → CreditTally → CreditTally → Type 0
 GivesCredits v w old new =
     (handled : List Mail) × (w ≡ with_handled v handled)
     × (length new.given ≤ length old.given + 1 + pieces_among handled)

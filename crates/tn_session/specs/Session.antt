@@ -46,13 +46,13 @@ use Rattle.tn_machines.specs.declared.faults.Ended.{Ended}
 use Rattle.tn_machines.specs.declared.faults.Ended.TheVariants.{HangUp, Fault}
 use Rattle.tn_machines.specs.declared.faults.SessionFault.{SessionFault}
 use Rattle.tn_machines.specs.declared.faults.SessionFault.TheVariants as fault
-use Rattle.tn_machines.specs.declared.server.messages.Mark.{Mark}
+use Rattle.tn_machines.specs.declared.server.messages.ServerMark.{ServerMark}
 use Rattle.tn_machines.specs.declared.messages.Message.{Message}
-use Rattle.tn_machines.specs.declared.server.progress.Progress.{Progress}
+use Rattle.tn_machines.specs.declared.server.progress.ServerProgress.{ServerProgress}
 use Rattle.tn_machines.specs.declared.server.terminal.Term.{Term}
-use Rattle.tn_wire.specs.Prefixes.{IsRead}
+use Rattle.tn_linemode.specs.Prefixes.{IsRead}
 
-abbrev pub report_of : Progress → Report
+abbrev pub report_of : ServerProgress → Report
 report_of p = record { ended = p.ended; pieces = p.pieces; entries = p.entries; stops = p.stops }
 
 -- why a session did not run to its report: memory runs out, there is no first job or a thread could not be
@@ -98,7 +98,7 @@ pub record Schedule {J : Type 0} (acts : JobActs J) (jobs : SessionJobs J) (sett
   pub read : ReaderSends Net false reader result.views.net
   -- three: the run of the messages with their marks; what was written of what it sends, and what was put
   pub wrote_opening : Bool
-  pub marked : List (Message × Mark)
+  pub marked : List (Message × ServerMark)
   pub messages : map (λ m. m.0) marked ≡ messages_of handled
   pub run : Run
   pub runs : Runs (run_after_opening wrote_opening (start settings.canon settings.editing table)) marked run
@@ -127,11 +127,11 @@ pub record Schedule {J : Type 0} (acts : JobActs J) (jobs : SessionJobs J) (sett
 
 -- A step of its transcript writes the opening words, or handles a message; what that brings from the network,
 -- and what the server says on it by now.
-abbrev pub OpensOrTurns : Run → Option (Message × Mark) → Run → Type 0
+abbrev pub OpensOrTurns : Run → Option (Message × ServerMark) → Run → Type 0
 OpensOrTurns c None new = new ≡ c
 OpensOrTurns c (Some m) new = Turns c m new
 
-abbrev pub brings : Option (Message × Mark) → List ℕ
+abbrev pub brings : Option (Message × ServerMark) → List ℕ
 brings None = []
 brings (Some m) = bytes_in m.0
 
@@ -144,7 +144,7 @@ brought_by x = bytes_in x.message
 
 -- Step by step as the terminal noted it: what it wrote before it took the first of these mails, and after
 -- each; and the run goes by these steps.
-pub record IsNoted (first : Run) (marked : List (Message × Mark)) (last : Run) (written : List ℕ)
+pub record IsNoted (first : Run) (marked : List (Message × ServerMark)) (last : Run) (written : List ℕ)
     (handled : List Mail)
     (noted : Noted) (transcript : List Exchange) : Type 0 where
   pub as_noted : transcript ≡ map (exchange_of brought_by) (notes noted)

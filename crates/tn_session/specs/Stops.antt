@@ -3,7 +3,7 @@
 use Rattle.std.specs.Prelude.{◌≡◌, Bool, true, false, ◌||◌, ◌&&◌, Option, Some, None, List, [], ◌∷◌, ◌++◌, map, ⊤}
 use Rattle.crossbeam_channel.specs.Claims.{view, IsSeatAt}
 use Rattle.crossbeam_channel.specs.Ends.{sends_on, receives_on}
-use Rattle.tn_machines.specs.declared.client.progress.Progress.{Progress as CoreProgress}
+use Rattle.tn_machines.specs.declared.client.progress.ClientProgress.{ClientProgress}
 use Rattle.tn_machines.specs.declared.messages.Message.{Message}
 use Rattle.tn_machines.specs.declared.messages.Message.TheVariants.{Left}
 use Rattle.tn_queue.specs.Queue.{putter, taker}
@@ -14,7 +14,7 @@ use Rattle.tn_session.specs.declared.mail.Sender.{Sender}
 use Rattle.tn_session.specs.declared.stops.Stop.{Stop}
 use Rattle.tn_session.specs.declared.stops.StopSeat.{StopSeat}
 use Rattle.tn_session.specs.declared.stops.StopTeller.{StopTeller}
-use Rattle.tn_machines.specs.declared.server.progress.Progress.{Progress as TermProgress}
+use Rattle.tn_machines.specs.declared.server.progress.ServerProgress.{ServerProgress}
 
 abbrev pub StopHand : Type 0
 StopHand = Hand Stop
@@ -68,10 +68,10 @@ has_left who [] = false
 has_left who (x ∷ xs) = leaves who x || has_left who xs
 
 -- a thread is to stop: nothing has any effect any more, or nothing more comes from the network
-abbrev pub core_stops : CoreProgress → Bool
+abbrev pub core_stops : ClientProgress → Bool
 core_stops p = p.over || p.at_end
 
-abbrev pub term_stops : TermProgress → Bool
+abbrev pub term_stops : ServerProgress → Bool
 term_stops p = p.over || p.at_end
 
 -- Where this thread left: the messages that were handled before that, with their marks, lead so far.

@@ -21,7 +21,7 @@ use Rattle.tn_machines.specs.server.Marks.{no_writes_failed}
 use Rattle.tn_machines.specs.server.Reaching.{LeadsTo, IsTurn}
 use Rattle.tn_machines.specs.server.Run.{Run, puts_of}
 use Rattle.tn_machines.specs.server.Welcoming.{too_far_ahead}
-use Rattle.tn_machines.specs.declared.server.messages.Mark.{Mark}
+use Rattle.tn_machines.specs.declared.server.messages.ServerMark.{ServerMark}
 use Rattle.tn_machines.specs.declared.server.messages.Put.{Put}
 use Rattle.tn_machines.specs.declared.faults.Ended.{Ended}
 use Rattle.tn_machines.specs.declared.messages.Message.{Message}
@@ -49,13 +49,13 @@ says c = spells (items_said c.history)
 abbrev pub is_over : Run → Bool
 is_over c = c.progress.over
 
-abbrev pub is_marked_whole : Message × Mark → Bool
+abbrev pub is_marked_whole : Message × ServerMark → Bool
 is_marked_whole m = is_whole m.1
 
 -- one message with its mark: what was written of what it sends, and noted, and what was put
 pub record TurnsMessage (old : Term) (message : Message) (writer : KnownWriting) (before after : Noted)
     (v w : EntryHand) (new : Term) : Type 0 where
-  pub mark : Mark
+  pub mark : ServerMark
   pub bytes : List ℕ
   pub put : Put
   pub last : Put
@@ -70,10 +70,10 @@ pub record TurnsMessage (old : Term) (message : Message) (writer : KnownWriting)
 -- first of those that the run sends, and all of them unless something failed.
 pub record GoesOn (old : Term) (messages : List Message) (writer : KnownWriting)
     (puts : List (Option Entry)) (new : Term) : Type 0 where
-  pub marked : List (Message × Mark)
+  pub marked : List (Message × ServerMark)
   pub whole : map (λ m. m.0) marked ≡ messages
   -- each with what was written after it
-  pub steps : List ((Message × Mark) × List ℕ)
+  pub steps : List ((Message × ServerMark) × List ℕ)
   pub of_steps : map (λ s. s.0) steps ≡ marked
   pub bytes : List ℕ
   pub all_bytes : bytes ≡ total steps

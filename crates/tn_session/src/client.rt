@@ -29,7 +29,7 @@ use std::sync::{Arc, Wait};
 use std::thread::Threads;
 use tn_discipline::Limit;
 use tn_machines::SessionFault;
-use tn_machines::client::{Core, Progress};
+use tn_machines::client::{ClientProgress, Core};
 use tn_streams::{Drain, Finish, Source};
 
 // The core's ends of the mailbox.
@@ -138,7 +138,7 @@ fn settle(
     }
 }
 
-fn report(progress: Progress) -> Report
+fn report(progress: ClientProgress) -> Report
     ensures { result ≡ client_report progress }
 {
     Report {

@@ -23,7 +23,7 @@ use crate::writing::write_out;
 use std::alloc::Global;
 use std::sync::Wait;
 use tn_machines::Message;
-use tn_machines::client::{Core, Mark, Origin, Progress, Told};
+use tn_machines::client::{ClientMark, ClientProgress, Core, Origin, Told};
 use tn_streams::{Drain, Finish};
 
 /// How many threads send mails.
@@ -49,12 +49,12 @@ fn told_of(mail: Mail) -> Told
 }
 
 // Whether nothing more is to be done after both writes.
-fn is_done(written: bool, shown: bool, mark: Mark) -> bool
+fn is_done(written: bool, shown: bool, mark: ClientMark) -> bool
     ensures { result ≡ ((written && shown) || not (is_whole mark)) }
 {
     match mark {
-        Mark::Whole => written && shown,
-        Mark::WriteFailed | Mark::ShowFailed | Mark::Refused(_) => true,
+        ClientMark::Whole => written && shown,
+        ClientMark::WriteFailed | ClientMark::ShowFailed | ClientMark::Refused(_) => true,
     }
 }
 
@@ -101,14 +101,14 @@ fn turn<W: Finish, S: Drain, G: Gate>(
 }
 
 // Keys is to stop where no more comes from the network or nothing has any effect any more.
-fn stops(progress: Progress) -> bool
+fn stops(progress: ClientProgress) -> bool
     ensures { result ≡ core_stops progress }
 {
     progress.over || progress.at_end
 }
 
 // Nothing more goes to the network.
-fn closes(progress: Progress) -> bool
+fn closes(progress: ClientProgress) -> bool
     ensures { result ≡ (progress.over || progress.closed) }
 {
     progress.over || progress.closed
@@ -125,7 +125,7 @@ fn has_left(before: bool, mail: &Mail) -> bool
 }
 
 // Whether Keys is to be told to stop: not once it has left.
-fn is_due(progress: Progress, keys_left: bool) -> bool
+fn is_due(progress: ClientProgress, keys_left: bool) -> bool
     ensures { result ≡ (core_stops progress && not keys_left) }
 {
     stops(progress) && !keys_left

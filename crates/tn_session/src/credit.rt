@@ -33,7 +33,7 @@ const STEPS_AHEAD: u8 = 32;
 pub struct Credit;
 
 // The credits that a pass has taken and given. No value of it is made.
-pub struct Tally {
+pub struct CreditTally {
     pub taken: LinkedList<Credit>,
     pub given: LinkedList<Credit>,
 }
@@ -41,7 +41,7 @@ pub struct Tally {
 // Credits may be given and taken at any time. Each pass counts its own.
 pub struct Freely;
 
-impl Protocol<Credit, Tally> for Freely {
+impl Protocol<Credit, CreditTally> for Freely {
     ghost holds = { AnyTally };
 
     ghost first = { none_taken };
@@ -49,37 +49,37 @@ impl Protocol<Credit, Tally> for Freely {
 
 pub struct Gives;
 
-impl Outcome<Credit, Tally> for Gives {
+impl Outcome<Credit, CreditTally> for Gives {
     ghost then = { λ v x w. w ≡ one_given v x };
 }
 
-impl Lesson<Credit, Tally> for Gives {
+impl Lesson<Credit, CreditTally> for Gives {
     ghost fact = { λ v items. Unit {0} };
 }
 
 pub struct TakesOne;
 
-impl Outcome<Credit, Tally> for TakesOne {
+impl Outcome<Credit, CreditTally> for TakesOne {
     ghost then = { λ v x w. w ≡ one_taken v x };
 }
 
-impl Lesson<Credit, Tally> for TakesOne {
+impl Lesson<Credit, CreditTally> for TakesOne {
     ghost fact = { λ v items. Unit {0} };
 }
 
 pub struct CutReader;
 
-impl Split<Tally> for CutReader {
+impl Split<CreditTally> for CutReader {
     ghost left = { λ v. v };
 
     ghost right = { λ v. none_taken };
 }
 
-pub type CreditPass = Pass<Credit, Tally>;
+pub type CreditPass = Pass<Credit, CreditTally>;
 
-pub type CreditSender = RuledSender<Credit, Tally, Freely>;
+pub type CreditSender = RuledSender<Credit, CreditTally, Freely>;
 
-pub type CreditReceiver = RuledReceiver<Credit, Tally, Freely>;
+pub type CreditReceiver = RuledReceiver<Credit, CreditTally, Freely>;
 
 /// The seat of the one that takes credits: where they come, and the pass.
 #[derive(Drop)]
@@ -183,7 +183,7 @@ fn is_step(mail: &Mail) -> bool
 pub(crate) fn make_step_credits(alloc: Global) -> Result<(CreditGiver, StepCredits), AllocError>
     ensures { IfOk result (λ r. AreNewCredits r.0 r.1) }
 {
-    let (to, from, mut pass) = bounded_with::<Credit, Tally, Freely, Global>(
+    let (to, from, mut pass) = bounded_with::<Credit, CreditTally, Freely, Global>(
         alloc,
         STEPS_AHEAD as usize,
     )?;

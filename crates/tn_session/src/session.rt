@@ -21,7 +21,7 @@ ghost use Rattle.tn_machines.specs.server.Welcoming.{too_far_ahead};
 use crate::back::Runner;
 use crate::channels::{AllRoles, CutBack, CutDesk, CutNet, MailSeat, View};
 use crate::credit::{
-    CREDITS, Credit, CreditSeat, CutReader, Freely, StepCredits, Tally, make_step_credits,
+    CREDITS, Credit, CreditSeat, CreditTally, CutReader, Freely, StepCredits, make_step_credits,
 };
 use crate::entries::{CutTaker, EntrySeat, Hand, InTurn};
 use crate::joining::settle;
@@ -42,7 +42,7 @@ use tn_discipline::{Entry, Limit, Settings};
 use tn_jobs::{Job, JobId};
 use tn_machines::SessionFault;
 use tn_machines::server::laws::{all_goes_before_a_hang_up, faults_have_causes, pieces_are_heard};
-use tn_machines::server::{Progress, Term};
+use tn_machines::server::{ServerProgress, Term};
 use tn_server::Editing;
 use tn_streams::{Finish, Source};
 
@@ -76,7 +76,7 @@ fn make_channels(alloc: Global) -> Result<Channels, AllocError>
     let (put, take, mut hand) = bounded_with::<Option<Entry>, Hand<Option<Entry>>, InTurn, Global>(
         alloc, ENTRIES,
     )?;
-    let (give, credits, mut credit) = bounded_with::<Credit, Tally, Freely, Global>(
+    let (give, credits, mut credit) = bounded_with::<Credit, CreditTally, Freely, Global>(
         alloc, CREDITS,
     )?;
     let (step_giver, step_credits) = make_step_credits(alloc)?;
@@ -193,7 +193,7 @@ fn open<W: Finish>(term: &mut Term, output: &mut Output, writer: &mut W)
     term.write_failed();
 }
 
-fn report(progress: Progress) -> Report
+fn report(progress: ServerProgress) -> Report
     ensures { result ≡ report_of progress }
 {
     Report {

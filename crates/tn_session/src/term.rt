@@ -29,7 +29,7 @@ use std::sync::Wait;
 use tn_discipline::Entry;
 use tn_jobs::JobId;
 use tn_machines::Message;
-use tn_machines::server::{Mark, Outcome, Progress, Put, Term};
+use tn_machines::server::{MessageOutcome, Put, ServerMark, ServerProgress, Term};
 use tn_streams::Finish;
 
 /// How many threads send mails.
@@ -126,12 +126,12 @@ fn tell_said<G: Gate>(gate: &G, job: Option<JobId>) {
 }
 
 // Whether nothing more is to be done after a write.
-fn is_done(written: bool, mark: Mark) -> bool
+fn is_done(written: bool, mark: ServerMark) -> bool
     ensures { result ≡ (written || not (is_whole mark)) }
 {
     match mark {
-        Mark::Whole => written,
-        Mark::WriteFailed | Mark::Refused { .. } => true,
+        ServerMark::Whole => written,
+        ServerMark::WriteFailed | ServerMark::Refused { .. } => true,
     }
 }
 
@@ -157,7 +157,7 @@ fn turn<R: Wait, W: Finish>(
     ensures going { StaysOpen (W.sending writer.old) (W.sending writer.new) }
     ensures silent { term.old.progress.over ≡ true → W.sending writer.new ≡ W.sending writer.old }
 {
-    let Outcome { put, last, mark } = term.handle(message, &mut output.out);
+    let MessageOutcome { put, last, mark } = term.handle(message, &mut output.out);
     let hand = put_if(rt, entries, hand, put);
     let written = output.write_out(writer);
     let hand = hand?;
@@ -169,7 +169,7 @@ fn turn<R: Wait, W: Finish>(
 }
 
 // The background jobs are to stop where no more comes or nothing has any effect any more.
-fn stops(progress: Progress) -> bool
+fn stops(progress: ServerProgress) -> bool
     ensures { result ≡ term_stops progress }
 {
     progress.over || progress.at_end
@@ -186,7 +186,7 @@ fn has_left(before: bool, mail: &Mail) -> bool
 }
 
 // Whether Back is to be told to stop: not once it has left.
-fn is_told(progress: Progress, back_left: bool) -> bool
+fn is_told(progress: ServerProgress, back_left: bool) -> bool
     ensures { result ≡ (term_stops progress && not back_left) }
 {
     stops(progress) && !back_left

@@ -2,26 +2,26 @@
 use Rattle.std.proofs.Common.{◌≡◌, ℕ, List, [], ◌++◌, Option, refl, sym, ap, ◌∙◌, subst, inl, arith, append-nil}
 use Rattle.std.specs.Io.KnownBytes.{Keeps}
 use Rattle.tn_sockets.specs.declared.escaping.Escaping.{Escaping}
-use Rattle.tn_sockets.specs.declared.escaping.Input.{Input}
+use Rattle.tn_sockets.specs.declared.escaping.SessionInput.{SessionInput}
 use Rattle.tn_sockets.proofs.Passing.{consumes_none, keeps_same}
 use Rattle.tn_sockets.specs.Passing.{GivesInputs, handed_on}
 use Rattle.tn_streams.specs.declared.control.Control.{Control}
 
 -- nothing was read: what was kept is given or kept
-pub kept_only : (old new : Option (List ℕ)) (escaping : Escaping) (asked telling : Option Control) (kept left : List Input) (given : List ℕ) → Keeps old new
+pub kept_only : (old new : Option (List ℕ)) (escaping : Escaping) (asked telling : Option Control) (kept left : List SessionInput) (given : List ℕ) → Keeps old new
     → handed_on given telling ++ left ≡ handed_on [] asked ++ kept → GivesInputs old new escaping escaping asked kept given telling left
 kept_only old new escaping asked telling kept left given same gives = record {
   bytes = [];
   typed = consumes_none old new same;
   count = 0;
   taken = (omega arith, inl refl);
-  inputs = gives ∙ ap (λ (xs : List Input). handed_on [] asked ++ xs) (sym (append-nil kept));
+  inputs = gives ∙ ap (λ (xs : List SessionInput). handed_on [] asked ++ xs) (sym (append-nil kept));
   keyboard = refl;
   waits = refl;
 }
 
 -- what was read is given then
-pub given_then : (old new : Option (List ℕ)) (was now : Escaping) (asked middle telling : Option Control) (kept mid left : List Input) (given : List ℕ)
+pub given_then : (old new : Option (List ℕ)) (was now : Escaping) (asked middle telling : Option Control) (kept mid left : List SessionInput) (given : List ℕ)
     → GivesInputs old new was now asked kept [] middle mid → handed_on given telling ++ left ≡ handed_on [] middle ++ mid
     → GivesInputs old new was now asked kept given telling left
 given_then old new was now asked middle telling kept mid left given read gives = record {
@@ -35,7 +35,7 @@ given_then old new was now asked middle telling kept mid left given read gives =
 }
 
 -- the same, where the reader and the escape character stay as they are
-pub given_only : (old new : Option (List ℕ)) (was now : Escaping) (asked telling : Option Control) (kept left : List Input) (given : List ℕ) → new ≡ old
+pub given_only : (old new : Option (List ℕ)) (was now : Escaping) (asked telling : Option Control) (kept left : List SessionInput) (given : List ℕ) → new ≡ old
     → now ≡ was → handed_on given telling ++ left ≡ handed_on [] asked ++ kept → GivesInputs old new was now asked kept given telling left
 given_only old new was now asked telling kept left given same stays gives =
     let still = kept_only old old was asked telling kept left given (keeps_same old) gives in

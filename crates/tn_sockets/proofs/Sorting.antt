@@ -7,10 +7,10 @@ use Rattle.tn_discipline.specs.Characters.{is_reserved}
 use Rattle.tn_sockets.specs.Mapping.{mapped, none_own}
 use Rattle.tn_sockets.specs.Typing.{AreTaken, Obeys, command, command_in, commands, input_in, inputs, inputs_in, is_escape, mapped_input, meant, of_bytes}
 use Rattle.tn_sockets.specs.Typing.{typed_after, unmapped, waits_after, waits_behind}
-use Rattle.tn_sockets.specs.declared.escaping.Command.{Command}
+use Rattle.tn_sockets.specs.declared.escaping.EscapeCommand.{EscapeCommand}
 use Rattle.tn_sockets.specs.declared.escaping.Escaping.{Escaping}
-use Rattle.tn_sockets.specs.declared.escaping.Input.{Input}
-use Rattle.tn_sockets.specs.declared.escaping.Input.TheVariants as input
+use Rattle.tn_sockets.specs.declared.escaping.SessionInput.{SessionInput}
+use Rattle.tn_sockets.specs.declared.escaping.SessionInput.TheVariants as input
 use Rattle.tn_sockets.specs.declared.escaping.Keyboard.{Keyboard}
 use Rattle.tn_sockets.specs.declared.escaping.Typed.{Typed}
 use Rattle.tn_sockets.specs.declared.escaping.Typed.TheVariants as typed
@@ -45,7 +45,7 @@ module _ (keyboard : Keyboard) where
       ap (λ (n : ℕ). input.Key n ∷ []) (plain (is_escape keyboard.escape byte) byte (mapped keyboard.own byte) is
       ∙ ap (λ (n : ℕ). if is_escape keyboard.escape n then n else mapped keyboard.own n) (sym (none_mapped byte)))
 
-  no_key : (b c d : Bool) (command : Command) → input_in (if b then typed.Control Brk else if c then typed.Control Ip else if d then typed.Control Ayt
+  no_key : (b c d : Bool) (command : EscapeCommand) → input_in (if b then typed.Control Brk else if c then typed.Control Ip else if d then typed.Control Ayt
       else typed.Command command)
       ≡ map (mapped_input keyboard) (input_in (if b then typed.Control Brk else if c then typed.Control Ip else if d then typed.Control Ayt
       else typed.Command command))
@@ -95,7 +95,7 @@ module _ (keyboard : Keyboard) where
   inputs_push waits (x ∷ bytes) byte =
       let first = input_in (typed_after keyboard waits x) in
       let next = waits_after keyboard waits x in
-      ap (λ (xs : List Input). first ++ xs) (inputs_push next bytes byte)
+      ap (λ (xs : List SessionInput). first ++ xs) (inputs_push next bytes byte)
       ∙ sym (append_assoc first (inputs keyboard next bytes) (input_in (typed_after keyboard (waits_behind keyboard next bytes) byte)))
 
   commands_push : (waits : Bool) (bytes : List ℕ) (byte : ℕ) → commands keyboard waits (bytes ++ byte ∷ []) ≡ commands keyboard waits bytes
@@ -104,7 +104,7 @@ module _ (keyboard : Keyboard) where
   commands_push waits (x ∷ bytes) byte =
       let first = command_in (typed_after keyboard waits x) in
       let next = waits_after keyboard waits x in
-      ap (λ (cs : List Command). first ++ cs) (commands_push next bytes byte)
+      ap (λ (cs : List EscapeCommand). first ++ cs) (commands_push next bytes byte)
       ∙ sym (append_assoc first (commands keyboard next bytes) (command_in (typed_after keyboard (waits_behind keyboard next bytes) byte)))
 
   waits_push : (waits : Bool) (bytes : List ℕ) (byte : ℕ) → waits_behind keyboard waits (bytes ++ byte ∷ [])
@@ -113,24 +113,24 @@ module _ (keyboard : Keyboard) where
   waits_push waits (x ∷ bytes) byte = waits_push (waits_after keyboard waits x) bytes byte
 
 -- commands that are obeyed
-pub obeys_none : (o : Option (List Command)) → Obeys o [] o
+pub obeys_none : (o : Option (List EscapeCommand)) → Obeys o [] o
 obeys_none None = refl
 obeys_none (Some l) = ap Some (sym (append-nil l))
 
-obeys_more : (a b c : Option (List Command)) (xs ys : List Command) → Obeys a xs b → Obeys b ys c → Obeys a (xs ++ ys) c
-obeys_more None b c xs ys one two = subst (λ (o : Option (List Command)). Obeys o ys c) one two
-obeys_more (Some l) b c xs ys one two = subst (λ (o : Option (List Command)). Obeys o ys c) one two ∙ ap Some (append_assoc l xs ys)
+obeys_more : (a b c : Option (List EscapeCommand)) (xs ys : List EscapeCommand) → Obeys a xs b → Obeys b ys c → Obeys a (xs ++ ys) c
+obeys_more None b c xs ys one two = subst (λ (o : Option (List EscapeCommand)). Obeys o ys c) one two
+obeys_more (Some l) b c xs ys one two = subst (λ (o : Option (List EscapeCommand)). Obeys o ys c) one two ∙ ap Some (append_assoc l xs ys)
 
 -- THE LOOP: what these first bytes gave is kept and obeyed
 module _ (keyboard : Keyboard) (waits : Bool) (given : List ℕ) where
-  pub record IsSorted (first : List Input) (place : ℕ) (kept : List Input) (before now : Option (List Command)) (escaping : Escaping) : Type 0 where
+  pub record IsSorted (first : List SessionInput) (place : ℕ) (kept : List SessionInput) (before now : Option (List EscapeCommand)) (escaping : Escaping) : Type 0 where
     pub kept_are : kept ≡ first ++ inputs keyboard waits (take place given)
     pub obeyed : Obeys before (commands keyboard waits (take place given)) now
     pub keyboard_is : escaping.keyboard ≡ keyboard
     pub waits_are : escaping.waits ≡ waits_behind keyboard waits (take place given)
 
   -- one byte more was taken
-  pub one_more : (first : List Input) (place d : ℕ) (kept more : List Input) (before now later : Option (List Command)) (escaping new : Escaping)
+  pub one_more : (first : List SessionInput) (place d : ℕ) (kept more : List SessionInput) (before now later : Option (List EscapeCommand)) (escaping new : Escaping)
       (typed : Typed) → IsSorted first place kept before now escaping → place < length given
       → typed ≡ typed_after escaping.keyboard escaping.waits (get_or given place d) → new.keyboard ≡ escaping.keyboard
       → new.waits ≡ waits_after escaping.keyboard escaping.waits (get_or given place d)
@@ -147,9 +147,9 @@ module _ (keyboard : Keyboard) (waits : Bool) (given : List ℕ) where
       ap (λ (l : List ℕ). commands keyboard waits l) longer ∙ commands_push keyboard waits done byte
       ∙ ap (λ (t : Typed). commands keyboard waits done ++ command_in t) (sym read) in
       record {
-        kept_are = put ∙ ap (λ (l : List Input). l ++ input_in typed) s.kept_are ∙ append_assoc first (inputs keyboard waits done) (input_in typed)
-            ∙ ap (λ (l : List Input). first ++ l) (sym inputs_are);
-        obeyed = subst (λ (l : List Command). Obeys before l later) (sym commands_are)
+        kept_are = put ∙ ap (λ (l : List SessionInput). l ++ input_in typed) s.kept_are ∙ append_assoc first (inputs keyboard waits done) (input_in typed)
+            ∙ ap (λ (l : List SessionInput). first ++ l) (sym inputs_are);
+        obeyed = subst (λ (l : List EscapeCommand). Obeys before l later) (sym commands_are)
             (obeys_more before now later (commands keyboard waits done) (command_in typed) s.obeyed obeyed);
         keyboard_is = keyboard_stays ∙ s.keyboard_is;
         waits_are = waits_is ∙ (λ i. waits_after (s.keyboard_is i) (s.waits_are i) byte) ∙ sym (waits_push keyboard waits done byte)
@@ -169,7 +169,7 @@ module _ (keyboard : Keyboard) (waits : Bool) (given : List ℕ) where
       ∙ ap (λ (t : Typed). commands keyboard waits done ++ command_in t) (sym read)
 
   -- at first nothing was
-  pub none_yet : (first : List Input) (before : Option (List Command)) (escaping : Escaping) → escaping.keyboard ≡ keyboard → escaping.waits ≡ waits
+  pub none_yet : (first : List SessionInput) (before : Option (List EscapeCommand)) (escaping : Escaping) → escaping.keyboard ≡ keyboard → escaping.waits ≡ waits
       → IsSorted first 0 first before before escaping
   none_yet first before escaping keyboard_is waits_is = record {
     kept_are = sym (append-nil first);

@@ -4,8 +4,8 @@ use Rattle.std.specs.Prelude.{IfOk, MatchResult}
 use Rattle.std.specs.Io.KnownBytes.{Appends, Consumes, Keeps}
 use Rattle.tn_sockets.specs.Typing.{IsTakenUpTo, inputs, waits_behind}
 use Rattle.tn_sockets.specs.declared.escaping.Escaping.{Escaping}
-use Rattle.tn_sockets.specs.declared.escaping.Input.{Input}
-use Rattle.tn_sockets.specs.declared.escaping.Input.TheVariants as input
+use Rattle.tn_sockets.specs.declared.escaping.SessionInput.{SessionInput}
+use Rattle.tn_sockets.specs.declared.escaping.SessionInput.TheVariants as input
 use Rattle.tn_streams.specs.declared.control.Control.{Control}
 use Rattle.tn_streams.specs.Prefixes.{IsPrefixOf}
 
@@ -27,15 +27,15 @@ given_of (Ok n) buf = take n buf
 given_of (Err e) buf = []
 
 -- the keys that were given, and the control function that is to be told next, if there is one
-abbrev pub handed_on : List ℕ → Option Control → List Input
+abbrev pub handed_on : List ℕ → Option Control → List SessionInput
 handed_on keys asked = map input.Key keys ++ map input.Control (option_to_list asked)
 
 -- From one state of a console to a later one. What it gave, is to tell and keeps is what it was to tell and
 -- kept, and then what a session gets of the next bytes that were typed: each once, in their order. Of these
 -- all were taken, or those up to one that asks to close.
 pub record GivesInputs (old new : Option (List ℕ)) (was now : Escaping) (to_tell : Option Control)
-    (kept : List Input)
-    (given : List ℕ) (telling : Option Control) (left : List Input) : Type 0 where
+    (kept : List SessionInput)
+    (given : List ℕ) (telling : Option Control) (left : List SessionInput) : Type 0 where
   pub bytes : List ℕ
   pub typed : Consumes old new bytes
   pub count : ℕ

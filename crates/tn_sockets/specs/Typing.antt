@@ -2,12 +2,12 @@
 -- functions that are asked of the session.
 use Rattle.std.specs.Prelude.{◌≡◌, ◌≤◌, ◌⊎◌, ℕ, nat_eq, Bool, true, false, Option, None, Some, List, [], ◌∷◌}
 use Rattle.std.specs.Prelude.{◌++◌, length, take, if◌then◌else◌}
-use Rattle.tn_sockets.specs.declared.escaping.Command.{Command}
-use Rattle.tn_sockets.specs.declared.escaping.Command.TheVariants.{Close, Help, Status, Suspend, Unknown}
+use Rattle.tn_sockets.specs.declared.escaping.EscapeCommand.{EscapeCommand}
+use Rattle.tn_sockets.specs.declared.escaping.EscapeCommand.TheVariants.{Close, Help, Status, Suspend, Unknown}
 use Rattle.tn_sockets.specs.Mapping.{mapped, none_own}
 use Rattle.tn_sockets.specs.declared.escaping.Escaping.{Escaping}
-use Rattle.tn_sockets.specs.declared.escaping.Input.{Input}
-use Rattle.tn_sockets.specs.declared.escaping.Input.TheVariants as input
+use Rattle.tn_sockets.specs.declared.escaping.SessionInput.{SessionInput}
+use Rattle.tn_sockets.specs.declared.escaping.SessionInput.TheVariants as input
 use Rattle.tn_sockets.specs.declared.escaping.Keyboard.{Keyboard}
 use Rattle.tn_sockets.specs.declared.escaping.Typed.{Typed}
 use Rattle.tn_sockets.specs.declared.escaping.Typed.TheVariants as typed
@@ -22,7 +22,7 @@ is_escape None byte = false
 is_escape (Some character) byte = nat_eq byte character
 
 -- what the byte behind an escape character asks the client itself for: q, ?, s and z
-abbrev pub command : ℕ → Command
+abbrev pub command : ℕ → EscapeCommand
 command byte =
     if nat_eq byte 113 then Close else if nat_eq byte 63 then Help else if nat_eq byte 115 then Status
     else if nat_eq byte 122 then Suspend else Unknown byte
@@ -57,23 +57,23 @@ waits_behind keyboard waits [] = waits
 waits_behind keyboard waits (byte ∷ bytes) = waits_behind keyboard (waits_after keyboard waits byte) bytes
 
 -- what a session gets of what a byte is, and what the client itself is asked for by it
-abbrev pub input_in : Typed → List Input
+abbrev pub input_in : Typed → List SessionInput
 input_in (typed.Key byte) = input.Key byte ∷ []
 input_in (typed.Control control) = input.Control control ∷ []
 input_in _ = []
 
-abbrev pub command_in : Typed → List Command
+abbrev pub command_in : Typed → List EscapeCommand
 command_in (typed.Command command) = command ∷ []
 command_in _ = []
 
 -- what a session gets of what is typed, in its order; where the flag is set, an escape character came before
-abbrev pub inputs : Keyboard → Bool → List ℕ → List Input
+abbrev pub inputs : Keyboard → Bool → List ℕ → List SessionInput
 inputs keyboard waits [] = []
 inputs keyboard waits (byte ∷ bytes) =
     input_in (typed_after keyboard waits byte) ++ inputs keyboard (waits_after keyboard waits byte) bytes
 
 -- and the commands to the client itself
-abbrev pub commands : Keyboard → Bool → List ℕ → List Command
+abbrev pub commands : Keyboard → Bool → List ℕ → List EscapeCommand
 commands keyboard waits [] = []
 commands keyboard waits (byte ∷ bytes) =
     command_in (typed_after keyboard waits byte) ++ commands keyboard (waits_after keyboard waits byte) bytes
@@ -88,18 +88,18 @@ AreTaken old (byte ∷ bytes) (t ∷ taken) new =
     × (between.waits ≡ waits old byte) × AreTaken between bytes taken new
 
 -- what a session gets of what was made of bytes
-abbrev pub inputs_in : List Typed → List Input
+abbrev pub inputs_in : List Typed → List SessionInput
 inputs_in [] = []
 inputs_in (t ∷ taken) = input_in t ++ inputs_in taken
 
 -- these were obeyed, in order, behind those before them, where that is told
-abbrev pub Obeys : Option (List Command) → List Command → Option (List Command) → Type 0
+abbrev pub Obeys : Option (List EscapeCommand) → List EscapeCommand → Option (List EscapeCommand) → Type 0
 Obeys None these new = new ≡ None
 Obeys (Some old) these new = new ≡ Some (old ++ these)
 
 -- the last of these asks to close
-abbrev pub AskToClose : List Command → Type 0
-AskToClose these = (before : List Command) × (these ≡ before ++ (Close ∷ []))
+abbrev pub AskToClose : List EscapeCommand → Type 0
+AskToClose these = (before : List EscapeCommand) × (these ≡ before ++ (Close ∷ []))
 
 -- so many bytes were taken: all, or those up to one that asks to close
 abbrev pub IsTakenUpTo : ℕ → Keyboard → Bool → List ℕ → Type 0
@@ -113,7 +113,7 @@ unmapped keyboard = record keyboard { own = none_own }
 
 -- what the user's own characters make of what a session gets without them; a key that is the escape character
 -- was typed behind another one
-abbrev pub mapped_input : Keyboard → Input → Input
+abbrev pub mapped_input : Keyboard → SessionInput → SessionInput
 mapped_input keyboard (input.Key byte) =
     input.Key (if is_escape keyboard.escape byte then byte else mapped keyboard.own byte)
 mapped_input keyboard (input.Control control) = input.Control control

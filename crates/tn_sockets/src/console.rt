@@ -11,7 +11,7 @@ ghost use Rattle.tn_streams.specs.Foretelling.{ForetellsCall};
 ghost use Rattle.tn_streams.specs.Telling.{CountsRead, TellsCall};
 
 use crate::deeds::Deeds;
-use crate::escaping::{Escaping, Input, Keyboard};
+use crate::escaping::{Escaping, Keyboard, SessionInput};
 use crate::kept;
 use crate::keys::Typing;
 use crate::terminal::Terminal;
@@ -65,7 +65,7 @@ pub struct Console<H, K> {
     escaping: Escaping,
     terminal: Terminal,
     // What is still to be given, whether the last read was ahead, and whether there is no room for more.
-    kept: VecDeque<Input>,
+    kept: VecDeque<SessionInput>,
     is_ahead: bool,
     is_full: bool,
     // The end of what is typed was read ahead.

@@ -1,6 +1,6 @@
 //! What the user at a terminal asks the client itself for.
 
-use crate::escaping::{Command, Obey};
+use crate::escaping::{EscapeCommand, Obey};
 use crate::keys::Typing;
 use crate::link::Link;
 use crate::own_characters::OwnCharacters;
@@ -25,17 +25,17 @@ pub(crate) struct Deeds<'a, H, K> {
 }
 
 impl<'a, H, K> Obey for Deeds<'a, H, K> {
-    fn obey(&mut self, command: Command) {
+    fn obey(&mut self, command: EscapeCommand) {
         match command {
-            Command::Close => self.typing.link.leave(),
-            Command::Help => self.terminal.show(HELP),
-            Command::Status => self.show_status(),
-            Command::Suspend => {
+            EscapeCommand::Close => self.typing.link.leave(),
+            EscapeCommand::Help => self.terminal.show(HELP),
+            EscapeCommand::Status => self.show_status(),
+            EscapeCommand::Suspend => {
                 if !self.terminal.stop() {
                     self.terminal.show(b"nobody here can stop it\r\n");
                 }
             },
-            Command::Unknown(_) => {
+            EscapeCommand::Unknown(_) => {
                 self.terminal
                     .show(b"unknown; the escape character and ? show the keys\r\n");
             },

@@ -11,7 +11,7 @@ use tn_streams::Control;
 
 /// What the user asks the client itself for.
 #[derive(Clone, Copy, Debug, PartialEq, Eq)]
-pub enum Command {
+pub enum EscapeCommand {
     /// `q`: close the connection.
     Close,
     /// `?`: show the keys.
@@ -32,26 +32,26 @@ pub enum Typed {
     /// A control function that is asked for, `b`, `i` or `a` behind the escape character.
     Control(Control),
     /// A command to the client itself.
-    Command(Command),
+    Command(EscapeCommand),
     /// The escape character: the next byte says what for.
     Nothing,
 }
 
 /// What a session gets of what is typed.
 #[derive(Clone, Copy, Debug, PartialEq, Eq)]
-pub enum Input {
+pub enum SessionInput {
     Key(u8),
     Control(Control),
 }
 
 /// Does what the user asks the client itself for.
 pub trait Obey {
-    ghost use Rattle.tn_sockets.specs.declared.escaping.Command.{Command};
+    ghost use Rattle.tn_sockets.specs.declared.escaping.EscapeCommand.{EscapeCommand};
 
     // The commands that were obeyed, where that is told.
-    ghost obeyed: { Self → Option (List Command) } = { λ _. None };
+    ghost obeyed: { Self → Option (List EscapeCommand) } = { λ _. None };
 
-    fn obey(&mut self, command: Command)
+    fn obey(&mut self, command: EscapeCommand)
         ensures { Obeys (obeyed self.old) (command ∷ []) (obeyed self.new) };
 }
 
@@ -121,7 +121,7 @@ impl Escaping {
     pub fn sort<O: Obey>(
         &mut self,
         bytes: &[u8],
-        kept: &mut VecDeque<Input>,
+        kept: &mut VecDeque<SessionInput>,
         obeying: &mut O,
     ) -> usize
         requires room { deque_len kept.old + length bytes.now ≤ deque_capacity kept.old }
@@ -137,13 +137,13 @@ impl Escaping {
         for place in 0..bytes.len() {
             match self.take(bytes[place]) {
                 Typed::Key(key) => {
-                    let _pushed = kept.push_back(Input::Key(key));
+                    let _pushed = kept.push_back(SessionInput::Key(key));
                 },
                 Typed::Control(control) => {
-                    let _pushed = kept.push_back(Input::Control(control));
+                    let _pushed = kept.push_back(SessionInput::Control(control));
                 },
-                Typed::Command(Command::Close) => {
-                    obeying.obey(Command::Close);
+                Typed::Command(EscapeCommand::Close) => {
+                    obeying.obey(EscapeCommand::Close);
                     let taken = place + 1;
                     return taken;
                 },
@@ -176,14 +176,14 @@ fn meant(byte: u8) -> Typed
     }
 }
 
-fn command_of(byte: u8) -> Command
+fn command_of(byte: u8) -> EscapeCommand
     ensures { result ≡ command byte }
 {
     match byte {
-        b'q' => Command::Close,
-        b'?' => Command::Help,
-        b's' => Command::Status,
-        b'z' => Command::Suspend,
-        _ => Command::Unknown(byte),
+        b'q' => EscapeCommand::Close,
+        b'?' => EscapeCommand::Help,
+        b's' => EscapeCommand::Status,
+        b'z' => EscapeCommand::Suspend,
+        _ => EscapeCommand::Unknown(byte),
     }
 }

@@ -3,9 +3,9 @@
 
 ghost use Rattle.std.specs.Prelude.{◌≡◌, ◌≤◌, ◌+◌, ◌++◌, true, length, map, option_to_list, take};
 ghost use Rattle.std.specs.VecDeque.{deque_capacity, deque_len};
-ghost use Rattle.tn_sockets.specs.declared.escaping.Input.TheVariants as input;
+ghost use Rattle.tn_sockets.specs.declared.escaping.SessionInput.TheVariants as input;
 
-use crate::escaping::Input;
+use crate::escaping::SessionInput;
 use std::collections::VecDeque;
 use tn_streams::Control;
 
@@ -13,7 +13,7 @@ use tn_streams::Control;
 const MAX_KEPT: usize = 16_777_216;
 
 /// Whether so many more can be kept.
-pub(crate) fn makes_room(kept: &mut VecDeque<Input>, count: usize) -> bool
+pub(crate) fn makes_room(kept: &mut VecDeque<SessionInput>, count: usize) -> bool
     ensures kept { kept.new.items ≡ kept.old.items }
     ensures room { result ≡ true → deque_len kept.new + count ≤ deque_capacity kept.new }
 {
@@ -21,14 +21,14 @@ pub(crate) fn makes_room(kept: &mut VecDeque<Input>, count: usize) -> bool
 }
 
 /// How many of what is kept are keys.
-pub(crate) fn count_keys(kept: &VecDeque<Input>) -> usize {
+pub(crate) fn count_keys(kept: &VecDeque<SessionInput>) -> usize {
     kept.iter()
-        .filter(|input| matches!(input, Input::Key(_)))
+        .filter(|input| matches!(input, SessionInput::Key(_)))
         .count()
 }
 
 /// Gives the first keys, as many as there is room for, and none behind a control function.
-pub(crate) fn give(kept: &mut VecDeque<Input>, buf: &mut [u8]) -> usize
+pub(crate) fn give(kept: &mut VecDeque<SessionInput>, buf: &mut [u8]) -> usize
     ensures bound { result ≤ length buf.new }
     ensures gives { map input.Key (take result buf.new) ++ kept.new.items ≡ kept.old.items }
 {
@@ -42,11 +42,11 @@ pub(crate) fn give(kept: &mut VecDeque<Input>, buf: &mut [u8]) -> usize
 }
 
 // Takes what is first, if it is a key.
-fn first_key(kept: &mut VecDeque<Input>) -> Option<u8>
+fn first_key(kept: &mut VecDeque<SessionInput>) -> Option<u8>
     ensures { map input.Key (option_to_list result) ++ kept.new.items ≡ kept.old.items }
 {
     match kept.front() {
-        Some(Input::Key(key)) => {
+        Some(SessionInput::Key(key)) => {
             let key = *key;
             let _first = kept.pop_front();
             Some(key)
@@ -56,11 +56,11 @@ fn first_key(kept: &mut VecDeque<Input>) -> Option<u8>
 }
 
 /// Takes what is first, if it is a control function.
-pub(crate) fn first_control(kept: &mut VecDeque<Input>) -> Option<Control>
+pub(crate) fn first_control(kept: &mut VecDeque<SessionInput>) -> Option<Control>
     ensures { map input.Control (option_to_list result) ++ kept.new.items ≡ kept.old.items }
 {
     match kept.front() {
-        Some(Input::Control(control)) => {
+        Some(SessionInput::Control(control)) => {
             let control = *control;
             let _first = kept.pop_front();
             Some(control)

@@ -10,7 +10,7 @@ ghost use Rattle.tn_sockets.specs.Mapping.{terminal_with};
 ghost use Rattle.tn_sockets.specs.Typing.{AreTaken, commands, inputs, inputs_in, mapped_input, of_bytes};
 ghost use Rattle.tn_sockets.specs.Typing.{unmapped};
 ghost use Rattle.tn_sockets.specs.declared.escaping.Escaping.{Escaping};
-ghost use Rattle.tn_sockets.specs.declared.escaping.Input.TheVariants.{Key};
+ghost use Rattle.tn_sockets.specs.declared.escaping.SessionInput.TheVariants.{Key};
 ghost use Rattle.tn_sockets.specs.declared.escaping.Keyboard.{Keyboard};
 ghost use Rattle.tn_sockets.specs.declared.escaping.Typed.{Typed};
 ghost use Rattle.tn_sockets.specs.declared.own_characters.OwnCharacters.{OwnCharacters};

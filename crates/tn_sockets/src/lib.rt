@@ -23,7 +23,7 @@
 pub use attended::{Attended, Standing};
 pub use connection::{Closing, Connection};
 pub use console::Console;
-pub use escaping::{Command, Escaping, Input, Keyboard, Obey, Typed};
+pub use escaping::{EscapeCommand, Escaping, Keyboard, Obey, SessionInput, Typed};
 pub use hook::Hook;
 pub use host::Host;
 pub use incoming::Incoming;

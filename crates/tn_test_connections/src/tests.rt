@@ -1,4 +1,4 @@
-//! The trials.
+//! The tests.
 
 mod clients;
 mod connections;

@@ -1,18 +1,10 @@
-//! The trials. What they compare they compare by `==` in most places, since printing both values where they
-//! differ would take most of a trial's proof.
+//! The tests. What they compare they compare by `==` in most places, since printing both values where they
+//! differ would take most of a test's proof.
 
 use std::alloc::Global;
 use std::process::Abort;
 use tn_test_models::page::{Stage, unlike};
 
-mod beside_clients;
-mod beside_edited;
-mod beside_lines;
-mod beside_pairs;
-mod beside_payloads;
-mod beside_servers;
-mod beside_service_lines;
-mod beside_streams;
 mod characters;
 mod clients;
 mod codes;
@@ -24,6 +16,14 @@ mod linemode;
 mod lines;
 mod options;
 mod pairs;
+mod random_clients;
+mod random_edited;
+mod random_lines;
+mod random_pairs;
+mod random_payloads;
+mod random_servers;
+mod random_service_lines;
+mod random_streams;
 mod servers;
 mod streams;
 

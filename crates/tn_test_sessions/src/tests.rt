@@ -1,8 +1,6 @@
-//! The trials.
+//! The tests.
 
 mod agreement;
-mod beside_prints;
-mod beside_terminals;
 mod decoding;
 mod forward;
 mod keys;
@@ -10,6 +8,8 @@ mod midline;
 mod one_loop;
 mod playing;
 mod programs;
+mod random_prints;
+mod random_terminals;
 mod refusals;
 mod running;
 mod worlds;

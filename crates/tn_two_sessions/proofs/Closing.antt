@@ -8,12 +8,12 @@ use Rattle.tn_machines.specs.client.Commands.{command_of}
 use Rattle.tn_machines.specs.client.Counting.{after_message}
 use Rattle.tn_machines.specs.client.Marks.{Turns, Runs}
 use Rattle.tn_machines.specs.client.Run.{Run, Acts, ActsUnless, types, sent_after, start}
-use Rattle.tn_machines.specs.declared.client.messages.Mark.{Mark}
-use Rattle.tn_machines.specs.declared.client.messages.Mark.TheVariants as mark
+use Rattle.tn_machines.specs.declared.client.messages.ClientMark.{ClientMark}
+use Rattle.tn_machines.specs.declared.client.messages.ClientMark.TheVariants as mark
 use Rattle.tn_machines.specs.declared.client.messages.Origin.{Origin}
 use Rattle.tn_machines.specs.declared.client.messages.Origin.TheVariants.{Keys, Net}
 use Rattle.tn_machines.specs.declared.client.messages.Told.{Told}
-use Rattle.tn_machines.specs.declared.client.progress.Progress.{Progress}
+use Rattle.tn_machines.specs.declared.client.progress.ClientProgress.{ClientProgress}
 use Rattle.tn_session.proofs.lemmas.ClientTurns.{opens, sent_latest}
 use Rattle.tn_session.specs.CoreTurns.{all_told}
 use Rattle.tn_session.specs.Mailbox.{from, mail}
@@ -78,7 +78,7 @@ stood c new e f g t = record { latest = λ o. e ∙ t.latest (g o) ∙ sym f; sa
 
 turned : (c new : Run) (from : Origin) (m : Message) → new.sent ≡ c.sent → new.history ≡ c.history → new.progress ≡ after_message from m c.progress → Typed c
     → Typed new
-turned c new from m e f g t = stood c new e f (λ o. opens from m c.progress (sym (ap (λ (p : Progress). p.closed) g) ∙ o)) t
+turned c new from m e f g t = stood c new e f (λ o. opens from m c.progress (sym (ap (λ (p : ClientProgress). p.closed) g) ∙ o)) t
 
 acts : (c new : Run) (from : Origin) (m : Message) → Acts c from m new → MayType c.progress.closed from m → Typed c → Typed new
 acts c new Keys (Piece piece) a may t =
@@ -120,7 +120,7 @@ handles : (o : Bool) (c new : Run) (x : Told) → ActsUnless o c x new → MayTy
 handles true c new x a may t = stood c new (ap (λ (r : Run). r.sent) a) (ap (λ (r : Run). r.history) a) (λ o. sym (ap (λ (r : Run). r.progress.closed) a) ∙ o) t
 handles false c new x a may t = acts c new x.from x.message a may t
 
-turn_typed : (c new : Run) (x : Told) (k : Mark) → Turns c (x, k) new → MayType c.progress.closed x.from x.message → Typed c → Typed new
+turn_typed : (c new : Run) (x : Told) (k : ClientMark) → Turns c (x, k) new → MayType c.progress.closed x.from x.message → Typed c → Typed new
 turn_typed c new x mark.Whole a may t = handles c.progress.over c new x a may t
 turn_typed c new x mark.WriteFailed a may t = stood a.1 new (ap (λ (r : Run). r.sent) a.3) (ap (λ (r : Run). r.history) a.3)
     (λ o. sym (ap (λ (r : Run). r.progress.closed) a.3) ∙ o) (handles c.progress.over c a.1 x a.2 may t)
@@ -158,13 +158,13 @@ handles_open : (o : Bool) (c new : Run) (x : Told) → IsOpen x.from x.message �
 handles_open true c new x is a = ap (λ (r : Run). r.progress.closed) a
 handles_open false c new x is a = acts_open c new x.from x.message is a
 
-turn_open : (c new : Run) (x : Told) (k : Mark) → IsOpen x.from x.message → Turns c (x, k) new → new.progress.closed ≡ c.progress.closed
+turn_open : (c new : Run) (x : Told) (k : ClientMark) → IsOpen x.from x.message → Turns c (x, k) new → new.progress.closed ≡ c.progress.closed
 turn_open c new x mark.Whole is a = handles_open c.progress.over c new x is a
 turn_open c new x mark.WriteFailed is a = ap (λ (r : Run). r.progress.closed) a.3 ∙ handles_open c.progress.over c a.1 x is a.2
 turn_open c new x mark.ShowFailed is a = ap (λ (r : Run). r.progress.closed) a.3 ∙ handles_open c.progress.over c a.1 x is a.2
 turn_open c new x (mark.Refused f) is a = ap (λ (r : Run). r.progress.closed) a.3 ∙ handles_open c.progress.over c a.1 x is a.2
 
-abbrev pub tolds : List (Told × Mark) → List Told
+abbrev pub tolds : List (Told × ClientMark) → List Told
 tolds ms = map (λ m. m.0) ms
 
 typed_as : (c new : Run) → c ≡ new → Typed c → Typed new
@@ -187,7 +187,7 @@ none_first closed Keys Left ms n = record { may = tt; later = n }
 none_first closed Keys (Resized size) ms n = record { may = tt; later = n }
 none_first closed Keys (Asked control) ms n = absurd n
 
-run_closed : (marked : List (Told × Mark)) (c new : Run) → Runs c marked new → NoInput (keys_messages (tolds marked)) → Typed c → Typed new
+run_closed : (marked : List (Told × ClientMark)) (c new : Run) → Runs c marked new → NoInput (keys_messages (tolds marked)) → Typed c → Typed new
 run_closed [] c new r n t = typed_as c new r t
 run_closed ((x, k) ∷ marked) c new r n t =
     let f = none_first c.progress.closed x.from x.message (keys_messages (tolds marked)) n in
@@ -210,7 +210,7 @@ first_of_keys Keys Left ms l = last l
 first_of_keys Keys (Resized size) ms l = more tt l
 first_of_keys Keys (Asked control) ms l = more tt l
 
-pub run_typed : (marked : List (Told × Mark)) (c new : Run) → Runs c marked new → c.progress.closed ≡ false → LeftLast (keys_messages (tolds marked)) → Typed c
+pub run_typed : (marked : List (Told × ClientMark)) (c new : Run) → Runs c marked new → c.progress.closed ≡ false → LeftLast (keys_messages (tolds marked)) → Typed c
     → Typed new
 run_typed [] c new r open_now l t = typed_as c new r t
 run_typed ((x, k) ∷ marked) c new r open_now l t = go (first_of_keys x.from x.message (keys_messages (tolds marked)) l)
@@ -265,7 +265,7 @@ mailed : (ms : List Message) → messages_in (map (mail sender.Keys) ms) ≡ ms
 mailed [] = refl
 mailed (m ∷ ms) = ap (λ (l : List Message). m ∷ l) (mailed ms)
 
-pub inputs_sent : (width height limit : ℕ) (marked : List (Told × Mark)) (new : Run) (handled : List Mail) (may_stop : Bool) (told : List Telling)
+pub inputs_sent : (width height limit : ℕ) (marked : List (Told × ClientMark)) (new : Run) (handled : List Mail) (may_stop : Bool) (told : List Telling)
     (left : Option (List ℕ)) (foretold : Option Failures) (close : List Message)
     → Runs (start width height limit) marked new → tolds marked ≡ all_told handled
     → from sender.Keys handled ≡ map (mail sender.Keys) (told_messages told ++ close) → Closes may_stop (pieces_in told) left foretold close

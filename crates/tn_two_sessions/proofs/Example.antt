@@ -8,8 +8,8 @@ use Rattle.tn_machines.specs.client.Bringing.{Input, key_typed}
 use Rattle.tn_machines.specs.client.Counting as client_counting
 use Rattle.tn_machines.specs.client.Marks as core
 use Rattle.tn_machines.specs.client.Run as core_run
-use Rattle.tn_machines.specs.declared.client.messages.Mark as core_mark
-use Rattle.tn_machines.specs.declared.client.messages.Mark.TheVariants as core_is
+use Rattle.tn_machines.specs.declared.client.messages.ClientMark as core_mark
+use Rattle.tn_machines.specs.declared.client.messages.ClientMark.TheVariants as core_is
 use Rattle.tn_machines.specs.declared.client.messages.Origin.{Origin}
 use Rattle.tn_machines.specs.declared.client.messages.Origin.TheVariants as origin
 use Rattle.tn_machines.specs.declared.client.messages.Told.{Told}
@@ -57,9 +57,9 @@ use Rattle.tn_streams.specs.Known.{KnownReader, KnownTyping, KnownWriting}
 use Rattle.tn_streams.specs.Prefixes.{IsPrefixOf}
 use Rattle.tn_machines.specs.server.Marks as term
 use Rattle.tn_machines.specs.server.Run as term_run
-use Rattle.tn_machines.specs.declared.server.messages.Mark as term_mark
-use Rattle.tn_machines.specs.declared.server.messages.Mark.TheVariants as term_is
-use Rattle.tn_wire.specs.Prefixes.{IsRead}
+use Rattle.tn_machines.specs.declared.server.messages.ServerMark as term_mark
+use Rattle.tn_machines.specs.declared.server.messages.ServerMark.TheVariants as term_is
+use Rattle.tn_linemode.specs.Prefixes.{IsRead}
 
 -- what the server's terminal hears
 abbrev bytes : List ℕ
@@ -183,7 +183,7 @@ from_desk = mail who.Desk Take ∷ mail who.Desk (Said first_job [] Stay) ∷ ma
 abbrev from_back : List Mail
 from_back = mail who.Back Left ∷ []
 
-abbrev marked : List (Message × term_mark.Mark)
+abbrev marked : List (Message × term_mark.ServerMark)
 marked =
     (Piece bytes, term_is.Whole) ∷ (Take, term_is.Whole) ∷ (Said first_job [] Stay, term_is.Whole) ∷ (HangUp, term_is.Whole) ∷ (Take, term_is.Whole)
     ∷ (Left, term_is.Whole)
@@ -427,10 +427,10 @@ module _ (width height : ℕ) where
   abbrev hung_up : List Mail
   hung_up = mail who.Net HangUp ∷ mail who.Net Left ∷ []
 
-  abbrev tell : Origin → Message → Told × core_mark.Mark
+  abbrev tell : Origin → Message → Told × core_mark.ClientMark
   tell o m = (record { from = o; message = m }, core_is.Whole)
 
-  abbrev told_all : List (Told × core_mark.Mark)
+  abbrev told_all : List (Told × core_mark.ClientMark)
   told_all = tell origin.Keys (Piece typed) ∷ tell origin.Keys HangUp ∷ tell origin.Keys Left ∷ tell origin.Net HangUp ∷ tell origin.Net Left ∷ []
 
   client_runs : core.Runs c0 told_all c5

@@ -5,7 +5,7 @@ use Rattle.tn_nvt.proofs.lemmas.Reading.{reads_on, reads_spelled, one_reading}
 use Rattle.tn_nvt.specs.Spelling.{spells, Fits}
 use Rattle.tn_nvt.specs.Stream.{Reading}
 use Rattle.tn_nvt.specs.declared.items.Item.{Item}
-use Rattle.tn_wire.specs.Prefixes.{IsRead}
+use Rattle.tn_linemode.specs.Prefixes.{IsRead}
 use Rattle.tn_streams.specs.Prefixes.{IsPrefixOf}
 
 pub heard_first : (stream : List ℕ) (xs said : List Item) → IsRead stream xs → All Fits said → IsPrefixOf stream (spells said) → IsPrefixOf xs said

@@ -3,7 +3,7 @@ use Rattle.std.specs.Prelude.{◌≡◌, ℕ, Bool, List, [], ◌∷◌, ◌++�
 use Rattle.tn_client.specs.Replies as client_says
 use Rattle.tn_machines.specs.client.Marks as core
 use Rattle.tn_machines.specs.client.Run as core_run
-use Rattle.tn_machines.specs.declared.client.messages.Mark as core_mark
+use Rattle.tn_machines.specs.declared.client.messages.ClientMark as core_mark
 use Rattle.tn_machines.specs.declared.client.messages.Told.{Told}
 use Rattle.tn_discipline.specs.Canon.{Canon, typed_entries}
 use Rattle.tn_jobs.specs.Jobs.{Jobs}
@@ -13,7 +13,7 @@ use Rattle.tn_server.specs.Replies as server_says
 use Rattle.tn_server.specs.declared.wishes.Editing.{Editing}
 use Rattle.tn_machines.specs.server.Marks as term
 use Rattle.tn_machines.specs.server.Run as term_run
-use Rattle.tn_machines.specs.declared.server.messages.Mark as term_mark
+use Rattle.tn_machines.specs.declared.server.messages.ServerMark as term_mark
 use Rattle.tn_machines.specs.declared.messages.Message.{Message}
 use Rattle.tn_streams.specs.Prefixes.{IsPrefixOf}
 use Rattle.tn_world.proofs.lemmas.Histories.{keys_typed}
@@ -21,17 +21,17 @@ use Rattle.tn_world.proofs.lemmas.Histories.{keys_typed}
 -- A STEP of two sessions: the terminal of the server's handled a message, or the core of the client's did;
 -- with the mark for how far it was done
 pub data Step : Type 0 where
-  served : Message × term_mark.Mark → Step
-  told : Told × core_mark.Mark → Step
+  served : Message × term_mark.ServerMark → Step
+  told : Told × core_mark.ClientMark → Step
 
 -- what the terminal handled, in order
-abbrev pub server_steps : List Step → List (Message × term_mark.Mark)
+abbrev pub server_steps : List Step → List (Message × term_mark.ServerMark)
 server_steps [] = []
 server_steps (served m ∷ order) = m ∷ server_steps order
 server_steps (told m ∷ order) = server_steps order
 
 -- and what the core did
-abbrev pub client_steps : List Step → List (Told × core_mark.Mark)
+abbrev pub client_steps : List Step → List (Told × core_mark.ClientMark)
 client_steps [] = []
 client_steps (served m ∷ order) = client_steps order
 client_steps (told m ∷ order) = m ∷ client_steps order

@@ -12,13 +12,13 @@ use Rattle.tn_machines.specs.client.Bringing.{Input, brought_from, inputs, input
 use Rattle.tn_machines.specs.client.Marks as core
 use Rattle.tn_machines.specs.client.Reaching as core_reach
 use Rattle.tn_machines.specs.client.Run as core_run
-use Rattle.tn_machines.specs.declared.client.messages.Mark as core_mark
-use Rattle.tn_machines.specs.declared.client.messages.Mark.TheVariants as core_is
+use Rattle.tn_machines.specs.declared.client.messages.ClientMark as core_mark
+use Rattle.tn_machines.specs.declared.client.messages.ClientMark.TheVariants as core_is
 use Rattle.tn_machines.specs.declared.client.messages.Origin.{Origin}
 use Rattle.tn_machines.specs.declared.client.messages.Origin.TheVariants as origin
 use Rattle.tn_machines.specs.declared.client.messages.Told.{Told}
 use Rattle.tn_machines.specs.declared.client.machine.Core.{Core}
-use Rattle.tn_machines.specs.declared.client.progress.Progress as core_progress
+use Rattle.tn_machines.specs.declared.client.progress.ClientProgress as core_progress
 use Rattle.tn_discipline.specs.Canon.{Canon, typed_entries}
 use Rattle.tn_discipline.specs.Characters.{standard_characters}
 use Rattle.tn_discipline.specs.declared.reads.Entry.{Entry}
@@ -31,8 +31,8 @@ use Rattle.tn_two_sessions.proofs.Transcripts.{client-append, holds, one_read, o
 use Rattle.tn_two_sessions.proofs.Tying.{AreTied, ties}
 use Rattle.tn_two_sessions.specs.OneLoop.{Happens, IsStart, LoopReads, ReadsAll, ServesOne, TellsOne, from_network, from_user, inputs_by, inputs_of}
 use Rattle.tn_two_sessions.specs.Transcripts.{HasKey, Step, served, told, server_steps, client_steps, IsCarried, IsInTime, keys_of}
-use Rattle.tn_two_sessions.specs.declared.one_loop.Event.{Event}
-use Rattle.tn_two_sessions.specs.declared.one_loop.Event.TheVariants.{Typed, Asked, ToServer, ToClient, Take, Said}
+use Rattle.tn_two_sessions.specs.declared.one_loop.LoopEvent.{LoopEvent}
+use Rattle.tn_two_sessions.specs.declared.one_loop.LoopEvent.TheVariants.{Typed, Asked, ToServer, ToClient, Take, Said}
 use Rattle.tn_two_sessions.specs.declared.one_loop.Joined.{Joined}
 use Rattle.tn_machines.specs.Pieces.{bytes_in}
 use Rattle.tn_machines.specs.declared.messages.Message.{Message}
@@ -57,8 +57,8 @@ use Rattle.tn_machines.specs.server.Marks as term
 use Rattle.tn_machines.specs.server.Reaching as term_reach
 use Rattle.tn_machines.specs.server.Run as term_run
 use Rattle.tn_machines.specs.server.Run.{puts_of}
-use Rattle.tn_machines.specs.declared.server.messages.Mark as term_mark
-use Rattle.tn_machines.specs.declared.server.progress.Progress as term_progress
+use Rattle.tn_machines.specs.declared.server.messages.ServerMark as term_mark
+use Rattle.tn_machines.specs.declared.server.progress.ServerProgress as term_progress
 use Rattle.tn_machines.specs.declared.server.terminal.Term.{Term}
 use Rattle.tn_world.proofs.lemmas.Histories as histories
 use Rattle.tn_world.proofs.lemmas.Histories.{TiedHistories, keys_typed}
@@ -113,10 +113,10 @@ IsInput (message.Asked control) = Unit {0}
 IsInput _ = ⊥
 
 abbrev ClientStep : Type 0
-ClientStep = (Told × core_mark.Mark) × List ℕ
+ClientStep = (Told × core_mark.ClientMark) × List ℕ
 
 abbrev ServerStep : Type 0
-ServerStep = (Message × term_mark.Mark) × List ℕ
+ServerStep = (Message × term_mark.ServerMark) × List ℕ
 
 abbrev AllInputs : List ClientStep → Type 0
 AllInputs [] = Unit {0}
@@ -151,7 +151,7 @@ typed-push [] s = append-nil (inputs_from s.0.0.from s.0.0.message)
 typed-push (t ∷ ts) s = ap (λ (l : List Input). inputs_from t.0.0.from t.0.0.message ++ l) (typed-push ts s)
     ∙ sym (append_assoc (inputs_from t.0.0.from t.0.0.message) (typed_in ts) (inputs_from s.0.0.from s.0.0.message))
 
-unwritten_one : (m : core_mark.Mark) → core.is_written m ≡ false → core.is_whole m ≡ false
+unwritten_one : (m : core_mark.ClientMark) → core.is_written m ≡ false → core.is_whole m ≡ false
 unwritten_one core_is.Whole e = e
 unwritten_one core_is.WriteFailed e = refl
 unwritten_one core_is.ShowFailed e = refl
@@ -332,7 +332,7 @@ module _ (canon : Canon) (editing : Editing) (jobs : Jobs) (width height : ℕ) 
         are_inputs = all_inputs-push h.cs ((t, one.mark), one.bytes) h.are_inputs input;
       }
 
-  pub happens : (typed : List Input) (old new : Joined) (event : Event) → Here typed old → Happens old event new → Here (typed ++ inputs_by event) new
+  pub happens : (typed : List Input) (old new : Joined) (event : LoopEvent) → Here typed old → Happens old event new → Here (typed ++ inputs_by event) new
   happens typed old new (Typed keys) h one = tells typed old old new (from_user (message.Piece keys)) h refl refl refl refl tt refl one
   happens typed old new (Asked control) h one = tells typed old old new (from_user (message.Asked control)) h refl refl refl refl tt refl one
   happens typed old new (ToServer count) h one =
@@ -345,7 +345,7 @@ module _ (canon : Canon) (editing : Editing) (jobs : Jobs) (width height : ℕ) 
   happens typed old new (Said job text after) h one = subst (λ (l : List Input). Here l new) (sym (append-nil typed))
       (serves typed old old new (message.Said job text after) h refl refl refl refl refl one)
 
-  all_happen : (typed : List Input) (script : List Event) (old new : Joined) → Here typed old → FoldsTo Happens old script new
+  all_happen : (typed : List Input) (script : List LoopEvent) (old new : Joined) → Here typed old → FoldsTo Happens old script new
       → Here (typed ++ inputs_of script) new
   all_happen typed [] old new h goes = subst (λ (l : List Input). Here l new) (sym (append-nil typed)) (subst (λ (j : Joined). Here typed j) goes h)
   all_happen typed (event ∷ events) old new h goes =
@@ -369,7 +369,7 @@ module _ (canon : Canon) (editing : Editing) (jobs : Jobs) (width height : ℕ) 
       let carried : IsCarried (record { read = []; wrote = opening } ∷ map served_step h.ss) (map told_step h.cs) =
       record { order = h.order; of_server = h.of_server; of_client = h.of_client; in_time = h.in_time } in
       let at = holds canon editing width height true jobs (λ k l. AreTied canon k l) tied
-      (None ∷ map (λ (m : Message × term_mark.Mark). Some m) marked) cmarked last (opening ++ total h.ss)
+      (None ∷ map (λ (m : Message × term_mark.ServerMark). Some m) marked) cmarked last (opening ++ total h.ss)
       (total h.cs) _ _ s_transcribed c_transcribed carried in
       let s_runs = steps_run h.ss first_server h.server h.served_by in
       let c_runs = told_run h.cs first_client h.client h.told_by in

@@ -6,7 +6,7 @@ use Rattle.tn_machines.proofs.lemmas.client.Bringing.{in_order}
 use Rattle.tn_machines.specs.client.Bringing.{brought}
 use Rattle.tn_machines.specs.client.Marks as core
 use Rattle.tn_machines.specs.client.Run as core_run
-use Rattle.tn_machines.specs.declared.client.messages.Mark as core_mark
+use Rattle.tn_machines.specs.declared.client.messages.ClientMark as core_mark
 use Rattle.tn_machines.specs.declared.client.messages.Origin.TheVariants as origin
 use Rattle.tn_machines.specs.declared.client.messages.Told.{Told}
 use Rattle.tn_discipline.specs.Canon.{Canon}
@@ -27,7 +27,7 @@ use Rattle.tn_streams.specs.Prefixes.{IsPrefixOf}
 use Rattle.tn_machines.proofs.lemmas.server.Hearing.{hears}
 use Rattle.tn_machines.specs.server.Hearing.{heard}
 use Rattle.tn_machines.specs.server.Run as term_run
-use Rattle.tn_machines.specs.declared.server.messages.Mark as term_mark
+use Rattle.tn_machines.specs.declared.server.messages.ServerMark as term_mark
 
 -- THE STEPS SO FAR, AND ONE MORE
 pub server-append : (xs ys : List Step) → server_steps (xs ++ ys) ≡ server_steps xs ++ server_steps ys
@@ -47,10 +47,10 @@ pub one_wrote : (xs : List Exchange) (x : Exchange) → all_wrote (xs ++ x ∷ [
 one_wrote xs x = all_wrote-append xs (x ∷ []) ∙ ap (λ (l : List ℕ). all_wrote xs ++ l) (append-nil x.wrote)
 
 abbrev ServerMarked : Type 0
-ServerMarked = Message × term_mark.Mark
+ServerMarked = Message × term_mark.ServerMark
 
 abbrev ClientMarked : Type 0
-ClientMarked = Told × core_mark.Mark
+ClientMarked = Told × core_mark.ClientMark
 
 -- what the messages of some steps brought
 abbrev server_brought : List runs.Step → List ℕ
@@ -157,7 +157,7 @@ module _ (canon : Canon) (editing : Editing) (width height : ℕ) (opens : Bool)
       }
 
   -- a message at the terminal
-  served_on : (steps : List Step) (s new : Point term_run.Run) (c : Point core_run.Run) (written : List ℕ) (m : Message) (k : term_mark.Mark) (x : Exchange)
+  served_on : (steps : List Step) (s new : Point term_run.Run) (c : Point core_run.Run) (written : List ℕ) (m : Message) (k : term_mark.ServerMark) (x : Exchange)
       → IsExchange of_server.OpensOrTurns of_server.brings of_server.says written s (Some (m, k), x) new
       → IsInTime (server_steps (steps ++ served x ∷ [])) (client_steps (steps ++ served x ∷ [])) → Here steps s c → Here (steps ++ served x ∷ []) new c
   served_on steps s new c written m k x step i here =
@@ -191,7 +191,7 @@ module _ (canon : Canon) (editing : Editing) (width height : ℕ) (opens : Bool)
       }
 
   -- and one at the core
-  told_on : (steps : List Step) (s : Point term_run.Run) (c new : Point core_run.Run) (written : List ℕ) (m : Told) (k : core_mark.Mark) (x : Exchange)
+  told_on : (steps : List Step) (s : Point term_run.Run) (c new : Point core_run.Run) (written : List ℕ) (m : Told) (k : core_mark.ClientMark) (x : Exchange)
       → IsExchange core.Turns of_client.brings of_client.says written c ((m, k), x) new
       → IsInTime (server_steps (steps ++ told x ∷ [])) (client_steps (steps ++ told x ∷ [])) → Here steps s c → Here (steps ++ told x ∷ []) s new
   told_on steps s c new written m k x step i here =

@@ -8,7 +8,7 @@ use Rattle.tn_client.specs.declared.commands.UserCommand.{UserCommand}
 use Rattle.tn_machines.proofs.lemmas.client.Bringing.{in_order}
 use Rattle.tn_machines.specs.client.Marks as core
 use Rattle.tn_machines.specs.client.Run as core_run
-use Rattle.tn_machines.specs.declared.client.messages.Mark as core_mark
+use Rattle.tn_machines.specs.declared.client.messages.ClientMark as core_mark
 use Rattle.tn_machines.specs.declared.client.messages.Told.{Told}
 use Rattle.tn_discipline.specs.Canon.{Canon}
 use Rattle.tn_jobs.specs.Jobs.{Jobs}
@@ -25,7 +25,7 @@ use Rattle.tn_server.specs.declared.wishes.Editing.{Editing}
 use Rattle.tn_machines.proofs.lemmas.server.Hearing.{hears}
 use Rattle.tn_machines.specs.server.Marks as term
 use Rattle.tn_machines.specs.server.Run as term_run
-use Rattle.tn_machines.specs.declared.server.messages.Mark as term_mark
+use Rattle.tn_machines.specs.declared.server.messages.ServerMark as term_mark
 use Rattle.tn_machines.specs.declared.messages.Message.{Message}
 use Rattle.tn_streams.specs.Prefixes.{IsPrefixOf}
 
@@ -67,7 +67,7 @@ module _ (canon : Canon) (editing : Editing) (width height : ℕ) (opens : Bool)
       (in_order width height canon.limit (client_steps done) now.client r.1).read (sent-fit now.server.history) i.to_client
 
   -- one step of the terminal
-  pub server_goes : (done : List Step) (now : Both) (m : Message) (k : term_mark.Mark) (mid : term_run.Run)
+  pub server_goes : (done : List Step) (now : Both) (m : Message) (k : term_mark.ServerMark) (mid : term_run.Run)
       → Runs first (done ++ served (m, k) ∷ []) (record { server = mid; client = now.client }) → IsInTime (record { server = mid; client = now.client })
       → term.Turns now.server (m, k) mid → At now → At (record { server = mid; client = now.client })
   server_goes done now m k mid r i t at =
@@ -83,7 +83,7 @@ module _ (canon : Canon) (editing : Editing) (width height : ℕ) (opens : Bool)
       }
 
   -- and one of the core
-  pub client_goes : (done : List Step) (now : Both) (x : Told) (k : core_mark.Mark) (mid : core_run.Run)
+  pub client_goes : (done : List Step) (now : Both) (x : Told) (k : core_mark.ClientMark) (mid : core_run.Run)
       → Runs first (done ++ told (x, k) ∷ []) (record { server = now.server; client = mid }) → IsInTime (record { server = now.server; client = mid })
       → core.Turns now.client (x, k) mid → At now → At (record { server = now.server; client = mid })
   client_goes done now x k mid r i t at =
@@ -96,21 +96,21 @@ module _ (canon : Canon) (editing : Editing) (width height : ℕ) (opens : Bool)
       }) now.client mid x k t (client_heard (done ++ told (x, k) ∷ []) (record { server = now.server; client = mid }) r i) at
 
   -- the steps so far, and one more
-  pub more_served : (done : List Step) (now : Both) (m : Message × term_mark.Mark) (mid : term_run.Run) → Runs first done now → term.Turns now.server m mid
+  pub more_served : (done : List Step) (now : Both) (m : Message × term_mark.ServerMark) (mid : term_run.Run) → Runs first done now → term.Turns now.server m mid
       → Runs first (done ++ served m ∷ []) (record { server = mid; client = now.client })
   more_served done now m mid r t = (
-    subst (λ (l : List (Message × term_mark.Mark)). FoldsTo term.Turns first.server l mid) (sym (server-append done (served m ∷ [])))
+    subst (λ (l : List (Message × term_mark.ServerMark)). FoldsTo term.Turns first.server l mid) (sym (server-append done (served m ∷ [])))
         (joins term.Turns first.server now.server mid (server_steps done) m r.0 t),
-    subst (λ (l : List (Told × core_mark.Mark)). FoldsTo core.Turns first.client l now.client)
+    subst (λ (l : List (Told × core_mark.ClientMark)). FoldsTo core.Turns first.client l now.client)
         (sym (client-append done (served m ∷ []) ∙ append-nil (client_steps done))) r.1,
   )
 
-  pub more_told : (done : List Step) (now : Both) (x : Told × core_mark.Mark) (mid : core_run.Run) → Runs first done now → core.Turns now.client x mid
+  pub more_told : (done : List Step) (now : Both) (x : Told × core_mark.ClientMark) (mid : core_run.Run) → Runs first done now → core.Turns now.client x mid
       → Runs first (done ++ told x ∷ []) (record { server = now.server; client = mid })
   more_told done now x mid r t = (
-    subst (λ (l : List (Message × term_mark.Mark)). FoldsTo term.Turns first.server l now.server)
+    subst (λ (l : List (Message × term_mark.ServerMark)). FoldsTo term.Turns first.server l now.server)
         (sym (server-append done (told x ∷ []) ∙ append-nil (server_steps done))) r.0,
-    subst (λ (l : List (Told × core_mark.Mark)). FoldsTo core.Turns first.client l mid) (sym (client-append done (told x ∷ [])))
+    subst (λ (l : List (Told × core_mark.ClientMark)). FoldsTo core.Turns first.client l mid) (sym (client-append done (told x ∷ [])))
         (joins core.Turns first.client now.client mid (client_steps done) x r.1 t),
   )
 

@@ -2,8 +2,8 @@
 use Rattle.std.proofs.Common.{◌≡◌, ℕ, Bool, true, false, List, [], ◌∷◌, refl, sym, ap, ◌∙◌, subst}
 use Rattle.tn_machines.specs.client.Marks.{Turns, Runs}
 use Rattle.tn_machines.specs.client.Run.{Run, Acts, ActsUnless, start}
-use Rattle.tn_machines.specs.declared.client.messages.Mark.{Mark}
-use Rattle.tn_machines.specs.declared.client.messages.Mark.TheVariants as mark
+use Rattle.tn_machines.specs.declared.client.messages.ClientMark.{ClientMark}
+use Rattle.tn_machines.specs.declared.client.messages.ClientMark.TheVariants as mark
 use Rattle.tn_machines.specs.declared.client.messages.Origin.{Origin}
 use Rattle.tn_machines.specs.declared.client.messages.Origin.TheVariants.{Keys, Net}
 use Rattle.tn_machines.specs.declared.client.messages.Told.{Told}
@@ -60,16 +60,16 @@ handles : (o : Bool) (c new : Run) (x : Told) → ActsUnless o c x new → Tells
 handles true c new x a t = same c new (ap ended_of a) (ap over_of a) t
 handles false c new x a t = acts c new x.from x.message a t
 
-turn_tells : (c new : Run) (x : Told) (k : Mark) → Turns c (x, k) new → Tells c → Tells new
+turn_tells : (c new : Run) (x : Told) (k : ClientMark) → Turns c (x, k) new → Tells c → Tells new
 turn_tells c new x mark.Whole a t = handles c.progress.over c new x a t
 turn_tells c new x mark.WriteFailed a t = failed a.1 new fault.Write (ap ended_of a.3)
 turn_tells c new x mark.ShowFailed a t = failed a.1 new fault.Write (ap ended_of a.3)
 turn_tells c new x (mark.Refused f) a t = failed a.1 new (fault.Client f) (ap ended_of a.3)
 
-run_tells : (marked : List (Told × Mark)) (c new : Run) → Runs c marked new → Tells c → Tells new
+run_tells : (marked : List (Told × ClientMark)) (c new : Run) → Runs c marked new → Tells c → Tells new
 run_tells [] c new r t = subst (λ (x : Run). Tells x) r t
 run_tells ((x, k) ∷ marked) c new r t = run_tells marked r.0 new r.2 (turn_tells c r.0 x k r.1 t)
 
-pub goes_on_to_end : (width height limit : ℕ) (marked : List (Told × Mark)) (new : Run) → Runs (start width height limit) marked new
+pub goes_on_to_end : (width height limit : ℕ) (marked : List (Told × ClientMark)) (new : Run) → Runs (start width height limit) marked new
     → new.progress.ended ≡ ended.HangUp → new.progress.over ≡ false
 goes_on_to_end width height limit marked new r = run_tells marked (start width height limit) new r (λ e. refl)

@@ -5,7 +5,7 @@ use Rattle.std.specs.List.{FoldsTo}
 use Rattle.tn_machines.specs.client.Reaching as core
 use Rattle.tn_machines.specs.client.Run as core_run
 use Rattle.tn_machines.specs.declared.client.machine.Core.{Core}
-use Rattle.tn_machines.specs.declared.client.messages.Mark as core_mark
+use Rattle.tn_machines.specs.declared.client.messages.ClientMark as core_mark
 use Rattle.tn_machines.specs.declared.client.messages.Origin.TheVariants as origin
 use Rattle.tn_machines.specs.declared.client.messages.Told.{Told}
 use Rattle.tn_discipline.specs.Canon.{Canon, typed_entries}
@@ -13,9 +13,9 @@ use Rattle.tn_discipline.specs.Characters.{standard_characters}
 use Rattle.tn_jobs.specs.Jobs.{Jobs}
 use Rattle.tn_machines.specs.client.Bringing.{Input, inputs_in}
 use Rattle.tn_two_sessions.specs.Transcripts.{HasKey, IsCarried, keys_of}
-use Rattle.tn_two_sessions.specs.declared.one_loop.Event.{Event}
-use Rattle.tn_two_sessions.specs.declared.one_loop.Event.TheVariants.{Typed, Asked, ToServer, ToClient, Take}
-use Rattle.tn_two_sessions.specs.declared.one_loop.Event.TheVariants.{Said}
+use Rattle.tn_two_sessions.specs.declared.one_loop.LoopEvent.{LoopEvent}
+use Rattle.tn_two_sessions.specs.declared.one_loop.LoopEvent.TheVariants.{Typed, Asked, ToServer, ToClient, Take}
+use Rattle.tn_two_sessions.specs.declared.one_loop.LoopEvent.TheVariants.{Said}
 use Rattle.tn_two_sessions.specs.declared.one_loop.Joined.{Joined}
 use Rattle.tn_machines.specs.declared.messages.Message.{Message}
 use Rattle.tn_machines.specs.declared.messages.Message.TheVariants as message
@@ -29,7 +29,7 @@ use Rattle.tn_machines.specs.server.Giving.{entries_put}
 use Rattle.tn_machines.specs.server.Reaching as term
 use Rattle.tn_machines.specs.server.Run as term_run
 use Rattle.tn_machines.specs.server.Run.{puts_of}
-use Rattle.tn_machines.specs.declared.server.messages.Mark as term_mark
+use Rattle.tn_machines.specs.declared.server.messages.ServerMark as term_mark
 use Rattle.tn_machines.specs.declared.server.messages.Put.{Put}
 use Rattle.tn_machines.specs.declared.server.terminal.Term.{Term}
 
@@ -50,7 +50,7 @@ pub record TakesFirst (bytes : List ℕ) (count : ℕ) (first rest : List ℕ) :
 
 -- the terminal handles this message: what it appends goes to the client, and what it gives is put
 pub record ServesOne (old : Joined) (m : Message) (new : Joined) : Type 0 where
-  pub mark : term_mark.Mark
+  pub mark : term_mark.ServerMark
   pub bytes : List ℕ
   pub put : Put
   pub last : Put
@@ -63,7 +63,7 @@ pub record ServesOne (old : Joined) (m : Message) (new : Joined) : Type 0 where
 
 -- the core handles this: what it appends goes to the server, and what it shows to the user
 pub record TellsOne (old : Joined) (told : Told) (new : Joined) : Type 0 where
-  pub mark : core_mark.Mark
+  pub mark : core_mark.ClientMark
   pub bytes : List ℕ
   pub text : List ℕ
   pub turn : core.IsTurn mark old.core told bytes text new.core
@@ -103,7 +103,7 @@ pub record ComesToClient (old : Joined) (count : ℕ) (new : Joined) : Type 0 wh
   pub told : TellsOne mid (from_network piece) new
 
 -- ONE EVENT
-abbrev pub Happens : Joined → Event → Joined → Type 0
+abbrev pub Happens : Joined → LoopEvent → Joined → Type 0
 Happens old (Typed keys) new = TellsOne old (from_user (message.Piece keys)) new
 Happens old (Asked control) new = TellsOne old (from_user (message.Asked control)) new
 Happens old (ToServer count) new = ComesToServer old count new
@@ -113,7 +113,7 @@ Happens old (Said job text after) new = ServesOne old (message.Said job text aft
 
 -- WHEN ONE IS REFUSED: memory runs out only where a machine appends, shows or gives something
 pub record ServesNone (old : Joined) (m : Message) : Type 0 where
-  pub mark : term_mark.Mark
+  pub mark : term_mark.ServerMark
   pub bytes : List ℕ
   pub put : Put
   pub last : Put
@@ -122,7 +122,7 @@ pub record ServesNone (old : Joined) (m : Message) : Type 0 where
   pub grows : (0 < length bytes) ⊎ (0 < length (puts_of put ++ puts_of last))
 
 pub record TellsNone (old : Joined) (told : Told) : Type 0 where
-  pub mark : core_mark.Mark
+  pub mark : core_mark.ClientMark
   pub bytes : List ℕ
   pub text : List ℕ
   pub after : Core
@@ -130,7 +130,7 @@ pub record TellsNone (old : Joined) (told : Told) : Type 0 where
   pub grows : (0 < length bytes) ⊎ (0 < length text)
 
 -- the bytes that come are taken off into memory of their own
-abbrev pub IsRefused : Joined → Event → Type 0
+abbrev pub IsRefused : Joined → LoopEvent → Type 0
 IsRefused old (Typed keys) = TellsNone old (from_user (message.Piece keys))
 IsRefused old (Asked control) = TellsNone old (from_user (message.Asked control))
 IsRefused old (ToServer count) = Unit {0}
@@ -139,22 +139,22 @@ IsRefused old Take = ServesNone old message.Take
 IsRefused old (Said job text after) = ServesNone old (message.Said job text after)
 
 -- the first of these happened, and the next was refused
-pub record StopsIn (first : Joined) (script : List Event) : Type 0 where
-  pub front : List Event
-  pub event : Event
-  pub later : List Event
+pub record StopsIn (first : Joined) (script : List LoopEvent) : Type 0 where
+  pub front : List LoopEvent
+  pub event : LoopEvent
+  pub later : List LoopEvent
   pub mid : Joined
   pub whole : script ≡ front ++ event ∷ later
   pub happened : FoldsTo Happens first front mid
   pub refused : IsRefused mid event
 
 -- what the user typed: keys, and commands between them
-abbrev pub inputs_by : Event → List Input
+abbrev pub inputs_by : LoopEvent → List Input
 inputs_by (Typed keys) = inputs_in (message.Piece keys)
 inputs_by (Asked control) = inputs_in (message.Asked control)
 inputs_by _ = []
 
-abbrev pub inputs_of : List Event → List Input
+abbrev pub inputs_of : List LoopEvent → List Input
 inputs_of events = flat_map inputs_by events
 
 -- THE SENTENCE, with nothing between the two: what was put for the foreground job is the first of what a
@@ -176,7 +176,7 @@ pub record ReadsAll (canon : Canon) (typed : List Input) (j : Joined) : Type 0 w
 abbrev pub LoopReads : Type 0
 LoopReads =
     (canon : Canon) (editing : Editing) (jobs : Jobs) (width height : ℕ) (first last : Joined)
-    (script : List Event)
+    (script : List LoopEvent)
     → canon.settings.chars ≡ standard_characters
     → All (λ input. HasKey canon.settings input) (inputs_of script)
     → IsStart canon editing jobs width height first → FoldsTo Happens first script last

@@ -3,7 +3,7 @@
 //! no handle.
 #![tactic(auto)]
 
-pub use one_loop::{Event, Joined};
+pub use one_loop::{Joined, LoopEvent};
 
 pub mod laws;
 mod one_loop;

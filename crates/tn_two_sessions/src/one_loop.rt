@@ -19,14 +19,14 @@ use std::mem;
 use tn_discipline::{Entry, Limit, Settings, Text};
 use tn_jobs::{After, JobId, Table};
 use tn_machines::client::{Core, Origin, Told};
-use tn_machines::server::{Outcome, Put, Term};
+use tn_machines::server::{MessageOutcome, Put, Term};
 use tn_machines::{Message, SessionFault};
 use tn_server::Editing;
 use tn_streams::Control;
 
 /// What happens next.
 #[derive(Debug, Drop)]
-pub enum Event {
+pub enum LoopEvent {
     /// The user types these keys.
     Typed(Text),
     /// So many of the bytes that are on their way to the server come there, or all where there are fewer.
@@ -126,7 +126,7 @@ impl Joined {
         ensures refused { OnErr result (ServesNone self.old message) }
     {
         let mut out = Vec::new(alloc);
-        let Outcome { put, last, mark: _ } = self.term.handle(message, &mut out);
+        let MessageOutcome { put, last, mark: _ } = self.term.handle(message, &mut out);
         self.to_client.extend_from_slice(&out)?;
         keep(&mut self.puts, put)?;
         keep(&mut self.puts, last)?;
@@ -147,7 +147,7 @@ impl Joined {
     }
 
     fn to_server(&mut self, alloc: Global, count: usize) -> Result<(), AllocError>
-        ensures { OnOk result (Happens self.old (Event.ToServer count) self.new) }
+        ensures { OnOk result (Happens self.old (LoopEvent.ToServer count) self.new) }
     {
         let piece = take_first(&mut self.to_server, count)?;
         self.serve(alloc, Message::Piece(piece))?;
@@ -155,7 +155,7 @@ impl Joined {
     }
 
     fn to_client(&mut self, alloc: Global, count: usize) -> Result<(), AllocError>
-        ensures { OnOk result (Happens self.old (Event.ToClient count) self.new) }
+        ensures { OnOk result (Happens self.old (LoopEvent.ToClient count) self.new) }
     {
         let piece = take_first(&mut self.to_client, count)?;
         self.tell(
@@ -169,36 +169,36 @@ impl Joined {
     }
 
     /// The next thing happens. Out of memory nothing more is said of either machine.
-    pub fn happen(&mut self, alloc: Global, event: Event) -> Result<(), AllocError>
+    pub fn happen(&mut self, alloc: Global, event: LoopEvent) -> Result<(), AllocError>
         ensures happens { OnOk result (Happens self.old event self.new) }
         ensures refused { OnErr result (IsRefused self.old event) }
     {
         match event {
-            Event::Typed(keys) => self.tell(
+            LoopEvent::Typed(keys) => self.tell(
                 alloc,
                 Told {
                     from: Origin::Keys,
                     message: Message::Piece(keys),
                 },
             ),
-            Event::Asked(control) => self.tell(
+            LoopEvent::Asked(control) => self.tell(
                 alloc,
                 Told {
                     from: Origin::Keys,
                     message: Message::Asked(control),
                 },
             ),
-            Event::ToServer(count) => self.to_server(alloc, count),
-            Event::ToClient(count) => self.to_client(alloc, count),
-            Event::Take => self.serve(alloc, Message::Take),
-            Event::Said { job, text, after } => {
+            LoopEvent::ToServer(count) => self.to_server(alloc, count),
+            LoopEvent::ToClient(count) => self.to_client(alloc, count),
+            LoopEvent::Take => self.serve(alloc, Message::Take),
+            LoopEvent::Said { job, text, after } => {
                 self.serve(alloc, Message::Said { job, text, after })
             },
         }
     }
 
     /// All this happens, in order.
-    pub fn run(&mut self, alloc: Global, script: Vec<Event>) -> Result<(), AllocError>
+    pub fn run(&mut self, alloc: Global, script: Vec<LoopEvent>) -> Result<(), AllocError>
         ensures happen { OnOk result (FoldsTo Happens self.old script.items self.new) }
         ensures refused { OnErr result (StopsIn self.old script.items) }
     {

@@ -11,7 +11,7 @@ use Rattle.clap.specs.declared.parser.matches.ArgMatches.TheViews.{out-ArgMatche
 use Rattle.clap.proofs.OnLiterals.{clap_on_literals}
 use Rattle.tn_words.specs.Commands.{tn}
 use Rattle.tn_words.specs.Words.{AskFor, Asks, AsksIn, AsksNothing, AsksConnect, AsksForHelp, AsksForVersion, AreWrong, Lacks, Refuses, TellsKind}
-use Rattle.tn_words.specs.declared.settings.Connecting.{Connecting}
+use Rattle.tn_words.specs.declared.settings.ConnectWords.{ConnectWords}
 use Rattle.tn_words.specs.declared.words.Asked.{Asked}
 use Rattle.tn_words.specs.declared.words.Asked.TheVariants.{Local, Replay, Decode, World, Serve, Connect}
 use Rattle.tn_words.specs.declared.words.WordsFault.{WordsFault}
@@ -103,7 +103,7 @@ apart name a b is_a is_b less =
 -- a subcommand `connect` whose options ask for no connection asks for nothing
 pub connects_not : (sub : Option (Text × List Row)) (name : Text) (rows : List Row) → option_map (λ p. p.0) sub ≡ Some name
     → option_map (λ p. p.1) sub ≡ Some rows → name ≡ codes "connect"
-    → ((connecting : Connecting) → ¬ AsksConnect rows connecting) → AsksNothing sub
+    → ((connecting : ConnectWords) → ¬ AsksConnect rows connecting) → AsksNothing sub
 connects_not None name rows named has is not asked asks = asks
 connects_not (Some p) name rows named has is not asked asks =
     let same : p.0 ≡ codes "connect" = ap (λ o. unwrap_or o name) named ∙ is in

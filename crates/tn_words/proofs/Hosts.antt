@@ -11,7 +11,7 @@ use Rattle.tn_words.specs.Commands.{tn}
 use Rattle.tn_words.specs.Escapes.{IsControlOf, WritesEscape}
 use Rattle.tn_words.specs.Words.{AskFor, AskForHost, AsksConnect, AsksIn, AsksNothing, AsksPlace, HasEscape, HasNumber, HasPlace, MayHaveNumber, is_given}
 use Rattle.tn_words.specs.Words.{line_end_in, one_port}
-use Rattle.tn_words.specs.declared.settings.Connecting.{Connecting}
+use Rattle.tn_words.specs.declared.settings.ConnectWords.{ConnectWords}
 use Rattle.tn_words.specs.declared.settings.Escape.{Escape}
 use Rattle.tn_words.specs.declared.settings.Escape.TheVariants as escape
 use Rattle.tn_lines.specs.declared.line_ends.LineEnd.{LineEnd}
@@ -25,7 +25,7 @@ rows_in (Some p) = p.1
 abbrev rows_for : List Text → List Row
 rows_for words = rows_in (subcommand_of tn words)
 
-asks_connect : (sub : Option (Text × List Row)) (asked : Connecting) → AsksIn sub (Connect asked) → AsksConnect (rows_in sub) asked
+asks_connect : (sub : Option (Text × List Row)) (asked : ConnectWords) → AsksIn sub (Connect asked) → AsksConnect (rows_in sub) asked
 asks_connect None asked asks = absurd asks
 asks_connect (Some p) asked asks = asks.1
 
@@ -45,7 +45,7 @@ seven_at rows name has = record { text = codes "7"; has = has; writes = seven; a
 
 -- ports of which no one is asked for
 no_one : (rows : List Row) (host : Text) (within option place : Option ℕ) → HasPlace rows host within → MayHaveNumber rows (codes "port") 1 65535 option
-    → MayHaveNumber rows (codes "at") 1 65535 place → one_port option place within (is_given (codes "host") rows) ≡ None → (connecting : Connecting)
+    → MayHaveNumber rows (codes "at") 1 65535 place → one_port option place within (is_given (codes "host") rows) ≡ None → (connecting : ConnectWords)
     → AsksConnect rows connecting → ⊥
 no_one rows host within option place has by_option by_place none connecting asks =
     no_port_at rows host within has (λ port at.
@@ -193,7 +193,7 @@ two_ask = connects_not (subcommand_of tn two_words) (codes "connect") (rows_for 
 some_line_end : (o : Option (Option LineEnd)) (asked : Option LineEnd) → o ≡ Some asked → unwrap_or o None ≡ asked
 some_line_end o asked is = ap (λ p. unwrap_or p None) is
 
-pub none_asks : (asked : Connecting) → AskFor host_words (Connect asked) → (asked.width ≡ None) × (asked.height ≡ None) × (asked.escape ≡ escape.Key 29)
+pub none_asks : (asked : ConnectWords) → AskFor host_words (Connect asked) → (asked.width ≡ None) × (asked.height ≡ None) × (asked.escape ≡ escape.Key 29)
     × (asked.trace ≡ None) × (asked.wait ≡ 0) × (asked.quiet ≡ false) × (asked.plain ≡ None)
 unfolding clap_on_literals
 none_asks asked asks =
@@ -215,7 +215,7 @@ none_asks asked asks =
       sym (some_line_end (line_end_in (rows_for host_words)) asked.plain a.plain),
     )
 
-pub wait_asks : (asked : Connecting) → AskFor wait_words (Connect asked) → asked.wait ≡ 2
+pub wait_asks : (asked : ConnectWords) → AskFor wait_words (Connect asked) → asked.wait ≡ 2
 unfolding clap_on_literals
 wait_asks asked asks =
     let a = asks_connect (subcommand_of tn wait_words) asked asks.1 in

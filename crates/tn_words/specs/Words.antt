@@ -18,9 +18,9 @@ use Rattle.tn_words.specs.declared.words.Asked.TheVariants.{Local, Replay, Decod
 use Rattle.tn_words.specs.declared.settings.Address.{Address}
 use Rattle.tn_words.specs.declared.settings.Characters.{Characters}
 use Rattle.tn_words.specs.declared.settings.Characters.TheVariants.{Own, Standard}
-use Rattle.tn_words.specs.declared.settings.Connecting.{Connecting}
+use Rattle.tn_words.specs.declared.settings.ConnectWords.{ConnectWords}
 use Rattle.tn_words.specs.declared.settings.Escape.{Escape}
-use Rattle.tn_words.specs.declared.settings.Serving.{Serving}
+use Rattle.tn_words.specs.declared.settings.ServeWords.{ServeWords}
 use Rattle.tn_words.specs.declared.words.WordsFault.{WordsFault}
 use Rattle.tn_words.specs.declared.words.WordsFault.TheVariants as fault
 
@@ -119,7 +119,7 @@ abbrev pub MayHavePath : List Row → Text → Option Text → Type 0
 MayHavePath rows name None = is_given name rows ≡ false
 MayHavePath rows name (Some path) = HasText rows name path × IsPath path
 
-pub record AsksServe (rows : List Row) (asked : Serving) : Type 0 where
+pub record AsksServe (rows : List Row) (asked : ServeWords) : Type 0 where
   pub host : HasText rows (codes "host") (string_bytes asked.host)
   pub port : HasNumber rows (codes "port") 1 65535 asked.port
   pub limit : HasNumber rows (codes "limit") 1 64 asked.sessions
@@ -199,7 +199,7 @@ chosen_characters (Some text) = named_characters text
 abbrev pub characters_in : List Row → Option Characters
 characters_in rows = chosen_characters (first_of (codes "keys") rows)
 
-pub record AsksConnect (rows : List Row) (asked : Connecting) : Type 0 where
+pub record AsksConnect (rows : List Row) (asked : ConnectWords) : Type 0 where
   pub place : AsksPlace rows (string_bytes asked.host) asked.port
   pub width : MayHaveNumber rows (codes "width") 0 65535 asked.width
   pub height : MayHaveNumber rows (codes "height") 0 65535 asked.height
@@ -233,7 +233,7 @@ AskFor words asked = (fault_of tn words ≡ []) × AsksIn (subcommand_of tn word
 
 -- where the words ask for a connection, it is to this host and this port
 abbrev pub AskForHost : List Text → Text → ℕ → Type 0
-AskForHost words host port = (asked : Connecting) → AskFor words (Connect asked)
+AskForHost words host port = (asked : ConnectWords) → AskFor words (Connect asked)
     → (string_bytes asked.host ≡ host) × (asked.port ≡ port)
 
 -- the words ask for help, before anything else is wrong with them

@@ -6,7 +6,7 @@ ghost use Rattle.tn_words.specs.Addresses.{WritesAddress, WritesPlace};
 ghost use Rattle.tn_words.specs.Commands.{tn};
 ghost use Rattle.tn_words.specs.Escapes.{WritesEscape};
 ghost use Rattle.tn_words.specs.Words.{AskFor, AskForHost, AsksForHelp, AsksForVersion, AsksNothing};
-ghost use Rattle.tn_words.specs.declared.settings.Connecting.{Connecting};
+ghost use Rattle.tn_words.specs.declared.settings.ConnectWords.{ConnectWords};
 ghost use Rattle.tn_words.specs.declared.settings.Escape.{Escape};
 ghost use Rattle.tn_words.specs.declared.settings.Escape.TheVariants as escape;
 ghost use Rattle.tn_words.specs.declared.words.Asked.TheVariants.{Local, Replay, Decode, World, Connect};
@@ -57,11 +57,11 @@ pub fn hosts_and_ports()
 /// told at once, and the connection is one of Telnet. How a line ends is not chosen without `--plain`, with
 /// which there is no trace and no escape key.
 pub fn options()
-    ensures none { (asked : Connecting)
+    ensures none { (asked : ConnectWords)
         → AskFor (codes "tn" ∷ codes "connect" ∷ codes "::1" ∷ []) (Connect asked)
         → (asked.width ≡ None) × (asked.height ≡ None) × (asked.escape ≡ escape.Key 29)
         × (asked.trace ≡ None) × (asked.wait ≡ 0) × (asked.quiet ≡ false) × (asked.plain ≡ None) }
-    ensures wait { (asked : Connecting)
+    ensures wait { (asked : ConnectWords)
         → AskFor (codes "tn" ∷ codes "connect" ∷ codes "h" ∷ codes "-q" ∷ codes "2" ∷ []) (Connect asked)
         → asked.wait ≡ 2 }
     ensures lf { AsksNothing (subcommand_of tn (codes "tn" ∷ codes "connect" ∷ codes "h" ∷ codes "--lf" ∷ [])) }

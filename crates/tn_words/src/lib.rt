@@ -8,7 +8,9 @@
 #![tactic(auto)]
 
 pub use commands::VERSION_LINE;
-pub use settings::{Address, Characters, Connecting, Escape, Serving, USUAL_HEIGHT, USUAL_WIDTH};
+pub use settings::{
+    Address, Characters, ConnectWords, Escape, ServeWords, USUAL_HEIGHT, USUAL_WIDTH,
+};
 pub use tn_lines::LineEnd;
 pub use words::{Asked, WordsFault, read_words};
 

@@ -117,7 +117,7 @@ fn has_colon(text: &str) -> bool
 
 /// How to serve.
 #[derive(Debug, Drop, PartialEq, Eq)]
-pub struct Serving {
+pub struct ServeWords {
     /// The address to listen on, or a name that has one.
     pub host: String,
     /// The port, from 1 to 65,535.
@@ -212,7 +212,7 @@ impl Characters {
 
 /// How to connect.
 #[derive(Debug, Drop, PartialEq, Eq)]
-pub struct Connecting {
+pub struct ConnectWords {
     /// The address of the host, or a name that has one.
     pub host: String,
     /// The port, from 1 to 65,535.

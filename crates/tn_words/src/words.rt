@@ -19,7 +19,7 @@ use crate::commands::{
     LINE, LINE_CUT, LOCAL, LOCALLY, LONGEST, MOST_PATH, PER_HOST, PLAIN, PORT, QUIET, REPLAY,
     SERVE, TICKS, TO, TRACE, UNTIL, VERBOSE, VERSION_LINE, WAIT, WIDTH, WORLD, Whole, tn_command,
 };
-use crate::settings::{Address, Characters, Connecting, Escape, Serving, place_in};
+use crate::settings::{Address, Characters, ConnectWords, Escape, ServeWords, place_in};
 use clap::error::ErrorKind;
 use clap::{ArgMatches, Error};
 use std::alloc::{AllocError, Global};
@@ -46,8 +46,8 @@ pub enum Asked {
     Replay,
     Decode,
     World,
-    Serve(Serving),
-    Connect(Connecting),
+    Serve(ServeWords),
+    Connect(ConnectWords),
 }
 
 /// Why nothing is run for the words.
@@ -176,10 +176,10 @@ fn asked_of(alloc: Global, matches: &ArgMatches<'_>) -> Result<Asked, WordsFault
     }
 }
 
-fn serving(alloc: Global, words: &ArgMatches<'_>) -> Result<Serving, WordsFault>
+fn serving(alloc: Global, words: &ArgMatches<'_>) -> Result<ServeWords, WordsFault>
     ensures asked { IfOk result (AsksServe (rows_of (found_of words.now))) }
     ensures lacks { IfErr result
-        (Lacks ((asked : Serving) → ¬ AsksServe (rows_of (found_of words.now)) asked)) }
+        (Lacks ((asked : ServeWords) → ¬ AsksServe (rows_of (found_of words.now)) asked)) }
 {
     let Some(host) = words.get_str(HOST) else {
         return Err(lacking(alloc, &Lack::Value));
@@ -331,7 +331,7 @@ fn serving_at(
     count: Option<u32>,
     until: Option<String>,
     words: &ArgMatches<'_>,
-) -> Option<Serving>
+) -> Option<ServeWords>
     requires host { HasText (rows_of (found_of words.now)) (codes "host") (string_bytes host) }
     requires to { MayHaveAddress (rows_of (found_of words.now)) to }
     requires line_end { service_line_end_in (rows_of (found_of words.now)) ≡ Some line_end }
@@ -340,9 +340,9 @@ fn serving_at(
     requires until { MayHavePath (rows_of (found_of words.now)) (codes "until")
         (option_map string_bytes until) }
     ensures asked { IfSome result (AsksServe (rows_of (found_of words.now))) }
-    ensures none { result ≡ None → (asked : Serving) → ¬ AsksServe (rows_of (found_of words.now)) asked }
+    ensures none { result ≡ None → (asked : ServeWords) → ¬ AsksServe (rows_of (found_of words.now)) asked }
 {
-    Some(Serving {
+    Some(ServeWords {
         host,
         port: number(words, PORT)? as u16,
         sessions: number(words, LIMIT)? as u16,
@@ -361,10 +361,10 @@ fn serving_at(
     })
 }
 
-fn connecting(alloc: Global, words: &ArgMatches<'_>) -> Result<Connecting, WordsFault>
+fn connecting(alloc: Global, words: &ArgMatches<'_>) -> Result<ConnectWords, WordsFault>
     ensures asked { IfOk result (AsksConnect (rows_of (found_of words.now))) }
     ensures lacks { IfErr result
-        (Lacks ((asked : Connecting) → ¬ AsksConnect (rows_of (found_of words.now)) asked)) }
+        (Lacks ((asked : ConnectWords) → ¬ AsksConnect (rows_of (found_of words.now)) asked)) }
 {
     let place = place_of(alloc, words)?;
     let escape = escape_of(alloc, words)?;
@@ -386,7 +386,7 @@ fn connecting_to(
     plain: Option<LineEnd>,
     trace: Option<String>,
     words: &ArgMatches<'_>,
-) -> Option<Connecting>
+) -> Option<ConnectWords>
     requires place { AsksPlace (rows_of (found_of words.now)) (string_bytes place.host) place.port }
     requires escape { HasEscape (rows_of (found_of words.now)) escape }
     requires characters { characters_in (rows_of (found_of words.now)) ≡ Some characters }
@@ -394,9 +394,9 @@ fn connecting_to(
     requires trace { option_map string_bytes trace ≡ first_of (codes "trace") (rows_of (found_of words.now)) }
     ensures asked { IfSome result (AsksConnect (rows_of (found_of words.now))) }
     ensures none { result ≡ None →
-        (asked : Connecting) → ¬ AsksConnect (rows_of (found_of words.now)) asked }
+        (asked : ConnectWords) → ¬ AsksConnect (rows_of (found_of words.now)) asked }
 {
-    Some(Connecting {
+    Some(ConnectWords {
         host: place.host,
         port: place.port,
         width: size(words, WIDTH)?,

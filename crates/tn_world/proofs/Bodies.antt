@@ -8,7 +8,7 @@ use Rattle.tn_nvt.specs.Spelling.{spells}
 use Rattle.tn_nvt.specs.Feeding.{LeadsTo}
 use Rattle.tn_option.specs.Options.{Options, new_options}
 use Rattle.tn_option.proofs.lemmas.Agreement.{same-Moves}
-use Rattle.tn_wire.specs.OptionWords.{words_in}
+use Rattle.tn_linemode.specs.OptionWords.{words_in}
 use Rattle.tn_server.specs.Course as server_courses
 use Rattle.tn_server.specs.Terms.{Terms, opening_options}
 use Rattle.tn_client.specs.Terms as client_terms

@@ -40,7 +40,7 @@ use Rattle.tn_client.specs.Replies.{byte_items, command_of, command_items, raw_k
 use Rattle.tn_client.specs.Replies.{new_size_items, payload_answers, answer_items, end_of_edit_items, is_same_size, command_sent, replies, items_said}
 use Rattle.tn_option.specs.Options.{Options, options_after_word, reply_to, state_of, is_yes, agrees_to}
 use Rattle.tn_option.specs.declared.q_method.Side.TheVariants.{Us}
-use Rattle.tn_wire.specs.Words.{differ, word_items, payload_items, mode_items}
+use Rattle.tn_linemode.specs.Words.{differ, word_items, payload_items, mode_items}
 use Rattle.tn_client.specs.Calls.{End, LeadsTo, Advances, ReadsNothing, Sends, Feeds, StopsWithin}
 use Rattle.tn_client.specs.declared.commands.UserCommand.{UserCommand}
 use Rattle.tn_client.specs.Steps.{is_sent_now, line_sent, line_typed, count_typed, line_left, count_left, count_told}

@@ -26,7 +26,7 @@ use Rattle.tn_option.specs.QMethod.{side_of, cause_of}
 use Rattle.tn_option.specs.declared.q_method.Side.TheVariants.{Us}
 use Rattle.tn_option.proofs.lemmas.OptionLaws.{LeavesOthers-moved}
 use Rattle.tn_client.specs.Terms.{linemode, tells_size, payload_at, mode_by, mode_at, forward_by, forward_at, chars_by}
-use Rattle.tn_wire.specs.Words.{differ, word_items, list_items}
+use Rattle.tn_linemode.specs.Words.{differ, word_items, list_items}
 use Rattle.tn_client.specs.Replies.{byte_items, size_items, new_size_items, payload_answers, answer_items}
 use Rattle.tn_world.specs.relation.Machine as machine
 use Rattle.tn_world.specs.relation.Machine.{Mode, chatter, Server, read, read_item, read_all, byte, other, bytes, IsAskable}

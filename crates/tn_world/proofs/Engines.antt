@@ -10,13 +10,13 @@ use Rattle.tn_nvt.specs.declared.items.Item.{Item}
 use Rattle.tn_nvt.specs.declared.items.Item.TheVariants.{Neg, Sub}
 use Rattle.tn_option.specs.QMethod.{cell, side_of, cause_of, word_of_answer}
 use Rattle.tn_option.specs.Options.{Options, new_options, options_after_word, options_after_wish, reply_to, state_of, is_yes, agrees_to}
-use Rattle.tn_option.specs.declared.q_method.Cause.TheVariants.{HeardOn}
+use Rattle.tn_option.specs.declared.q_method.OptionEvent.TheVariants.{HeardOn}
 use Rattle.tn_option.specs.declared.q_method.Side.{Side}
 use Rattle.tn_option.specs.declared.q_method.Side.TheVariants.{Us, Them}
 use Rattle.tn_option.specs.declared.q_method.QState.{QState}
 use Rattle.tn_option.specs.declared.q_method.QState.TheVariants.{No, Yes, WantNoEmpty, WantNoOpposite, WantYesEmpty, WantYesOpposite}
 use Rattle.tn_option.proofs.lemmas.OptionLaws.{LeavesOthers-moved, AgreesAsBefore-moved}
-use Rattle.tn_wire.specs.Words.{word_items}
+use Rattle.tn_linemode.specs.Words.{word_items}
 use Rattle.tn_server.specs.Events as server_calls
 use Rattle.tn_server.specs.Terms as server_terms
 use Rattle.tn_client.specs.Events as client_calls

@@ -16,9 +16,9 @@ use Rattle.tn_nvt.specs.declared.items.Item.TheVariants.{Byte, Newline, Cmd, Neg
 use Rattle.tn_option.specs.EnginePair.{EnginePair, engine_step, got_here}
 use Rattle.tn_option.specs.Options.{Options, options_after_word, reply_to, options_after_wish, answer_to, state_of, is_yes}
 use Rattle.tn_option.specs.declared.q_method.Side.TheVariants.{Us, Them}
-use Rattle.tn_wire.specs.OptionWords.{words_in}
-use Rattle.tn_wire.specs.Words.{differ, word_items, mode_items, list_items}
-use Rattle.tn_wire.proofs.lemmas.OptionWords.{words_in-append, words_in-word}
+use Rattle.tn_linemode.specs.OptionWords.{words_in}
+use Rattle.tn_linemode.specs.Words.{differ, word_items, mode_items, list_items}
+use Rattle.tn_linemode.proofs.lemmas.OptionWords.{words_in-append, words_in-word}
 use Rattle.tn_server.specs.Events.{History, next, got, gets}
 use Rattle.tn_server.specs.Replies.{reply_items, items_by, list_replies, table_items, new_table_items, echo_items, replies, items_said}
 use Rattle.tn_server.specs.Terms.{Terms, terms, options, flags, chars, linemode, options_after, wish_in, wish_at, editing_of, terms_by, payload_at, chars_after}

@@ -9,7 +9,7 @@ use Rattle.tn_option.specs.declared.q_method.QState.{QState}
 use Rattle.tn_option.specs.declared.q_method.QState.TheVariants.{No, Yes, WantNoEmpty, WantNoOpposite, WantYesEmpty, WantYesOpposite}
 use Rattle.tn_option.specs.declared.q_method.Side.TheVariants.{Us}
 use Rattle.tn_server.specs.Terms as terms
-use Rattle.tn_wire.specs.Words.{differ}
+use Rattle.tn_linemode.specs.Words.{differ}
 use Rattle.tn_world.proofs.Stages.{Question, linemode, naws, ours, theirs, echo, Progress, before, done, asks, grants, next, left, Lead, server_at, opening_at}
 use Rattle.tn_world.proofs.Stages.{IsOpening, both_on, both_off, asked_on, asked_off, granted_on, granted_off, pair_at, Stage, IsAtStage, same_question}
 use Rattle.tn_world.proofs.Stages.{not_done, wish_step}

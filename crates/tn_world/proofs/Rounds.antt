@@ -14,7 +14,7 @@ use Rattle.tn_nvt.specs.Feeding.{DecoderState, Advances}
 use Rattle.tn_nvt.specs.Spelling.{spells}
 use Rattle.tn_nvt.specs.declared.items.Item.{Item}
 use Rattle.tn_nvt.specs.declared.items.Item.TheVariants.{Sub}
-use Rattle.tn_wire.specs.OptionWords.{words_in}
+use Rattle.tn_linemode.specs.OptionWords.{words_in}
 use Rattle.tn_server.specs.Calls as server
 use Rattle.tn_server.specs.Replies as server_says
 use Rattle.tn_server.specs.Terms as server_terms

@@ -24,7 +24,7 @@ use Rattle.tn_linemode.specs.Triples.{triple_of}
 use Rattle.tn_nvt.specs.declared.items.Item.{Item}
 use Rattle.tn_nvt.specs.declared.items.Item.TheVariants.{Byte, Newline, Cmd, Neg, Sub}
 use Rattle.tn_option.specs.Options.{Options, reply_to}
-use Rattle.tn_wire.specs.Words.{word_items, mode_items, list_items}
+use Rattle.tn_linemode.specs.Words.{word_items, mode_items, list_items}
 use Rattle.tn_client.specs.Events.{Event, History, begun, next, typed, got, resized, proposed, sent}
 use Rattle.tn_client.specs.Lines.{role_at, sends_ahead, line}
 use Rattle.tn_client.specs.Replies.{byte_items, command_of, command_items, raw_key_items, edited_key_items, sent_ahead_items, key_items, size_items}

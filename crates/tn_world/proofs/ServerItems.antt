@@ -29,7 +29,7 @@ use Rattle.tn_server.specs.Lines.{line}
 use Rattle.tn_server.specs.Screen.{queue, shows, sends_ga, none_waits, due}
 use Rattle.tn_server.specs.Replies.{asked_word_items, reply_items, opening, table_items, new_table_items, echo_items, items_by, items_at, list_replies}
 use Rattle.tn_server.specs.Replies.{triple_items, forward_payload, replies, items_said}
-use Rattle.tn_wire.specs.Words.{word_items, payload_items, list_items, mode_items}
+use Rattle.tn_linemode.specs.Words.{word_items, payload_items, list_items, mode_items}
 use Rattle.tn_server.specs.Calls.{End, LeadsTo, Advances, Feeds, StopsWithin, first_replies}
 use Rattle.tn_server.specs.declared.faults.ServerFault.{ServerFault}
 use Rattle.tn_server.specs.declared.wishes.Editing.{Editing}

@@ -39,8 +39,8 @@ use Rattle.tn_option.specs.declared.known.Known.{Known}
 use Rattle.tn_option.specs.declared.q_method.Answer.{Answer}
 use Rattle.tn_option.specs.declared.q_method.Answer.TheVariants as answer
 use Rattle.tn_option.specs.declared.q_method.AskFault.{AskFault}
-use Rattle.tn_option.specs.declared.q_method.Cause.{Cause}
-use Rattle.tn_option.specs.declared.q_method.Cause.TheVariants.{HeardOn, HeardOff, WishOn, WishOff}
+use Rattle.tn_option.specs.declared.q_method.OptionEvent.{OptionEvent}
+use Rattle.tn_option.specs.declared.q_method.OptionEvent.TheVariants.{HeardOn, HeardOff, WishOn, WishOff}
 use Rattle.tn_option.specs.declared.q_method.Side.{Side}
 use Rattle.tn_option.specs.declared.q_method.QState.TheVariants.{Yes}
 use Rattle.tn_option.specs.declared.q_method.Side.TheVariants.{Us, Them}
@@ -49,7 +49,7 @@ use Rattle.tn_server.specs.Events.{Event, History, next, got, took, wrote, pulle
 use Rattle.tn_server.specs.Terms.{Terms, terms, options, flags, chars, settings, mode, linemode, payload_at, options_after, wish_in, wish_after, mask_for}
 use Rattle.tn_server.specs.Terms.{mask_or, asked_mask_of, asked_mask_while, mode_sent, mask_told, asks_echo, wants_echo, terms_by, mask_after, chars_after}
 use Rattle.tn_server.specs.Terms.{allows_local}
-use Rattle.tn_wire.specs.Words.{differ, word_items, payload_items, mode_items, list_items}
+use Rattle.tn_linemode.specs.Words.{differ, word_items, payload_items, mode_items, list_items}
 use Rattle.tn_server.specs.Lines.{role_at, roles, entries, half, taken_count, waiting}
 use Rattle.tn_server.specs.Screen.{queue, sends_ga, none_waits, due}
 use Rattle.tn_server.specs.Replies.{asked_word_items, reply_items, table_items, new_table_items, echo_items, items_by, items_at, list_replies, forward_payload}
@@ -96,7 +96,7 @@ abbrev pub SpeaksAsked : ℕ → Result (Option (Verb × ℕ)) AskFault → Type
 SpeaksAsked option (Ok word_items) = Speaks option word_items
 SpeaksAsked option (Err fault) = Unit {0}
 
-refused_speaks : (side : Side) (option : ℕ) (cause : Cause) → Speaks option (refusal_word side option cause)
+refused_speaks : (side : Side) (option : ℕ) (cause : OptionEvent) → Speaks option (refusal_word side option cause)
 refused_speaks side option HeardOn = refl
 refused_speaks side option HeardOff = tt
 refused_speaks side option WishOn = tt
@@ -110,7 +110,7 @@ said_speaks side option answer.AlreadySo = tt
 said_speaks side option answer.AlreadyAsked = tt
 said_speaks side option answer.AlreadyQueued = tt
 
-now_speaks : (o : Options) (side : Side) (option : ℕ) (cause : Cause) (k : Option Known) → Speaks option (word_now o side option cause k)
+now_speaks : (o : Options) (side : Side) (option : ℕ) (cause : OptionEvent) (k : Option Known) → Speaks option (word_now o side option cause k)
 now_speaks o side option cause None = refused_speaks side option cause
 now_speaks o side option cause (Some k) = said_speaks side option (cell_now o side k cause).1
 
@@ -126,7 +126,7 @@ answered_speaks side option answer.AlreadySo = tt
 answered_speaks side option answer.AlreadyAsked = tt
 answered_speaks side option answer.AlreadyQueued = tt
 
-asked_speaks : (o : Options) (side : Side) (option : ℕ) (cause : Cause) (k : Option Known) → SpeaksAsked option (answer_now o side option cause k)
+asked_speaks : (o : Options) (side : Side) (option : ℕ) (cause : OptionEvent) (k : Option Known) → SpeaksAsked option (answer_now o side option cause k)
 asked_speaks o side option cause None = tt
 asked_speaks o side option cause (Some k) = answered_speaks side option (cell_now o side k cause).1
 

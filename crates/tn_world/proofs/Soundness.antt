@@ -9,8 +9,8 @@ use Rattle.tn_codes.specs.declared.codes.Verb.{Verb}
 use Rattle.tn_option.specs.EnginePair.{TalkTo}
 use Rattle.tn_option.specs.Options.{Options}
 use Rattle.tn_option.proofs.lemmas.Agreement.{Moves, then-Moves}
-use Rattle.tn_wire.specs.OptionWords.{words_in}
-use Rattle.tn_wire.proofs.lemmas.OptionWords.{words_in-append}
+use Rattle.tn_linemode.specs.OptionWords.{words_in}
+use Rattle.tn_linemode.proofs.lemmas.OptionWords.{words_in-append}
 use Rattle.tn_server.specs.Course as server_courses
 use Rattle.tn_server.specs.Events as server_calls
 use Rattle.tn_server.specs.Faults.{IsOfItem, IsOfPiece}

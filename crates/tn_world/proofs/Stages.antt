@@ -10,7 +10,7 @@ use Rattle.tn_option.specs.EnginePair.{EnginePair, engine_step, asked_word, ask_
 use Rattle.tn_option.specs.EnginePair.{step_of, talk_steps, TalkTo}
 use Rattle.tn_option.specs.Options.{Options, options_after_word, reply_to, options_after_wish, answer_to, new_options}
 use Rattle.tn_option.specs.QMethod.{cell}
-use Rattle.tn_option.specs.declared.negotiation.Place.{Place}
+use Rattle.tn_option.specs.declared.negotiation.OptionSide.{OptionSide}
 use Rattle.tn_option.specs.declared.q_method.QState.{QState}
 use Rattle.tn_option.specs.declared.q_method.QState.TheVariants.{No, Yes, WantNoEmpty, WantNoOpposite, WantYesEmpty, WantYesOpposite}
 use Rattle.tn_option.specs.declared.q_method.Side.TheVariants.{Us}
@@ -73,7 +73,7 @@ abbrev pub want_no : Bool → QState
 want_no false = WantNoEmpty
 want_no true = WantNoOpposite
 
-abbrev pub seat : Bool → QState → Place
+abbrev pub seat : Bool → QState → OptionSide
 seat agreed state = record { agreed = agreed; state = state }
 
 abbrev pub server_options : QState → QState → QState → QState → QState → Options

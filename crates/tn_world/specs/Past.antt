@@ -8,7 +8,7 @@ use Rattle.tn_nvt.specs.declared.items.Item.{Item}
 use Rattle.tn_nvt.specs.declared.items.Item.TheVariants.{Sub}
 use Rattle.tn_option.specs.EnginePair.{EnginePair, TalkTo}
 use Rattle.tn_option.specs.Options.{new_options}
-use Rattle.tn_wire.specs.OptionWords.{words_in}
+use Rattle.tn_linemode.specs.OptionWords.{words_in}
 use Rattle.tn_server.specs.Course as server_courses
 use Rattle.tn_server.specs.Events as server_calls
 use Rattle.tn_server.specs.Calls as server

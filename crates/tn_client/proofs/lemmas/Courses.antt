@@ -6,15 +6,15 @@ use Rattle.tn_nvt.specs.Feeding as nvt
 use Rattle.tn_nvt.specs.Stream.{Reading}
 use Rattle.tn_nvt.specs.declared.items.Item.{Item}
 use Rattle.tn_nvt.proofs.lemmas.Reading.{one_standing, reads_none}
-use Rattle.tn_wire.proofs.lemmas.Reading.{same_more, part_in_two}
+use Rattle.tn_linemode.proofs.lemmas.Reading.{same_more, part_in_two}
 use Rattle.tn_client.specs.Events.{Event, typed, got, resized, proposed, sent, History, next, items, gets}
 use Rattle.tn_client.specs.Replies.{items_said}
 use Rattle.tn_client.specs.Screen.{text_shown}
 use Rattle.tn_client.specs.Calls.{End, LeadsTo, ReadsNothing, Advances, Feeds, IsStopCause, StopsWithin}
 use Rattle.tn_client.specs.Course.{Course, started, fed, called, stream, IsCall, ReadsAs, CourseLeadsTo}
-use Rattle.tn_wire.specs.Prefixes.{IsRead}
+use Rattle.tn_linemode.specs.Prefixes.{IsRead}
 use Rattle.tn_client.proofs.lemmas.Histories.{items-gets, gets-append}
-use Rattle.tn_wire.proofs.lemmas.Cutting.{cons_some, back_some}
+use Rattle.tn_linemode.proofs.lemmas.Cutting.{cons_some, back_some}
 
 -- a call brings no item
 items-call : (h : History) (e : Event) → IsCall e → items (next h e) ≡ items h

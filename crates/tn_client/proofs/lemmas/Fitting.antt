@@ -23,10 +23,10 @@ use Rattle.tn_client.specs.Terms.{options, mode, forward, chars, size, linemode,
 use Rattle.tn_client.specs.Lines.{role_at, sends_ahead, line}
 use Rattle.tn_client.specs.Replies.{byte_items, command_of, command_items, raw_key_items, edited_key_items, sent_ahead_items, key_items, size_items}
 use Rattle.tn_client.specs.Replies.{new_size_items, payload_answers, answer_items, end_of_edit_items, is_same_size, command_sent, replies, items_said}
-use Rattle.tn_wire.specs.Words.{word_items}
+use Rattle.tn_linemode.specs.Words.{word_items}
 use Rattle.tn_linemode.proofs.lemmas.Answering.{length-answers_along}
-use Rattle.tn_wire.proofs.lemmas.Fitting.{Fit, none, one, both, unless, word-fits, mode-fits, list-fits}
-use Rattle.tn_wire.proofs.lemmas.Listing.{IsShortOrNone, short_under}
+use Rattle.tn_linemode.proofs.lemmas.Fitting.{Fit, none, one, both, unless, word-fits, mode-fits, list-fits}
+use Rattle.tn_linemode.proofs.lemmas.Listing.{IsShortOrNone, short_under}
 
 bytes-fit : (bs : List ℕ) → Fit (byte_items bs)
 bytes-fit [] = none

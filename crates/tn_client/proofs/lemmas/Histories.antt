@@ -16,7 +16,7 @@ use Rattle.tn_nvt.specs.declared.items.Item.TheVariants.{Byte, Newline, Cmd, Neg
 use Rattle.tn_option.specs.Options.{Options, options_after_word}
 use Rattle.tn_client.specs.Events.{History, begun, next, typed, got, resized, proposed, sent, items, keys, gets}
 use Rattle.tn_client.specs.Terms.{options, mode, forward, chars, linemode, payload_at, changes, mode_by, mode_at, forward_by}
-use Rattle.tn_wire.specs.Words.{payload_under, differ}
+use Rattle.tn_linemode.specs.Words.{payload_under, differ}
 use Rattle.tn_client.specs.Lines.{settings_by, role_at, role_under, isig_told, roles_under, line_limit, edited_roles, half_line, is_sent_ahead, lengths_with}
 use Rattle.tn_client.specs.Lines.{lengths_kept, lengths_since_sent, least, ahead, held_bytes, count_under, line}
 use Rattle.tn_client.specs.Replies.{replies, items_said}

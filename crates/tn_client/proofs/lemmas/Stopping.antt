@@ -2,8 +2,8 @@
 use Rattle.std.proofs.Common.{◌≡◌, ℕ, List, [], ◌∷◌, ◌++◌, sym, ap, ◌∙◌, subst}
 use Rattle.tn_nvt.specs.Feeding.{DecoderState}
 use Rattle.tn_nvt.specs.declared.items.Item.{Item}
-use Rattle.tn_wire.proofs.lemmas.Reading.{stopped_in}
-use Rattle.tn_wire.proofs.lemmas.Cutting.{added_on, parted_on, front_on}
+use Rattle.tn_linemode.proofs.lemmas.Reading.{stopped_in}
+use Rattle.tn_linemode.proofs.lemmas.Cutting.{added_on, parted_on, front_on}
 use Rattle.tn_client.specs.Course.{Course, fed, stream, ReadsAs, CourseLeadsTo}
 use Rattle.tn_client.specs.Events.{History, next, got, items, gets}
 use Rattle.tn_client.specs.Replies.{replies, items_said}

@@ -19,9 +19,9 @@ use Rattle.tn_nvt.specs.declared.items.Item.TheVariants.{Byte, Newline, Cmd, Neg
 use Rattle.tn_option.specs.EnginePair.{EnginePair, talk_steps, client_hears}
 use Rattle.tn_option.specs.Options.{Options, options_after_word, reply_to}
 use Rattle.tn_option.proofs.lemmas.Agreement.{Moves, then-Moves}
-use Rattle.tn_wire.specs.OptionWords.{words_in}
-use Rattle.tn_wire.proofs.lemmas.OptionWords.{words_in-append, words_in-word, words_in-list, words_in-mode}
-use Rattle.tn_wire.specs.Words.{word_items}
+use Rattle.tn_linemode.specs.OptionWords.{words_in}
+use Rattle.tn_linemode.proofs.lemmas.OptionWords.{words_in-append, words_in-word, words_in-list, words_in-mode}
+use Rattle.tn_linemode.specs.Words.{word_items}
 use Rattle.tn_client.specs.Calls.{End, LeadsTo, Advances, Sends, Feeds}
 use Rattle.tn_client.specs.Course.{IsCall}
 use Rattle.tn_client.specs.Events.{Event, History, next, typed, got, resized, proposed, sent, gets}

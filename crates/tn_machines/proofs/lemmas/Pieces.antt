@@ -10,7 +10,7 @@ use Rattle.tn_nvt.specs.Feeding as nvt
 use Rattle.tn_nvt.specs.Spelling.{spells}
 use Rattle.tn_nvt.specs.Stream.{Reading}
 use Rattle.tn_nvt.specs.declared.items.Item.{Item}
-use Rattle.tn_wire.specs.Prefixes.{IsRead}
+use Rattle.tn_linemode.specs.Prefixes.{IsRead}
 
 -- the items of the whole piece go on from those of its front
 pub read_on : (stream piece front back : List ℕ) (had done left : List Item) → All (λ b. b < 256) stream → All (λ b. b < 256) piece → piece ≡ front ++ back

@@ -20,7 +20,7 @@ use Rattle.tn_machines.specs.declared.client.machine.Core.{Core}
 use Rattle.tn_machines.specs.declared.client.messages.Origin.{Origin}
 use Rattle.tn_machines.specs.declared.client.messages.Origin.TheVariants.{Keys, Net}
 use Rattle.tn_machines.specs.declared.client.messages.Told.{Told}
-use Rattle.tn_machines.specs.declared.client.progress.Progress.{Progress}
+use Rattle.tn_machines.specs.declared.client.progress.ClientProgress.{ClientProgress}
 use Rattle.tn_streams.specs.declared.control.Control.{Control}
 use Rattle.tn_streams.specs.declared.window.WindowSize.{WindowSize}
 use Rattle.tn_machines.proofs.lemmas.Pieces.{read_on, read_as}
@@ -46,7 +46,7 @@ is_over c core off is = record {
 pub handled : (c new : Run) (old : Core) (told : Told) → old.progress.over ≡ false → LeadsTo c old → Acts c told.from told.message new → Handles c told new
 handled c new old told on at acts =
     let P : Bool → Type 0 = λ b. ActsUnless b c told new in
-    subst P (sym on ∙ ap (λ (p : Progress). p.over) at.progress) acts
+    subst P (sym on ∙ ap (λ (p : ClientProgress). p.over) at.progress) acts
 
 -- nothing goes to the network once it is closed
 sent_kept : (b : Bool) (sent h : History) → (b ≡ false → sent ≡ h) → sent ≡ sent_after b sent h
@@ -392,7 +392,7 @@ acts_plain c from Refused plain = refl
 acts_plain c from Left plain = refl
 
 -- where more goes to the network than before, nothing had been closed
-still_open : (from : Origin) (m : Message) (p : Progress) → (after_message from m p).closed ≡ false → p.closed ≡ false
+still_open : (from : Origin) (m : Message) (p : ClientProgress) → (after_message from m p).closed ≡ false → p.closed ≡ false
 still_open Net HangUp p e = e
 still_open Net ReadFailed p e = e
 still_open Keys ReadFailed p e = e
@@ -413,7 +413,7 @@ still_open Keys (Asked control) p e = e
 still_open Net (Asked control) p e = e
 
 -- and what is closed stays so
-pub stays_closed : (from : Origin) (m : Message) (p : Progress) → p.closed ≡ true → (after_message from m p).closed ≡ true
+pub stays_closed : (from : Origin) (m : Message) (p : ClientProgress) → p.closed ≡ true → (after_message from m p).closed ≡ true
 stays_closed from m p e = by (after_message from m p).closed refl
   where
     by : (b : Bool) → (after_message from m p).closed ≡ b → (after_message from m p).closed ≡ true

@@ -9,9 +9,9 @@ use Rattle.tn_machines.specs.client.Counting.{after_failure}
 use Rattle.tn_machines.specs.client.Reaching.{DoesWhole, StopsWithin, RefusesFor, SendsPrefix, IsTurn, sent_bytes}
 use Rattle.tn_machines.specs.client.Run.{Run, ActsUnless, fail, sent_after}
 use Rattle.tn_machines.specs.declared.client.machine.Core.{Core}
-use Rattle.tn_machines.specs.declared.client.messages.Mark.TheVariants.{Whole, Refused}
+use Rattle.tn_machines.specs.declared.client.messages.ClientMark.TheVariants.{Whole, Refused}
 use Rattle.tn_machines.specs.declared.client.messages.Told.{Told}
-use Rattle.tn_machines.specs.declared.client.progress.Progress.{Progress}
+use Rattle.tn_machines.specs.declared.client.progress.ClientProgress.{ClientProgress}
 use Rattle.tn_machines.proofs.lemmas.Pieces.{from_none, all_spelled}
 use Rattle.tn_nvt.specs.Spelling.{spells}
 use Rattle.tn_machines.specs.declared.faults.SessionFault.TheVariants as fault
@@ -28,7 +28,7 @@ turn_idle old told bytes text none blank off = record {
   leads = λ c at.
       let P : Bool → Type 0 = λ b. ActsUnless b c told c in (
         c,
-        subst P (sym off ∙ ap (λ (p : Progress). p.over) at.progress) refl,
+        subst P (sym off ∙ ap (λ (p : ClientProgress). p.over) at.progress) refl,
         at,
         ([], nothing_more (spells (items_said c.sent)) bytes none, λ w. refl),
         ([], nothing_more (text_shown c.history) text blank, λ w. refl),
@@ -63,7 +63,7 @@ pub turn_whole : (old new : Core) (told : Told) (x y u v bytes : List ℕ) → x
 turn_whole old new told x y u v bytes none blank on drops h = record {
   leads = λ c at.
       let l = h.leads c at in
-      let shut : old.progress.closed ≡ c.progress.closed = ap (λ (p : Progress). p.closed) at.progress in
+      let shut : old.progress.closed ≡ c.progress.closed = ap (λ (p : ClientProgress). p.closed) at.progress in
       let part = from_none x y (spells h.said) none h.appended in
       let gives : bytes ≡ sent_bytes c.progress.closed (spells h.said) =
       drops ∙ ap (λ (b : Bool). sent_bytes b y) shut ∙ ap (sent_bytes c.progress.closed) part in (
@@ -85,13 +85,13 @@ pub turn_refused : (old mid new : Core) (told : Told) (f : ClientFault) (x y u v
 turn_refused old mid new told f x y u v bytes none blank on drops h is cause = record {
   leads = λ c at.
       let l = h.leads c at in
-      let shut : old.progress.closed ≡ c.progress.closed = ap (λ (p : Progress). p.closed) at.progress in
+      let shut : old.progress.closed ≡ c.progress.closed = ap (λ (p : ClientProgress). p.closed) at.progress in
       let part = from_none x y h.part none h.appended in
       let gives : bytes ≡ sent_bytes c.progress.closed h.part = drops ∙ ap (λ (b : Bool). sent_bytes b y) shut ∙ ap (sent_bytes c.progress.closed) part in
       let next = fail (fault.Client f) l.0 in
       let over : new.progress.over ≡ true = ap (λ (core : Core). core.progress.over) is in (
         next,
-        (sym (ap (λ (p : Progress). p.over) at.progress) ∙ on, l.0, l.1, refl, cause c at),
+        (sym (ap (λ (p : ClientProgress). p.over) at.progress) ∙ on, l.0, l.1, refl, cause c at),
         is_over next new over (ap (λ (core : Core). core.progress) is ∙ ap (after_failure (fault.Client f)) l.2),
         sends_as c.progress.closed false c next bytes h.part l.4.0 l.3 (at.live on).latest gives l.4.1 (λ w. absurd (false_true w)),
         (l.5.0, l.5.1 ∙ ap (λ (bs : List ℕ). text_shown c.history ++ (bs ++ l.5.0)) (sym (from_none u v h.text blank h.displayed)), λ w. absurd (false_true w)),

@@ -25,13 +25,13 @@ use Rattle.tn_machines.specs.declared.faults.Ended.{Ended}
 use Rattle.tn_machines.specs.declared.faults.Ended.TheVariants.{Fault, Done}
 use Rattle.tn_machines.specs.declared.faults.SessionFault.{SessionFault}
 use Rattle.tn_machines.specs.declared.faults.SessionFault.TheVariants as fault
-use Rattle.tn_machines.specs.declared.server.messages.Mark.{Mark}
-use Rattle.tn_machines.specs.declared.server.messages.Mark.TheVariants as mark
+use Rattle.tn_machines.specs.declared.server.messages.ServerMark.{ServerMark}
+use Rattle.tn_machines.specs.declared.server.messages.ServerMark.TheVariants as mark
 use Rattle.tn_machines.specs.declared.messages.Message.{Message}
 use Rattle.tn_machines.specs.declared.messages.Message.TheVariants.{Piece, HangUp, ReadFailed, Take, Said, Refused, Left, Resized, Asked}
-use Rattle.tn_machines.specs.declared.server.progress.Progress.{Progress}
-use Rattle.tn_wire.proofs.lemmas.Reading.{same_more}
-use Rattle.tn_wire.specs.Prefixes.{IsRead}
+use Rattle.tn_machines.specs.declared.server.progress.ServerProgress.{ServerProgress}
+use Rattle.tn_linemode.proofs.lemmas.Reading.{same_more}
+use Rattle.tn_linemode.specs.Prefixes.{IsRead}
 
 -- all but the parts in which texts were written is the same
 record Same (c d : Run) : Type 0 where
@@ -188,7 +188,7 @@ same_acts : (m : Message) (c d c' d' : Run) → Pulled c → Acts c m c' → Act
 same_acts (Piece piece) c d c' d' none a b s =
     let fed = feed piece a.0 c in
     let other = feed piece b.0 d in
-    let asked = same_ask_if c.progress.asks d.progress.asks fed other (ap (λ (p : Progress). p.asks) s.progress) (same_feed piece a.0 b.0 c d a.1 b.1 s) in
+    let asked = same_ask_if c.progress.asks d.progress.asks fed other (ap (λ (p : ServerProgress). p.asks) s.progress) (same_feed piece a.0 b.0 c d a.1 b.1 s) in
     same_as (flush (ask_if c.progress.asks fed)) (flush (ask_if d.progress.asks other)) c' d' a.2 b.2
     (same_flush (ask_if c.progress.asks fed) (ask_if d.progress.asks other) asked)
 same_acts HangUp c d c' d' none a b s = same_as (flush (hang_up c)) (flush (hang_up d)) c' d' a b (same_flush (hang_up c) (hang_up d) (same_hang_up c d s))
@@ -270,14 +270,14 @@ same_put_or_not false m c d whole other s w = record {
   where
     asks_by : (m : Message) → asks_at m c ≡ asks_at m d
     asks_by Take = refl
-    asks_by (Piece piece) = ap (λ (p : Progress). p.asks) s.progress
-    asks_by HangUp = ap (λ (p : Progress). p.asks) s.progress
-    asks_by ReadFailed = ap (λ (p : Progress). p.asks) s.progress
-    asks_by (Said id text after) = ap (λ (p : Progress). p.asks) s.progress
-    asks_by Refused = ap (λ (p : Progress). p.asks) s.progress
-    asks_by Left = ap (λ (p : Progress). p.asks) s.progress
-    asks_by (Resized size) = ap (λ (p : Progress). p.asks) s.progress
-    asks_by (Asked control) = ap (λ (p : Progress). p.asks) s.progress
+    asks_by (Piece piece) = ap (λ (p : ServerProgress). p.asks) s.progress
+    asks_by HangUp = ap (λ (p : ServerProgress). p.asks) s.progress
+    asks_by ReadFailed = ap (λ (p : ServerProgress). p.asks) s.progress
+    asks_by (Said id text after) = ap (λ (p : ServerProgress). p.asks) s.progress
+    asks_by Refused = ap (λ (p : ServerProgress). p.asks) s.progress
+    asks_by Left = ap (λ (p : ServerProgress). p.asks) s.progress
+    asks_by (Resized size) = ap (λ (p : ServerProgress). p.asks) s.progress
+    asks_by (Asked control) = ap (λ (p : ServerProgress). p.asks) s.progress
 
 unput_pulled : (put : Bool) (m : Message) (c whole : Run) → Pulled whole → Pulled (put_or_not put m c whole)
 unput_pulled true m c whole none = none
@@ -287,19 +287,19 @@ record Both (c d : Run) : Type 0 where
   same : Same c d
   pulled : Pulled c
 
-same_turns : (m : Message) (k : Mark) (c d c' d' : Run) → Turns c (m, k) c' → Turns d (m, k) d' → Both c d → Both c' d'
+same_turns : (m : Message) (k : ServerMark) (c d c' d' : Run) → Turns c (m, k) c' → Turns d (m, k) d' → Both c d → Both c' d'
 same_turns m mark.Whole c d c' d' a b s = record {
-  same = same_handles c.progress.over d.progress.over m c d c' d' (ap (λ (p : Progress). p.over) s.same.progress) s.pulled a b s.same;
+  same = same_handles c.progress.over d.progress.over m c d c' d' (ap (λ (p : ServerProgress). p.over) s.same.progress) s.pulled a b s.same;
   pulled = handles_pulled c.progress.over m c c' a s.pulled;
 }
 same_turns m mark.WriteFailed c d c' d' a b s =
-    let w = same_handles c.progress.over d.progress.over m c d a.1 b.1 (ap (λ (p : Progress). p.over) s.same.progress) s.pulled a.2 b.2 s.same in
+    let w = same_handles c.progress.over d.progress.over m c d a.1 b.1 (ap (λ (p : ServerProgress). p.over) s.same.progress) s.pulled a.2 b.2 s.same in
     record {
       same = same_as (fail fault.Write a.1) (fail fault.Write b.1) c' d' a.3 b.3 (same_fail fault.Write a.1 b.1 w);
       pulled = pulled_as (fail fault.Write a.1) c' a.3 (handles_pulled c.progress.over m c a.1 a.2 s.pulled);
     }
 same_turns m (mark.Refused f put) c d c' d' a b s =
-    let w = same_handles c.progress.over d.progress.over m c d a.1 b.1 (ap (λ (p : Progress). p.over) s.same.progress) s.pulled a.2 b.2 s.same in
+    let w = same_handles c.progress.over d.progress.over m c d a.1 b.1 (ap (λ (p : ServerProgress). p.over) s.same.progress) s.pulled a.2 b.2 s.same in
     let x = put_or_not put m c a.1 in
     let y = put_or_not put m d b.1 in
     record {
@@ -308,7 +308,7 @@ same_turns m (mark.Refused f put) c d c' d' a b s =
       pulled = pulled_as (fail (fault.Server f) x) c' a.3 (unput_pulled put m c a.1 (handles_pulled c.progress.over m c a.1 a.2 s.pulled));
     }
 
-same_runs : (marked : List (Message × Mark)) (c d c' d' : Run) → FoldsTo Turns c marked c' → FoldsTo Turns d marked d' → Both c d → Same c' d'
+same_runs : (marked : List (Message × ServerMark)) (c d c' d' : Run) → FoldsTo Turns c marked c' → FoldsTo Turns d marked d' → Both c d → Same c' d'
 same_runs [] c d c' d' f g s = same_as c d c' d' (sym f) (sym g) s.same
 same_runs ((m, k) ∷ marked) c d c' d' f g s = same_runs marked f.0 g.0 c' d' f.2 g.2 (same_turns m k c d f.0 g.0 f.1 g.1 s)
 
@@ -319,7 +319,7 @@ opened_pulled : (b : Bool) (canon : Canon) (editing : Editing) (jobs : Jobs) →
 opened_pulled true canon editing jobs = refl
 opened_pulled false canon editing jobs = refl
 
-pub agree : (b : Bool) (canon : Canon) (editing : Editing) (jobs : Jobs) (marked : List (Message × Mark)) (one two : Run)
+pub agree : (b : Bool) (canon : Canon) (editing : Editing) (jobs : Jobs) (marked : List (Message × ServerMark)) (one two : Run)
     → Runs (run_after_opening b (start canon editing jobs)) marked one → Runs (run_after_opening b (start canon editing jobs)) marked two → Agree one two
 agree b canon editing jobs marked one two f g =
     let c = run_after_opening b (start canon editing jobs) in

@@ -22,7 +22,7 @@ use Rattle.tn_server.specs.Screen.{queue}
 use Rattle.tn_machines.specs.server.Counting.{after_halt, after_piece}
 use Rattle.tn_machines.specs.server.Reaching.{LeadsTo, AdvancesRun, BreaksOff, FeedBreaksOff, HaltsIf}
 use Rattle.tn_machines.specs.server.Run.{Run, Reads, flushed_history, show, ask, ask_if, answer, halt, halt_if, end_if, IsPart}
-use Rattle.tn_machines.specs.declared.server.progress.Progress.{Progress}
+use Rattle.tn_machines.specs.declared.server.progress.ServerProgress.{ServerProgress}
 use Rattle.tn_machines.specs.declared.server.terminal.Term.{Term}
 
 -- the longer history sends more
@@ -127,7 +127,7 @@ breaks_halt f a b d x y p q one is puts = record {
   puts = λ c at.
       ap (λ (ps : List (Option Entry)). ps ++ end_if (f c).progress.asks) (one.puts c at)
       ∙ append_assoc c.puts p (end_if (f c).progress.asks)
-      ∙ ap (λ (ps : List (Option Entry)). c.puts ++ (p ++ ps)) (ap (λ (r : Progress). end_if r.asks) (sym (one.progress c at)) ∙ sym puts);
+      ∙ ap (λ (ps : List (Option Entry)). c.puts ++ (p ++ ps)) (ap (λ (r : ServerProgress). end_if r.asks) (sym (one.progress c at)) ∙ sym puts);
 }
 
 pub breaks_halt_if : (e : Bool) (f : Run → Run) (a b d : Term) (x y : List ℕ) (p q : List (Option Entry)) → BreaksOff f a x y p b → HaltsIf e b q d

@@ -19,7 +19,7 @@ use Rattle.tn_server.specs.declared.wishes.Editing.{Editing}
 use Rattle.tn_discipline.specs.Canon.{Canon}
 use Rattle.tn_server.specs.Calls.{End, Advances, ReadsNothing}
 use Rattle.tn_server.specs.Calls as server
-use Rattle.tn_machines.specs.declared.server.progress.Progress.{Progress}
+use Rattle.tn_machines.specs.declared.server.progress.ServerProgress.{ServerProgress}
 use Rattle.tn_machines.specs.declared.server.terminal.Term.{Term}
 use Rattle.tn_machines.specs.server.Counting.{after_answer, after_no_entry, after_piece, after_halt, nothing_yet}
 use Rattle.tn_machines.specs.server.Run.{Run, flushed_history, ask, answer, end_if, show, move, stop_job, end_job, in_foreground, halt, halt_if, start, opening}
@@ -30,7 +30,7 @@ use Rattle.tn_nvt.specs.Spelling.{spells}
 use Rattle.tn_nvt.proofs.lemmas.Reading.{spells-append}
 
 -- The history goes on by this path, and jobs and progress change.
-pub does_all : (path : History → History) (turn : Jobs → Jobs) (step : Progress → Progress) (put : List (Option Entry)) (old new : Term) (end : End)
+pub does_all : (path : History → History) (turn : Jobs → Jobs) (step : ServerProgress → ServerProgress) (put : List (Option Entry)) (old new : Term) (end : End)
     (before after : List ℕ) → old.progress.over ≡ false → new ≡ record old { end = end; table = turn old.table; progress = step old.progress }
     → FollowsPath path old.end before after end → AdvancesRun (λ c.
     record { history = path c.history; stream = c.stream; puts = c.puts ++ put; jobs = turn c.jobs; progress = step c.progress }) old before after put new
@@ -124,7 +124,7 @@ does_wait old new end put x y on is puts goes keeps entry =
           puts = c.puts ++ ps;
           jobs = c.jobs;
           progress = after_no_entry c.progress;
-        }) (ap (λ (p : Progress). end_if p.at_end) (sym at.progress) ∙ sym puts)
+        }) (ap (λ (p : ServerProgress). end_if p.at_end) (sym at.progress) ∙ sym puts)
 
 -- a piece came
 pub feeds : (old new : Term) (end : End) (piece x y : List ℕ) → All (λ b. b < 256) piece → old.progress.over ≡ false
@@ -173,13 +173,13 @@ of_some {A} P Q o x e h = let R : Option A → Type 0 = λ u. MatchOption u P Q 
 pub of_none : {A : Type 0} (P : Type 0) (Q : A → Type 0) (o : Option A) → o ≡ None → MatchOption o P Q → P
 of_none {A} P Q o e h = let R : Option A → Type 0 = λ u. MatchOption u P Q in subst R e h
 
-pub does_jobs : (turn : Jobs → Jobs) (step : Progress → Progress) (put : List (Option Entry)) (old new : Term) (x : List ℕ) → old.progress.over ≡ false
+pub does_jobs : (turn : Jobs → Jobs) (step : ServerProgress → ServerProgress) (put : List (Option Entry)) (old new : Term) (x : List ℕ) → old.progress.over ≡ false
     → new ≡ record old { table = turn old.table; progress = step old.progress }
     → AdvancesRun (λ c. record { history = c.history; stream = c.stream; puts = c.puts ++ put; jobs = turn c.jobs; progress = step c.progress }) old x x put new
 does_jobs turn step put old new x on is = does_all (λ h. h) turn step put old new old.end x x on is (follows_none old.end x)
 
 -- jobs and progress alone change
-pub does_turn : (turn : Jobs → Jobs) (step : Progress → Progress) (old new : Term) (x : List ℕ) → old.progress.over ≡ false
+pub does_turn : (turn : Jobs → Jobs) (step : ServerProgress → ServerProgress) (old new : Term) (x : List ℕ) → old.progress.over ≡ false
     → new ≡ record old { table = turn old.table; progress = step old.progress }
     → AdvancesRun (λ c. record c { jobs = turn c.jobs; progress = step c.progress }) old x x [] new
 does_turn turn step old new x on is =
@@ -188,13 +188,13 @@ does_turn turn step old new x on is =
     (does_jobs turn step [] old new x on is)
 
 -- progress changes, and a request that waits is answered End
-pub does_end : (step : Progress → Progress) (old new : Term) (put : List (Option Entry)) (x : List ℕ) → old.progress.over ≡ false
+pub does_end : (step : ServerProgress → ServerProgress) (old new : Term) (put : List (Option Entry)) (x : List ℕ) → old.progress.over ≡ false
     → new ≡ record old { progress = step old.progress } → put ≡ end_if old.progress.asks
     → AdvancesRun (λ c. record c { puts = c.puts ++ end_if c.progress.asks; progress = step c.progress }) old x x put new
 does_end step old new put x on is puts =
     does_same _ (λ c. record c { puts = c.puts ++ end_if c.progress.asks; progress = step c.progress }) old new x x put
     (λ c at. ap (λ (ps : List (Option Entry)). record c { puts = c.puts ++ ps; progress = step c.progress })
-    (ap (λ (p : Progress). end_if p.asks) (sym at.progress) ∙ sym puts)) (does_jobs (λ j. j) step put old new x on is)
+    (ap (λ (p : ServerProgress). end_if p.asks) (sym at.progress) ∙ sym puts)) (does_jobs (λ j. j) step put old new x on is)
 
 pub foreground_as : (old : Term) (c : Run) (id : ℕ) (state : JobState) (b : Bool) → old.progress.over ≡ false → state_at old.table id ≡ Some state
     → b ≡ is_foreground (Some state) → LeadsTo c old → in_foreground c id ≡ b
@@ -231,7 +231,7 @@ does_halt old new put x is puts = record {
   appended = sym (append-nil x);
   leads = λ c at. is_over (halt c) new (ap (λ (t : Term). t.progress.over) is) (ap (λ (t : Term). t.progress) is ∙ ap after_halt at.progress);
   sends = λ c at. sym (append-nil (items_said c.history));
-  puts = λ c at. ap (λ (ps : List (Option Entry)). c.puts ++ ps) (ap (λ (p : Progress). end_if p.asks) (sym at.progress) ∙ sym puts);
+  puts = λ c at. ap (λ (ps : List (Option Entry)). c.puts ++ ps) (ap (λ (p : ServerProgress). end_if p.asks) (sym at.progress) ∙ sym puts);
 }
 
 pub does_halt_if : (b : Bool) (old new : Term) (put : List (Option Entry)) (x : List ℕ) → HaltsIf b old put new → AdvancesRun (halt_if b) old x x put new

@@ -16,20 +16,20 @@ use Rattle.tn_machines.specs.declared.faults.Ended.{Ended}
 use Rattle.tn_machines.specs.declared.faults.Ended.TheVariants as ended
 use Rattle.tn_machines.specs.declared.faults.SessionFault.{SessionFault}
 use Rattle.tn_machines.specs.declared.faults.SessionFault.TheVariants as fault
-use Rattle.tn_machines.specs.declared.server.messages.Mark.{Mark}
-use Rattle.tn_machines.specs.declared.server.messages.Mark.TheVariants as mark
+use Rattle.tn_machines.specs.declared.server.messages.ServerMark.{ServerMark}
+use Rattle.tn_machines.specs.declared.server.messages.ServerMark.TheVariants as mark
 use Rattle.tn_machines.specs.declared.messages.Message.{Message}
 use Rattle.tn_machines.specs.declared.messages.Message.TheVariants.{Piece, HangUp, ReadFailed, Take, Said, Refused, Left, Resized, Asked}
 
 -- the run ended so before, or ends at this message
-abbrev MovesAt : Run → Message → Mark → Ended → Type 0
+abbrev MovesAt : Run → Message → ServerMark → Ended → Type 0
 MovesAt c m k e = Moves (ended_of c) (EndsAt c m k) e
 
-moves_to : (c : Run) (m : Message) (k : Mark) (e d : Ended) → d ≡ e → MovesAt c m k e → MovesAt c m k d
+moves_to : (c : Run) (m : Message) (k : ServerMark) (e d : Ended) → d ≡ e → MovesAt c m k e → MovesAt c m k d
 moves_to c m k e d is moves = moves_as (ended_of c) (EndsAt c m k) e d is moves
 
 -- a message after which another end would count, had none come
-moves_on : (c : Run) (m : Message) (k : Mark) (a e : Ended) (f : SessionFault) → e ≡ first_end a (ended.Fault f) → MovesAt c m k a
+moves_on : (c : Run) (m : Message) (k : ServerMark) (a e : Ended) (f : SessionFault) → e ≡ first_end a (ended.Fault f) → MovesAt c m k a
     → EndsAt c m k (ended.Fault f) → MovesAt c m k e
 moves_on c m k a e f is before why = moves_first (ended_of c) (EndsAt c m k) a e f is before why
 
@@ -47,14 +47,14 @@ move_moves id job.Ended c = end (in_foreground c id)
     end true = first_cases (ended_of c) ended.Done
     end false = inl refl
 
-said_moves : (id : ℕ) (parts : List (List ℕ)) (v : Option Verdict) (c : Run) (m : Message) (k : Mark) → MovesAt c m k (ended_of (after_said id parts v c))
+said_moves : (id : ℕ) (parts : List (List ℕ)) (v : Option Verdict) (c : Run) (m : Message) (k : ServerMark) → MovesAt c m k (ended_of (after_said id parts v c))
 said_moves id parts None c m k = inl refl
 said_moves id parts (Some v) c m k =
     let moved = move id v.next c in
     moves_to c m k (ended_of moved) _ (halt_ended (is_end v.next && in_foreground c id) (flush (show parts moved)))
     (⊎_elim (λ s. inl s) (λ s. moves_to c m k ended.Done (ended_of moved) s (inr tt)) (move_moves id v.next c))
 
-acts_moves : (c new : Run) (m : Message) (k : Mark) → Acts c m new → MovesAt c m k (ended_of new)
+acts_moves : (c new : Run) (m : Message) (k : ServerMark) → Acts c m new → MovesAt c m k (ended_of new)
 acts_moves c new (Piece piece) k a = inl (ap ended_of a.2 ∙ ask_ended c.progress.asks (feed piece a.0 c))
 acts_moves c new HangUp k a = inl (ap ended_of a)
 acts_moves c new ReadFailed k a = moves_on c ReadFailed k (ended_of c) (ended_of new) fault.Read (ap ended_of a) (inl refl) refl
@@ -66,7 +66,7 @@ acts_moves c new Left k a = inl (ap ended_of a)
 acts_moves c new (Resized size) k a = inl (ap ended_of a)
 acts_moves c new (Asked control) k a = inl (ap ended_of a)
 
-handles_moves : (o : Bool) (c new : Run) (m : Message) (k : Mark) → ActsUnless o c m new → MovesAt c m k (ended_of new)
+handles_moves : (o : Bool) (c new : Run) (m : Message) (k : ServerMark) → ActsUnless o c m new → MovesAt c m k (ended_of new)
 handles_moves true c new m k a = inl (ap ended_of a)
 handles_moves false c new m k a = acts_moves c new m k a
 
@@ -74,20 +74,20 @@ unput_ended : (put : Bool) (m : Message) (c whole : Run) → ended_of (put_or_no
 unput_ended true m c whole = refl
 unput_ended false m c whole = refl
 
-turn_moves : (c new : Run) (m : Message) (k : Mark) → Turns c (m, k) new → MovesAt c m k (ended_of new)
+turn_moves : (c new : Run) (m : Message) (k : ServerMark) → Turns c (m, k) new → MovesAt c m k (ended_of new)
 turn_moves c new m mark.Whole t = handles_moves c.progress.over c new m mark.Whole t
 turn_moves c new m mark.WriteFailed t =
     moves_on c m mark.WriteFailed (ended_of t.1) (ended_of new) fault.Write (ap ended_of t.3) (handles_moves c.progress.over c t.1 m mark.WriteFailed t.2) refl
 turn_moves c new m (mark.Refused f put) t =
-    let k : Mark = mark.Refused f put in
+    let k : ServerMark = mark.Refused f put in
     let done = put_or_not put m c t.1 in
     moves_on c m k (ended_of done) (ended_of new) (fault.Server f) (ap ended_of t.3)
     (moves_to c m k (ended_of t.1) (ended_of done) (unput_ended put m c t.1) (handles_moves c.progress.over c t.1 m k t.2)) (put, refl, t.4)
 
-pub turned : (c new : Run) (m : Message × Mark) → Turns c m new → Moves (ended_of c) (EndsAt c m.0 m.1) (ended_of new)
+pub turned : (c new : Run) (m : Message × ServerMark) → Turns c m new → Moves (ended_of c) (EndsAt c m.0 m.1) (ended_of new)
 turned c new m t = turn_moves c new m.0 m.1 t
 
-ended_at : (opens : Bool) (c : Run) (marked : List (Message × Mark)) (f : SessionFault) → IsEndedAt c marked (ended.Fault f) → IsFaultCause opens c marked f
+ended_at : (opens : Bool) (c : Run) (marked : List (Message × ServerMark)) (f : SessionFault) → IsEndedAt c marked (ended.Fault f) → IsFaultCause opens c marked f
 ended_at opens c marked fault.Read r = r
 ended_at opens c marked fault.Write r = inr r
 ended_at opens c marked (fault.Server g) r = r
@@ -99,7 +99,7 @@ ended_at opens c marked fault.Channel r = r
 fault_is : (f g : SessionFault) → ended.Fault f ≡ ended.Fault g → f ≡ g
 fault_is f g e = cc
 
-pub fault_cause : (opens : Bool) (canon : Canon) (editing : Editing) (jobs : Jobs) (marked : List (Message × Mark)) (new : Run) (f : SessionFault)
+pub fault_cause : (opens : Bool) (canon : Canon) (editing : Editing) (jobs : Jobs) (marked : List (Message × ServerMark)) (new : Run) (f : SessionFault)
     → Runs (run_after_opening opens (start canon editing jobs)) marked new → new.progress.ended ≡ ended.Fault f
     → IsFaultCause opens (run_after_opening opens (start canon editing jobs)) marked f
 fault_cause true canon editing jobs marked new f runs e =

@@ -17,7 +17,7 @@ use Rattle.tn_streams.specs.declared.control.Control.{Control}
 use Rattle.tn_streams.specs.declared.window.WindowSize.{WindowSize}
 use Rattle.tn_machines.specs.declared.server.messages.Put.{Put}
 use Rattle.tn_machines.specs.declared.server.messages.Put.TheVariants.{Nothing}
-use Rattle.tn_machines.specs.declared.server.progress.Progress.{Progress}
+use Rattle.tn_machines.specs.declared.server.progress.ServerProgress.{ServerProgress}
 use Rattle.tn_machines.specs.declared.server.terminal.Term.{Term}
 use Rattle.tn_machines.specs.declared.server.terminal.Stuck.{Stuck}
 use Rattle.tn_machines.specs.server.Run.{Run, puts_of, flush, hang_up, ends_by, feed, ask, ask_if, show, move, after_said, halt, halt_if, is_end, in_foreground}
@@ -41,7 +41,7 @@ pub does_last : (f g : Run → Run) (a b d : Term) (x y z : List ℕ) (p : List 
 does_last f g a b d x y z p one two = does_puts (λ c. g (f c)) a d x z (p ++ []) p (append-nil p) (does_then f g a b d x y z p [] one two)
 
 on_as : (c : Run) (t : Term) → t.progress.over ≡ false → LeadsTo c t → false ≡ c.progress.over
-on_as c t on at = sym on ∙ ap (λ (p : Progress). p.over) at.progress
+on_as c t on at = sym on ∙ ap (λ (p : ServerProgress). p.over) at.progress
 
 pub handled_by : (message : Message) (change : Run → Run) (old new : Term) (x y : List ℕ) (put : Put) → old.progress.over ≡ false
     → ((c : Run) → LeadsTo c old → Acts c message (change c)) → AdvancesRun change old x y (puts_of put) new → DoesWhole old message x y put new
@@ -54,7 +54,7 @@ handled_by message change old new x y put on acts d = record {
 }
 
 asks_as : (c : Run) (t : Term) (b : Bool) → t.progress.asks ≡ b → LeadsTo c t → c.progress.asks ≡ b
-asks_as c t b e at = ap (λ (p : Progress). p.asks) (sym at.progress) ∙ e
+asks_as c t b e at = ap (λ (p : ServerProgress). p.asks) (sym at.progress) ∙ e
 
 pub handled_piece : (piece : List ℕ) (asks : Bool) (old mid last new : Term) (x y z w : List ℕ) (put : Put) → old.progress.over ≡ false
     → old.progress.asks ≡ asks → Feeds old piece x y mid → AdvancesRun (ask_if asks) mid y z (puts_of put) last → AdvancesRun flush last z w [] new

@@ -25,8 +25,8 @@ use Rattle.tn_machines.specs.declared.faults.Ended.{Ended}
 use Rattle.tn_machines.specs.declared.faults.Ended.TheVariants as ended
 use Rattle.tn_machines.specs.declared.faults.SessionFault.{SessionFault}
 use Rattle.tn_machines.specs.declared.faults.SessionFault.TheVariants as fault
-use Rattle.tn_machines.specs.declared.server.messages.Mark.{Mark}
-use Rattle.tn_machines.specs.declared.server.messages.Mark.TheVariants as mark
+use Rattle.tn_machines.specs.declared.server.messages.ServerMark.{ServerMark}
+use Rattle.tn_machines.specs.declared.server.messages.ServerMark.TheVariants as mark
 use Rattle.tn_machines.specs.declared.messages.Message.{Message}
 use Rattle.tn_machines.specs.declared.messages.Message.TheVariants.{Piece, HangUp, ReadFailed, Take, Said, Refused, Left, Resized, Asked}
 
@@ -177,12 +177,12 @@ handles_ended true c new m a e = sym (ap ended_of a) ∙ e
 handles_ended false c new m a e = acts_ended c new m a e
 
 -- a message after which a hang-up may still end the run was done wholly
-turned_whole : (c new : Run) (m : Message) (k : Mark) → Turns c (m, k) new → ended_of new ≡ ended.HangUp → ActsUnless c.progress.over c m new
+turned_whole : (c new : Run) (m : Message) (k : ServerMark) → Turns c (m, k) new → ended_of new ≡ ended.HangUp → ActsUnless c.progress.over c m new
 turned_whole c new m mark.Whole t e = t
 turned_whole c new m mark.WriteFailed t e = absurd (not_fault (ended_of t.1) fault.Write (sym (ap ended_of t.3) ∙ e))
 turned_whole c new m (mark.Refused f put) t e = absurd (not_fault (ended_of (put_or_not put m c t.1)) (fault.Server f) (sym (ap ended_of t.3) ∙ e))
 
-runs_ended : (marked : List (Message × Mark)) (c new : Run) → FoldsTo Turns c marked new → ended_of new ≡ ended.HangUp → ended_of c ≡ ended.HangUp
+runs_ended : (marked : List (Message × ServerMark)) (c new : Run) → FoldsTo Turns c marked new → ended_of new ≡ ended.HangUp → ended_of c ≡ ended.HangUp
 runs_ended [] c new f e = ap ended_of f ∙ e
 runs_ended ((m, k) ∷ marked) c new f e =
     let mid = runs_ended marked f.0 new f.2 e in
@@ -405,7 +405,7 @@ calm_acts id c new (Asked control) others a e may s =
 
 -- ALL MESSAGES
 
-abbrev messages : List (Message × Mark) → List Message
+abbrev messages : List (Message × ServerMark) → List Message
 messages marked = map (λ m. m.0) marked
 
 record AllCalm (id : ℕ) (ms : List Message) (c new : Run) : Type 0 where
@@ -413,7 +413,7 @@ record AllCalm (id : ℕ) (ms : List Message) (c new : Run) : Type 0 where
   keeps : AllKeepOn id ms
   stream : new.stream ≡ c.stream ++ heard ms
 
-all_calm : (id : ℕ) (marked : List (Message × Mark)) (c new : Run) → OthersStay → FoldsTo Turns c marked new → ended_of new ≡ ended.HangUp
+all_calm : (id : ℕ) (marked : List (Message × ServerMark)) (c new : Run) → OthersStay → FoldsTo Turns c marked new → ended_of new ≡ ended.HangUp
     → MayAllCome c.progress.at_end (messages marked) → Calm id c → AllCalm id (messages marked) c new
 all_calm id [] c new others f e may s =
     let P : Run → Type 0 = λ u. AllCalm id [] c u in
@@ -444,7 +444,7 @@ opened : (b : Bool) (canon : Canon) (editing : Editing) (jobs : Jobs) → ended_
 opened true canon editing jobs e = refl
 opened false canon editing jobs e = absurd (not_fault ended.HangUp fault.Write e)
 
-pub hangs_up : (b : Bool) (canon : Canon) (editing : Editing) (jobs : Jobs) (id : ℕ) (marked : List (Message × Mark)) (new : Run) → OthersStay
+pub hangs_up : (b : Bool) (canon : Canon) (editing : Editing) (jobs : Jobs) (id : ℕ) (marked : List (Message × ServerMark)) (new : Run) → OthersStay
     → Runs (run_after_opening b (start canon editing jobs)) marked new → ended_of new ≡ ended.HangUp → state_at jobs id ≡ Some job.Foreground
     → MayAllCome false (messages marked) → HangsUp id (messages marked) new
 hangs_up b canon editing jobs id marked new others runs e front may =

@@ -19,8 +19,8 @@ use Rattle.tn_machines.specs.server.Marks.{Turns, Runs, run_after_opening, unput
 use Rattle.tn_machines.specs.server.Requests.{open_requests, request_of, requests_among, AnswersRequests}
 use Rattle.tn_machines.specs.server.Run.{Run, start, answer, ask, ask_if, feed, hang_up, halt, fail, end_if, after_said, show, flush, move, stop_job, end_job}
 use Rattle.tn_machines.specs.server.Run.{halt_if, in_foreground, is_end, idle, ends_by, verdict, Acts, ActsUnless}
-use Rattle.tn_machines.specs.declared.server.messages.Mark.{Mark}
-use Rattle.tn_machines.specs.declared.server.messages.Mark.TheVariants as mark
+use Rattle.tn_machines.specs.declared.server.messages.ServerMark.{ServerMark}
+use Rattle.tn_machines.specs.declared.server.messages.ServerMark.TheVariants as mark
 
 -- what was put, and a request that waits
 abbrev answered : Run → ℕ
@@ -127,7 +127,7 @@ by_put : (b : Bool) (m : Message) (c whole : Run) → answered whole ≤ answere
 by_put true m c whole l = l
 by_put false m c whole l = by_unput m c whole
 
-by_turn : (c : Run) (m : Message) (k : Mark) (new : Run) → Turns c (m, k) new → answered new ≤ answered c + request_of m
+by_turn : (c : Run) (m : Message) (k : ServerMark) (new : Run) → Turns c (m, k) new → answered new ≤ answered c + request_of m
 by_turn c m mark.Whole new acts = by_handle c.progress.over c m new acts
 by_turn c m mark.WriteFailed new (_, whole, acts, e) =
     let l = by_handle c.progress.over c m whole acts in let f = ap answered e ∙ by_fail fault.Write whole in omega arith
@@ -136,7 +136,7 @@ by_turn c m (mark.Refused g put) new (_, whole, acts, e, _) =
     let f = ap answered e ∙ by_fail (fault.Server g) (put_or_not put m c whole) in
     omega arith
 
-by_run : (c : Run) (marked : List (Message × Mark)) (new : Run) → Runs c marked new → answered new ≤ answered c + requests_among marked
+by_run : (c : Run) (marked : List (Message × ServerMark)) (new : Run) → Runs c marked new → answered new ≤ answered c + requests_among marked
 by_run c [] new e = let f = ap answered e in omega arith
 by_run c (m ∷ marked) new (middle, turns, more) =
     let l = by_turn c m.0 m.1 middle turns in let r = by_run middle marked new more in omega arith
@@ -145,7 +145,7 @@ by_opening : (opens : Bool) (canon : Canon) (editing : Editing) (jobs : Jobs) �
 by_opening true canon editing jobs = refl
 by_opening false canon editing jobs = by_fail fault.Write (start canon editing jobs)
 
-pub puts_answer : (opens : Bool) (canon : Canon) (editing : Editing) (jobs : Jobs) (marked : List (Message × Mark)) (new : Run)
+pub puts_answer : (opens : Bool) (canon : Canon) (editing : Editing) (jobs : Jobs) (marked : List (Message × ServerMark)) (new : Run)
     → Runs (run_after_opening opens (start canon editing jobs)) marked new → AnswersRequests (requests_among marked) new
 puts_answer opens canon editing jobs marked new runs =
     let r = by_run (run_after_opening opens (start canon editing jobs)) marked new runs in

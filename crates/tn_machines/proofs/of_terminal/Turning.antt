@@ -14,11 +14,11 @@ use Rattle.tn_machines.specs.server.Reaching.{DoesWhole, StopsWithin, RefusesFor
 use Rattle.tn_machines.specs.server.Run.{Run, puts_of, ActsUnless, idle, idle_puts, fail, end_if}
 use Rattle.tn_machines.specs.declared.faults.Ended.TheVariants.{Fault}
 use Rattle.tn_machines.specs.declared.faults.SessionFault.TheVariants as fault
-use Rattle.tn_machines.specs.declared.server.messages.Mark.TheVariants.{Whole, Refused}
+use Rattle.tn_machines.specs.declared.server.messages.ServerMark.TheVariants.{Whole, Refused}
 use Rattle.tn_machines.specs.declared.messages.Message.{Message}
 use Rattle.tn_machines.specs.declared.server.messages.Put.{Put}
 use Rattle.tn_machines.specs.declared.server.messages.Put.TheVariants.{Nothing}
-use Rattle.tn_machines.specs.declared.server.progress.Progress.{Progress}
+use Rattle.tn_machines.specs.declared.server.progress.ServerProgress.{ServerProgress}
 use Rattle.tn_machines.specs.declared.server.terminal.Term.{Term}
 
 true_false : true ≡ false → ⊥
@@ -34,7 +34,7 @@ turn_idle old message bytes put none off is = record {
   leads = λ c at.
       let P : Bool → Type 0 = λ b. ActsUnless b c message (idle message c) in (
         idle message c,
-        subst P (sym off ∙ ap (λ (p : Progress). p.over) at.progress) refl,
+        subst P (sym off ∙ ap (λ (p : ServerProgress). p.over) at.progress) refl,
         is_over (idle message c) old off at.progress,
         ap (λ (ps : List (Option Entry)). c.puts ++ ps) (sym (append-nil (puts_of put) ∙ is)),
         [],
@@ -82,18 +82,18 @@ turn_refused old mid new message f given x y put last none on h is puts cause = 
       let l = h.leads c at in
       let done = put_or_not given message c l.0 in
       let next = fail (fault.Server f) done in
-      let over : new.progress.over ≡ true = ap (λ (p : Progress). p.over) is in (
+      let over : new.progress.over ≡ true = ap (λ (p : ServerProgress). p.over) is in (
         next,
-        (sym (ap (λ (p : Progress). p.over) at.progress) ∙ on, l.0, l.1, refl, cause c at),
-        is_over next new over (is ∙ ap (λ (p : Progress). after_halt (after_end (Fault (fault.Server f)) p)) l.4),
+        (sym (ap (λ (p : ServerProgress). p.over) at.progress) ∙ on, l.0, l.1, refl, cause c at),
+        is_over next new over (is ∙ ap (λ (p : ServerProgress). after_halt (after_end (Fault (fault.Server f)) p)) l.4),
         ap (λ (ps : List (Option Entry)). ps ++ end_if done.progress.asks) l.5 ∙ append_assoc c.puts (puts_of put) (end_if done.progress.asks)
-            ∙ ap (λ (ps : List (Option Entry)). c.puts ++ (puts_of put ++ ps)) (ap (λ (p : Progress). end_if p.asks) (sym l.4) ∙ sym puts),
+            ∙ ap (λ (ps : List (Option Entry)). c.puts ++ (puts_of put ++ ps)) (ap (λ (p : ServerProgress). end_if p.asks) (sym l.4) ∙ sym puts),
         l.2,
         ap (λ (k : History). spells (items_said k)) (same_history given message c l.0) ∙ l.3
             ∙ ap (λ (bs : List ℕ). spells (items_said c.history) ++ (bs ++ l.2)) (sym (from_none x y h.part none h.appended)),
         λ w. absurd (false_true w),
       );
-  over = λ e. ap (λ (p : Progress). p.over) is;
+  over = λ e. ap (λ (p : ServerProgress). p.over) is;
   stays = λ e. absurd (true_false (sym e ∙ on));
   idle = λ e. absurd (true_false (sym e ∙ on));
 }

@@ -11,7 +11,7 @@ use Rattle.tn_machines.specs.declared.client.messages.Told.{Told}
 use Rattle.tn_machines.specs.Pieces.{bytes_in}
 use Rattle.tn_machines.specs.declared.messages.Message.{Message}
 use Rattle.tn_machines.specs.declared.messages.Message.TheVariants.{Piece, Asked}
-use Rattle.tn_wire.specs.Prefixes.{IsRead}
+use Rattle.tn_linemode.specs.Prefixes.{IsRead}
 
 -- WHAT A USER TYPES: keys, and commands between them
 pub data Input : Type 0 where

@@ -3,8 +3,8 @@ use Rattle.std.specs.Prelude.{◌≡◌, List, ◌⊎◌}
 use Rattle.tn_machines.specs.client.Marks.{Turns}
 use Rattle.tn_machines.specs.client.Refusing.{IsRefusalCause}
 use Rattle.tn_machines.specs.client.Run.{Run}
-use Rattle.tn_machines.specs.declared.client.messages.Mark.{Mark}
-use Rattle.tn_machines.specs.declared.client.messages.Mark.TheVariants as mark
+use Rattle.tn_machines.specs.declared.client.messages.ClientMark.{ClientMark}
+use Rattle.tn_machines.specs.declared.client.messages.ClientMark.TheVariants as mark
 use Rattle.tn_machines.specs.declared.client.messages.Told.{Told}
 use Rattle.tn_machines.specs.Ending as run
 use Rattle.tn_machines.specs.declared.faults.Ended.{Ended}
@@ -14,7 +14,7 @@ use Rattle.tn_machines.specs.declared.faults.SessionFault.TheVariants.{Start, Ch
 use Rattle.tn_machines.specs.declared.messages.Message.TheVariants as message
 
 -- this message with this mark is why the run ended so
-abbrev pub EndsAt : Run → Told → Mark → Ended → Type 0
+abbrev pub EndsAt : Run → Told → ClientMark → Ended → Type 0
 EndsAt c m k HangUp = Unit {0}
 EndsAt c m k Done = ⊥
 EndsAt c m k (Fault Read) = m.message ≡ message.ReadFailed
@@ -26,5 +26,5 @@ EndsAt c m k (Fault Start) = ⊥
 EndsAt c m k (Fault Channel) = ⊥
 
 -- at one of these messages, with its mark
-abbrev pub IsEndedAt : Run → List (Told × Mark) → Ended → Type 0
+abbrev pub IsEndedAt : Run → List (Told × ClientMark) → Ended → Type 0
 IsEndedAt c marked ended = run.IsEndedAt Turns (λ at m e. EndsAt at m.0 m.1 e) c marked ended

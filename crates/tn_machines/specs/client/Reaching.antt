@@ -10,7 +10,7 @@ use Rattle.tn_machines.specs.client.Marks.{Turns, is_written, is_whole}
 use Rattle.tn_machines.specs.client.Refusing.{IsRefusalCause}
 use Rattle.tn_machines.specs.client.Run.{Run, Handles, types, sent_after}
 use Rattle.tn_machines.specs.declared.client.machine.Core.{Core}
-use Rattle.tn_machines.specs.declared.client.messages.Mark.{Mark}
+use Rattle.tn_machines.specs.declared.client.messages.ClientMark.{ClientMark}
 use Rattle.tn_machines.specs.declared.client.messages.Told.{Told}
 use Rattle.tn_nvt.specs.Feeding as nvt
 use Rattle.tn_nvt.specs.Spelling.{spells}
@@ -95,7 +95,7 @@ ShowsPrefix c next text all =
 -- One message with its mark, from wherever the core may have been: these bytes were given for the network and
 -- these for the screen, the first of those that the run sends and shows,
 -- and all of them unless something failed.
-pub record IsTurn (mark : Mark) (old : Core) (told : Told) (bytes text : List ℕ) (new : Core) : Type 0 where
+pub record IsTurn (mark : ClientMark) (old : Core) (told : Told) (bytes text : List ℕ) (new : Core) : Type 0 where
   pub leads : (c : Run) → LeadsTo c old →
       (next : Run) × Turns c (told, mark) next × LeadsTo next new
       × SendsPrefix c next bytes (is_written mark) × ShowsPrefix c next text (is_whole mark)

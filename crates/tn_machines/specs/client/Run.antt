@@ -7,14 +7,14 @@ use Rattle.tn_machines.specs.client.Counting as counting
 use Rattle.tn_machines.specs.declared.client.messages.Origin.{Origin}
 use Rattle.tn_machines.specs.declared.client.messages.Origin.TheVariants.{Keys, Net}
 use Rattle.tn_machines.specs.declared.client.messages.Told.{Told}
-use Rattle.tn_machines.specs.declared.client.progress.Progress.{Progress}
+use Rattle.tn_machines.specs.declared.client.progress.ClientProgress.{ClientProgress}
 use Rattle.tn_nvt.specs.declared.items.Item.{Item}
 use Rattle.tn_machines.specs.declared.faults.SessionFault.{SessionFault}
 use Rattle.tn_machines.specs.declared.messages.Message.{Message}
 use Rattle.tn_machines.specs.declared.messages.Message.TheVariants.{Piece, Resized, Asked}
 use Rattle.tn_streams.specs.declared.control.Control.{Control}
 use Rattle.tn_streams.specs.declared.window.WindowSize.{WindowSize}
-use Rattle.tn_wire.specs.Prefixes.{IsRead}
+use Rattle.tn_linemode.specs.Prefixes.{IsRead}
 
 -- All that has happened at the core: at its client end, with the network's pieces joined; the first part of
 -- that, whose replies go to the network; and how far the session is.
@@ -22,7 +22,7 @@ pub record Run : Type 0 where
   pub history : History
   pub sent : History
   pub stream : List ℕ
-  pub progress : Progress
+  pub progress : ClientProgress
 
 -- these keys were typed, one after another
 abbrev pub types : History → List ℕ → History
@@ -38,7 +38,7 @@ sent_after false sent h = h
 abbrev pub goes_on : History → Run → Run
 goes_on h c = record c { history = h; sent = sent_after c.progress.closed c.sent h }
 
-abbrev pub turns : (Progress → Progress) → Run → Run
+abbrev pub turns : (ClientProgress → ClientProgress) → Run → Run
 turns step c = record c { progress = step c.progress }
 
 abbrev pub type_keys : List ℕ → Run → Run

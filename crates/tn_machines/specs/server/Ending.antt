@@ -9,13 +9,13 @@ use Rattle.tn_machines.specs.declared.faults.Ended.TheVariants.{HangUp, Done, Fa
 use Rattle.tn_machines.specs.declared.faults.SessionFault.{SessionFault}
 use Rattle.tn_machines.specs.declared.faults.SessionFault.TheVariants.{Read, Write, Server, Client, Memory}
 use Rattle.tn_machines.specs.declared.faults.SessionFault.TheVariants.{Start, Channel}
-use Rattle.tn_machines.specs.declared.server.messages.Mark.{Mark}
-use Rattle.tn_machines.specs.declared.server.messages.Mark.TheVariants as mark
+use Rattle.tn_machines.specs.declared.server.messages.ServerMark.{ServerMark}
+use Rattle.tn_machines.specs.declared.server.messages.ServerMark.TheVariants as mark
 use Rattle.tn_machines.specs.declared.messages.Message.{Message}
 use Rattle.tn_machines.specs.declared.messages.Message.TheVariants as message
 
 -- this message with this mark is why the run ended so
-abbrev pub EndsAt : Run → Message → Mark → Ended → Type 0
+abbrev pub EndsAt : Run → Message → ServerMark → Ended → Type 0
 EndsAt c m k HangUp = Unit {0}
 EndsAt c m k Done = Unit {0}
 EndsAt c m k (Fault Read) = m ≡ message.ReadFailed
@@ -27,10 +27,10 @@ EndsAt c m k (Fault Start) = ⊥
 EndsAt c m k (Fault Channel) = ⊥
 
 -- at one of these messages, with its mark
-abbrev pub IsEndedAt : Run → List (Message × Mark) → Ended → Type 0
+abbrev pub IsEndedAt : Run → List (Message × ServerMark) → Ended → Type 0
 IsEndedAt c marked ended = run.IsEndedAt Turns (λ at m e. EndsAt at m.0 m.1 e) c marked ended
 
 -- Why a run ended by this fault: the opening words were not written, or a message.
-abbrev pub IsFaultCause : Bool → Run → List (Message × Mark) → SessionFault → Type 0
+abbrev pub IsFaultCause : Bool → Run → List (Message × ServerMark) → SessionFault → Type 0
 IsFaultCause opens c marked Write = (opens ≡ false) ⊎ IsEndedAt c marked (Fault Write)
 IsFaultCause opens c marked f = IsEndedAt c marked (Fault f)

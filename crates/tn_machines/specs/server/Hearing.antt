@@ -8,7 +8,7 @@ use Rattle.tn_nvt.specs.declared.items.Item.{Item}
 use Rattle.tn_server.specs.Events.{items, gets}
 use Rattle.tn_server.specs.Lines.{entries}
 use Rattle.tn_server.specs.declared.wishes.Editing.{Editing}
-use Rattle.tn_wire.specs.Prefixes.{IsRead}
+use Rattle.tn_linemode.specs.Prefixes.{IsRead}
 use Rattle.tn_machines.specs.server.Run.{Run, opening}
 use Rattle.tn_machines.specs.Pieces.{bytes_in}
 use Rattle.tn_machines.specs.declared.messages.Message.{Message}

@@ -4,8 +4,8 @@ use Rattle.std.specs.List.{FoldsTo}
 use Rattle.tn_machines.specs.server.Refusing.{IsRefusalCause}
 use Rattle.tn_machines.specs.server.Run.{Run, Handles, fail}
 use Rattle.tn_machines.specs.declared.faults.SessionFault.TheVariants as fault
-use Rattle.tn_machines.specs.declared.server.messages.Mark.{Mark}
-use Rattle.tn_machines.specs.declared.server.messages.Mark.TheVariants as mark
+use Rattle.tn_machines.specs.declared.server.messages.ServerMark.{ServerMark}
+use Rattle.tn_machines.specs.declared.server.messages.ServerMark.TheVariants as mark
 use Rattle.tn_machines.specs.declared.messages.Message.{Message}
 use Rattle.tn_machines.specs.declared.messages.Message.TheVariants.{Take}
 
@@ -29,7 +29,7 @@ put_or_not false m c whole = unput m c whole
 
 -- A message with its mark. None is written, and no call is made, once nothing has any effect. A call that was
 -- refused was so for its cause.
-abbrev pub Turns : Run → Message × Mark → Run → Type 0
+abbrev pub Turns : Run → Message × ServerMark → Run → Type 0
 Turns c (m, mark.Whole) new = Handles c m new
 Turns c (m, mark.WriteFailed) new =
     (c.progress.over ≡ false) × (whole : Run) × Handles c m whole × (new ≡ fail fault.Write whole)
@@ -38,24 +38,24 @@ Turns c (m, mark.Refused f put) new =
     × (new ≡ fail (fault.Server f) (put_or_not put m c whole)) × IsRefusalCause c m f
 
 -- a message that was done wholly, and written
-abbrev pub is_whole : Mark → Bool
+abbrev pub is_whole : ServerMark → Bool
 is_whole mark.Whole = true
 is_whole mark.WriteFailed = false
 is_whole (mark.Refused f put) = false
 
-abbrev pub all_whole : List (Message × Mark) → Bool
+abbrev pub all_whole : List (Message × ServerMark) → Bool
 all_whole [] = true
 all_whole ((m, mark.Whole) ∷ marked) = all_whole marked
 all_whole ((m, mark.WriteFailed) ∷ marked) = false
 all_whole ((m, mark.Refused f put) ∷ marked) = false
 
 -- no write of it failed
-abbrev pub no_write_failed : Mark → Bool
+abbrev pub no_write_failed : ServerMark → Bool
 no_write_failed mark.Whole = true
 no_write_failed mark.WriteFailed = false
 no_write_failed (mark.Refused f put) = true
 
-abbrev pub no_writes_failed : List (Message × Mark) → Bool
+abbrev pub no_writes_failed : List (Message × ServerMark) → Bool
 no_writes_failed [] = true
 no_writes_failed (m ∷ marked) = no_write_failed m.1 && no_writes_failed marked
 
@@ -65,5 +65,5 @@ run_after_opening true c = c
 run_after_opening false c = fail fault.Write c
 
 -- what these messages with their marks lead to
-abbrev pub Runs : Run → List (Message × Mark) → Run → Type 0
+abbrev pub Runs : Run → List (Message × ServerMark) → Run → Type 0
 Runs c marked new = FoldsTo Turns c marked new

@@ -14,7 +14,7 @@ use Rattle.tn_machines.specs.server.Refusing.{IsRefusalCause}
 use Rattle.tn_machines.specs.server.Run.{Run, Handles, Reads, feed, writes, Cuts, after_said, end_if, puts_of}
 use Rattle.tn_jobs.specs.declared.verdicts.Verdict.{Verdict}
 use Rattle.tn_server.specs.declared.faults.ServerFault.{ServerFault}
-use Rattle.tn_machines.specs.declared.server.messages.Mark.{Mark}
+use Rattle.tn_machines.specs.declared.server.messages.ServerMark.{ServerMark}
 use Rattle.tn_machines.specs.declared.server.messages.Put.{Put}
 use Rattle.tn_machines.specs.declared.messages.Message.{Message}
 use Rattle.tn_machines.specs.declared.server.terminal.Term.{Term}
@@ -132,7 +132,7 @@ RefusesFor old message f = (c : Run) → LeadsTo c old → IsRefusalCause c mess
 
 -- One message with its mark, from wherever the terminal may have been: these bytes were given, the first of
 -- those that the run sends, and all of them unless something failed.
-pub record IsTurn (mark : Mark) (old : Term) (message : Message) (bytes : List ℕ)
+pub record IsTurn (mark : ServerMark) (old : Term) (message : Message) (bytes : List ℕ)
     (put last : Put) (new : Term) : Type 0 where
   pub leads : (c : Run) → LeadsTo c old →
       (next : Run) × Turns c (message, mark) next × LeadsTo next new

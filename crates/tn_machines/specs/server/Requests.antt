@@ -3,7 +3,7 @@ use Rattle.std.specs.Prelude.{ℕ, ◌+◌, ◌≤◌, Bool, true, false, List, 
 use Rattle.tn_machines.specs.declared.messages.Message.{Message}
 use Rattle.tn_machines.specs.declared.messages.Message.TheVariants.{Take}
 use Rattle.tn_machines.specs.server.Run.{Run}
-use Rattle.tn_machines.specs.declared.server.messages.Mark.{Mark}
+use Rattle.tn_machines.specs.declared.server.messages.ServerMark.{ServerMark}
 
 -- a request that is not answered yet
 abbrev pub open_requests : Bool → ℕ
@@ -15,7 +15,7 @@ request_of Take = 1
 request_of _ = 0
 
 -- how many of these messages ask for an entry
-abbrev pub requests_among : List (Message × Mark) → ℕ
+abbrev pub requests_among : List (Message × ServerMark) → ℕ
 requests_among [] = 0
 requests_among (m ∷ marked) = request_of m.0 + requests_among marked
 

@@ -13,7 +13,7 @@ use Rattle.tn_jobs.specs.declared.verdicts.Why.{Why}
 use Rattle.tn_jobs.specs.declared.verdicts.Verdict.{Verdict}
 use Rattle.tn_nvt.specs.declared.items.Item.{Item}
 use Rattle.tn_server.specs.Course.{in_parts}
-use Rattle.tn_wire.specs.Prefixes.{IsRead}
+use Rattle.tn_linemode.specs.Prefixes.{IsRead}
 use Rattle.tn_server.specs.Events.{History, begun, next, took, pulled, wished, gets, items, opening_settings}
 use Rattle.tn_server.specs.Lines.{waiting}
 use Rattle.tn_server.specs.Screen.{queue}
@@ -28,7 +28,7 @@ use Rattle.tn_machines.specs.declared.messages.Message.TheVariants.{Piece, HangU
 use Rattle.tn_machines.specs.declared.messages.Message.TheVariants.{Refused, Left, Resized, Asked}
 use Rattle.tn_machines.specs.declared.server.messages.Put.{Put}
 use Rattle.tn_machines.specs.declared.server.messages.Put.TheVariants as put
-use Rattle.tn_machines.specs.declared.server.progress.Progress.{Progress}
+use Rattle.tn_machines.specs.declared.server.progress.ServerProgress.{ServerProgress}
 
 -- All that has happened at the terminal: at its server end, with the pieces joined; what was put for the
 -- foreground job, where None is the end of its entries; the jobs; and how far the session is.
@@ -37,7 +37,7 @@ pub record Run : Type 0 where
   pub stream : List ℕ
   pub puts : List (Option Entry)
   pub jobs : Jobs
-  pub progress : Progress
+  pub progress : ServerProgress
 
 -- all symbols are pulled
 abbrev pub flushed_history : History → History

@@ -5,7 +5,7 @@ ghost use Rattle.tn_machines.specs.client.Bringing.{TakesInOrder};
 ghost use Rattle.tn_machines.specs.client.Ending.{IsEndedAt};
 ghost use Rattle.tn_machines.specs.client.Marks.{Runs};
 ghost use Rattle.tn_machines.specs.client.Run.{Run, start};
-ghost use Rattle.tn_machines.specs.declared.client.messages.Mark.{Mark};
+ghost use Rattle.tn_machines.specs.declared.client.messages.ClientMark.{ClientMark};
 ghost use Rattle.tn_machines.specs.declared.client.messages.Told.{Told};
 ghost use Rattle.tn_machines.specs.declared.faults.Ended.TheVariants.{Fault};
 ghost use Rattle.tn_machines.specs.declared.faults.SessionFault.{SessionFault};
@@ -14,7 +14,7 @@ ghost use Rattle.tn_machines.specs.declared.faults.SessionFault.{SessionFault};
 /// are prefixes of what the messages brought, in order, each once, whatever failed; and all of it where
 /// nothing ended the session.
 pub fn bytes_go_in_order()
-    ensures { (width height limit : ℕ) (marked : List (Told × Mark)) (new : Run) →
+    ensures { (width height limit : ℕ) (marked : List (Told × ClientMark)) (new : Run) →
         Runs (start width height limit) marked new → TakesInOrder (map (λ m. m.0) marked) new }
 {}
 
@@ -22,7 +22,7 @@ pub fn bytes_go_in_order()
 /// memory ran out; a write to the network or the screen that failed;
 /// or a call of the end that was refused for its cause, out of memory within a piece.
 pub fn faults_have_causes()
-    ensures { (width height limit : ℕ) (marked : List (Told × Mark)) (new : Run) (fault : SessionFault) →
+    ensures { (width height limit : ℕ) (marked : List (Told × ClientMark)) (new : Run) (fault : SessionFault) →
         Runs (start width height limit) marked new → new.progress.ended ≡ Fault fault →
         IsEndedAt (start width height limit) marked (Fault fault) }
 {}

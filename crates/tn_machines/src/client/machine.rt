@@ -13,8 +13,8 @@ ghost use Rattle.tn_machines.specs.client.Run.{Run};
 ghost use Rattle.tn_machines.specs.client.Terms.{terms_at};
 
 use crate::client::commands::command_of;
-use crate::client::messages::{Mark, Origin, Told};
-use crate::client::progress::Progress;
+use crate::client::messages::{ClientMark, Origin, Told};
+use crate::client::progress::ClientProgress;
 use crate::client::terms::Terms;
 use crate::faults::SessionFault;
 use crate::messages::Message;
@@ -29,7 +29,7 @@ use tn_streams::{Control, WindowSize};
 #[derive(Drop)]
 pub struct Core {
     pub(crate) end: ClientEnd,
-    pub(crate) progress: Progress,
+    pub(crate) progress: ClientProgress,
 }
 
 // Types these keys, one after another.
@@ -70,7 +70,7 @@ impl Core {
         let end = ClientEnd::start(alloc, width, height, limit)?;
         Ok(Core {
             end,
-            progress: Progress::new(),
+            progress: ClientProgress::new(),
         })
     }
 
@@ -263,7 +263,7 @@ impl Core {
     }
 
     /// How far the session is.
-    pub fn progress(&self) -> Progress
+    pub fn progress(&self) -> ClientProgress
         ensures { result ≡ self.now.progress }
     {
         self.progress
@@ -284,7 +284,7 @@ impl Core {
 
     /// Handles one message: appends what is to be sent to the network to `out`, and what is to be shown to
     /// `screen`.
-    pub fn handle(&mut self, told: Told, out: &mut Vec<u8>, screen: &mut Vec<u8>) -> Mark
+    pub fn handle(&mut self, told: Told, out: &mut Vec<u8>, screen: &mut Vec<u8>) -> ClientMark
         requires out { out.old.items ≡ [] }
         requires screen { screen.old.items ≡ [] }
         ensures turns { IsTurn result self.old told out.new.items screen.new.items self.new }
@@ -294,18 +294,18 @@ impl Core {
         ensures silent { self.old.progress.closed ≡ true → out.new.items ≡ [] }
     {
         if self.progress.over {
-            return Mark::Whole;
+            return ClientMark::Whole;
         }
         let closed = self.progress.closed;
         match self.act(told, out, screen) {
             Ok(()) => {
                 drop_if(closed, out);
-                Mark::Whole
+                ClientMark::Whole
             },
             Err(fault) => {
                 self.fails(SessionFault::Client(fault));
                 drop_if(closed, out);
-                Mark::Refused(fault)
+                ClientMark::Refused(fault)
             },
         }
     }

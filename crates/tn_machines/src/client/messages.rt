@@ -21,7 +21,7 @@ pub struct Told {
 
 /// How far a message was done.
 #[derive(Clone, Copy, Debug, PartialEq, Eq)]
-pub enum Mark {
+pub enum ClientMark {
     /// Wholly, and what it appended was written and shown.
     Whole,
     /// Wholly, but a write to the network failed.

@@ -7,7 +7,7 @@ use crate::faults::{Ended, SessionFault};
 
 /// How far a client's session is.
 #[derive(Clone, Copy, Debug, PartialEq, Eq)]
-pub struct Progress {
+pub struct ClientProgress {
     /// No more bytes come from the network.
     pub at_end: bool,
     /// No more keys come, and nothing more goes to the network.
@@ -19,11 +19,11 @@ pub struct Progress {
     pub pieces: u64,
 }
 
-impl Progress {
-    pub(crate) fn new() -> Progress
+impl ClientProgress {
+    pub(crate) fn new() -> ClientProgress
         ensures { result ≡ counting.nothing_yet }
     {
-        Progress {
+        ClientProgress {
             at_end: false,
             closed: false,
             over: false,
@@ -32,46 +32,46 @@ impl Progress {
         }
     }
 
-    pub(crate) fn fed(self) -> Progress
+    pub(crate) fn fed(self) -> ClientProgress
         ensures { result ≡ counting.after_piece self }
     {
-        Progress {
+        ClientProgress {
             pieces: self.pieces.saturating_add(1),
             ..self
         }
     }
 
-    pub(crate) fn hung_up(self) -> Progress
+    pub(crate) fn hung_up(self) -> ClientProgress
         ensures { result ≡ counting.after_hang_up self }
     {
-        Progress {
+        ClientProgress {
             at_end: true,
             ..self
         }
     }
 
-    pub(crate) fn closed(self) -> Progress
+    pub(crate) fn closed(self) -> ClientProgress
         ensures { result ≡ counting.after_close self }
     {
-        Progress {
+        ClientProgress {
             closed: true,
             ..self
         }
     }
 
-    pub(crate) fn faulted(self, fault: SessionFault) -> Progress
+    pub(crate) fn faulted(self, fault: SessionFault) -> ClientProgress
         ensures { result ≡ counting.after_fault fault self }
     {
-        Progress {
+        ClientProgress {
             ended: self.ended.or(Ended::Fault(fault)),
             ..self
         }
     }
 
-    pub(crate) fn failed(self, fault: SessionFault) -> Progress
+    pub(crate) fn failed(self, fault: SessionFault) -> ClientProgress
         ensures { result ≡ counting.after_failure fault self }
     {
-        Progress {
+        ClientProgress {
             over: true,
             ..self.faulted(fault)
         }

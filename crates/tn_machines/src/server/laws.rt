@@ -16,7 +16,7 @@ ghost use Rattle.tn_machines.specs.server.Run.{Run, start};
 ghost use Rattle.tn_machines.specs.declared.faults.Ended.TheVariants.{HangUp, Fault};
 ghost use Rattle.tn_machines.specs.declared.faults.SessionFault.{SessionFault};
 ghost use Rattle.tn_machines.specs.server.Welcoming.{IsWelcome, too_far_ahead};
-ghost use Rattle.tn_machines.specs.declared.server.messages.Mark.{Mark};
+ghost use Rattle.tn_machines.specs.declared.server.messages.ServerMark.{ServerMark};
 ghost use Rattle.tn_machines.specs.declared.server.terminal.Term.{Term};
 ghost use Rattle.tn_machines.specs.declared.messages.Message.{Message};
 
@@ -26,7 +26,7 @@ use tn_jobs::laws::one_job_changes;
 /// failed.
 pub fn entries_go_in_order()
     ensures { (opens : Bool) (canon : Canon) (editing : Editing) (jobs : Jobs)
-        (marked : List (Message × Mark)) (new : Run) →
+        (marked : List (Message × ServerMark)) (new : Run) →
         Runs (run_after_opening opens (start canon editing jobs)) marked new →
         GivesPrefix new.puts new.history }
 {}
@@ -35,7 +35,7 @@ pub fn entries_go_in_order()
 /// alone.
 pub fn pieces_are_heard()
     ensures { (opens : Bool) (canon : Canon) (editing : Editing) (jobs : Jobs)
-        (marked : List (Message × Mark)) (new : Run) →
+        (marked : List (Message × ServerMark)) (new : Run) →
         Runs (run_after_opening opens (start canon editing jobs)) marked new →
         Hears canon editing (map (λ m. m.0) marked) new }
 {}
@@ -43,7 +43,7 @@ pub fn pieces_are_heard()
 /// Where a run ends by a hang-up, all pieces were heard, and all entries were put before an end was.
 pub fn all_goes_before_a_hang_up()
     ensures { (opens : Bool) (canon : Canon) (editing : Editing) (jobs : Jobs) (id : ℕ)
-        (marked : List (Message × Mark)) (new : Run) →
+        (marked : List (Message × ServerMark)) (new : Run) →
         Runs (run_after_opening opens (start canon editing jobs)) marked new →
         new.progress.ended ≡ HangUp → state_at jobs id ≡ Some Foreground →
         MayAllCome false (map (λ m. m.0) marked) → HangsUp id (map (λ m. m.0) marked) new }
@@ -55,7 +55,7 @@ pub fn all_goes_before_a_hang_up()
 /// and puts the same.
 pub fn runs_agree()
     ensures { (opens : Bool) (canon : Canon) (editing : Editing) (jobs : Jobs)
-        (marked : List (Message × Mark)) (one two : Run) →
+        (marked : List (Message × ServerMark)) (one two : Run) →
         Runs (run_after_opening opens (start canon editing jobs)) marked one →
         Runs (run_after_opening opens (start canon editing jobs)) marked two → Agree one two }
 {}
@@ -65,7 +65,7 @@ pub fn runs_agree()
 /// behind only where as many entries waited as there may be.
 pub fn faults_have_causes()
     ensures { (opens : Bool) (canon : Canon) (editing : Editing) (jobs : Jobs)
-        (marked : List (Message × Mark)) (new : Run) (fault : SessionFault) →
+        (marked : List (Message × ServerMark)) (new : Run) (fault : SessionFault) →
         Runs (run_after_opening opens (start canon editing jobs)) marked new →
         new.progress.ended ≡ Fault fault →
         IsFaultCause opens (run_after_opening opens (start canon editing jobs)) marked fault }
@@ -74,7 +74,7 @@ pub fn faults_have_causes()
 /// No welcome message ends a session because too many entries wait: a piece of at most 512 bytes completes at
 /// most 513 items, each makes at most one entry, and at most 511 entries waited before.
 pub fn welcome_messages_find_room()
-    ensures { (c new : Run) (term : Term) (message : Message) (mark : Mark) → LeadsTo c term →
+    ensures { (c new : Run) (term : Term) (message : Message) (mark : ServerMark) → LeadsTo c term →
         IsWelcome c message → Turns c (message, mark) new → new.progress.ended ≡ too_far_ahead →
         c.progress.ended ≡ too_far_ahead }
 {}
@@ -83,7 +83,7 @@ pub fn welcome_messages_find_room()
 /// finds an entry that was put before and was not asked for.
 pub fn puts_answer_requests()
     ensures { (opens : Bool) (canon : Canon) (editing : Editing) (jobs : Jobs)
-        (marked : List (Message × Mark)) (new : Run) →
+        (marked : List (Message × ServerMark)) (new : Run) →
         Runs (run_after_opening opens (start canon editing jobs)) marked new →
         AnswersRequests (requests_among marked) new }
 {}

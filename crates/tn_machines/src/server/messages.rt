@@ -5,7 +5,7 @@ use tn_server::ServerFault;
 
 /// How far a message was done.
 #[derive(Clone, Copy, Debug, PartialEq, Eq)]
-pub enum Mark {
+pub enum ServerMark {
     /// Wholly, and what it appended was written.
     Whole,
     /// Wholly, but a write failed.
@@ -27,8 +27,8 @@ pub enum Put {
 /// What a message led to: what goes to the foreground job; what goes there once something failed; and
 /// how far the message was done.
 #[derive(Drop)]
-pub struct Outcome {
+pub struct MessageOutcome {
     pub put: Put,
     pub last: Put,
-    pub mark: Mark,
+    pub mark: ServerMark,
 }

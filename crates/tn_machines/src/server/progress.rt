@@ -7,7 +7,7 @@ use crate::faults::Ended;
 
 /// How far a session is.
 #[derive(Clone, Copy, Debug, PartialEq, Eq)]
-pub struct Progress {
+pub struct ServerProgress {
     /// A request of the foreground job waits for an entry.
     pub asks: bool,
     /// No more bytes come from the network.
@@ -23,11 +23,11 @@ pub struct Progress {
     pub stops: u64,
 }
 
-impl Progress {
-    pub(crate) fn new() -> Progress
+impl ServerProgress {
+    pub(crate) fn new() -> ServerProgress
         ensures { result ≡ counting.nothing_yet }
     {
-        Progress {
+        ServerProgress {
             asks: false,
             at_end: false,
             over: false,
@@ -38,72 +38,72 @@ impl Progress {
         }
     }
 
-    pub(crate) fn fed(self) -> Progress
+    pub(crate) fn fed(self) -> ServerProgress
         ensures { result ≡ counting.after_piece self }
     {
-        Progress {
+        ServerProgress {
             pieces: self.pieces.saturating_add(1),
             ..self
         }
     }
 
-    pub(crate) fn answered(self) -> Progress
+    pub(crate) fn answered(self) -> ServerProgress
         ensures { result ≡ counting.after_answer self }
     {
-        Progress {
+        ServerProgress {
             asks: false,
             entries: self.entries.saturating_add(1),
             ..self
         }
     }
 
-    pub(crate) fn unanswered(self) -> Progress
+    pub(crate) fn unanswered(self) -> ServerProgress
         ensures { result ≡ counting.after_no_entry self }
     {
-        Progress {
+        ServerProgress {
             asks: !self.at_end,
             ..self
         }
     }
 
-    pub(crate) fn asking(self) -> Progress
+    pub(crate) fn asking(self) -> ServerProgress
         ensures { result ≡ counting.after_request self }
     {
-        Progress { asks: true, ..self }
+        ServerProgress { asks: true, ..self }
     }
 
-    pub(crate) fn hung_up(self) -> Progress
+    pub(crate) fn hung_up(self) -> ServerProgress
         ensures { result ≡ counting.after_hang_up self }
     {
-        Progress {
+        ServerProgress {
             asks: false,
             at_end: true,
             ..self
         }
     }
 
-    pub(crate) fn ends(self, ended: Ended) -> Progress
+    pub(crate) fn ends(self, ended: Ended) -> ServerProgress
         ensures { result ≡ counting.after_end ended self }
     {
-        Progress {
+        ServerProgress {
             ended: self.ended.or(ended),
             ..self
         }
     }
 
-    pub(crate) fn stops(self) -> Progress
+    pub(crate) fn stops(self) -> ServerProgress
         ensures { result ≡ counting.after_stop self }
     {
-        Progress {
+        ServerProgress {
             stops: self.stops.saturating_add(1),
             ..self
         }
     }
 
-    pub(crate) fn halted(self) -> Progress
+    pub(crate) fn halted(self) -> ServerProgress
         ensures { result ≡ counting.after_halt self }
     {
-        Progress {
+        ServerProgress {
             asks: false,
             over: true,
             ..self

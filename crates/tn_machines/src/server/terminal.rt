@@ -26,8 +26,8 @@ ghost use Rattle.tn_machines.specs.server.Refusing.{WaitsWithRequest};
 
 use crate::faults::{Ended, SessionFault};
 use crate::messages::Message;
-use crate::server::messages::{Mark, Outcome, Put};
-use crate::server::progress::Progress;
+use crate::server::messages::{MessageOutcome, Put, ServerMark};
+use crate::server::progress::ServerProgress;
 use std::alloc::Global;
 use tn_discipline::{Entry, Limit, Settings};
 use tn_jobs::{After, JobId, JobState, Table, Verdict, Why, judge};
@@ -46,7 +46,7 @@ pub struct Term {
     pub(crate) end: ServerEnd,
     pub(crate) table: Table,
     pub(crate) tostop: bool,
-    pub(crate) progress: Progress,
+    pub(crate) progress: ServerProgress,
 }
 
 // A call of the end that was refused, what goes to the foreground job all the same, and whether what the
@@ -111,7 +111,7 @@ impl Term {
             end,
             table,
             tostop,
-            progress: Progress::new(),
+            progress: ServerProgress::new(),
         })
     }
 
@@ -534,7 +534,7 @@ impl Term {
     }
 
     /// How far the session is.
-    pub fn progress(&self) -> Progress
+    pub fn progress(&self) -> ServerProgress
         ensures { result ≡ self.now.progress }
     {
         self.progress
@@ -569,31 +569,31 @@ impl Term {
     }
 
     /// Handles one message, and appends what is to be sent to the network.
-    pub fn handle(&mut self, message: Message, out: &mut Vec<u8>) -> Outcome
+    pub fn handle(&mut self, message: Message, out: &mut Vec<u8>) -> MessageOutcome
         requires { out.old.items ≡ [] }
         ensures turns { IsTurn result.mark self.old message out.new.items result.put result.last self.new }
         ensures none { is_whole result.mark ≡ true → result.last ≡ Put.Nothing }
         ensures unwritten { no_write_failed result.mark ≡ true }
     {
         if self.progress.over {
-            return Outcome {
+            return MessageOutcome {
                 put: idle_put(&message),
                 last: Put::Nothing,
-                mark: Mark::Whole,
+                mark: ServerMark::Whole,
             };
         }
         match self.act(message, out) {
-            Ok(put) => Outcome {
+            Ok(put) => MessageOutcome {
                 put,
                 last: Put::Nothing,
-                mark: Mark::Whole,
+                mark: ServerMark::Whole,
             },
             Err(Stuck { fault, put, given }) => {
                 let last = self.fails(SessionFault::Server(fault));
-                Outcome {
+                MessageOutcome {
                     put,
                     last,
-                    mark: Mark::Refused { fault, put: given },
+                    mark: ServerMark::Refused { fault, put: given },
                 }
             },
         }

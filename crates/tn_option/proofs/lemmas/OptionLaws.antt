@@ -4,15 +4,15 @@ use Rattle.tn_codes.specs.declared.codes.Verb.{Verb}
 use Rattle.tn_option.specs.QMethod.{side_of, cause_of, wish_for}
 use Rattle.tn_option.specs.Options.{Options, known_option, options_after_cause, options_after_word, options_after_wish}
 use Rattle.tn_option.specs.Laws.{LeavesOthers, AgreesAsBefore}
-use Rattle.tn_option.specs.declared.q_method.Cause.{Cause}
+use Rattle.tn_option.specs.declared.q_method.OptionEvent.{OptionEvent}
 use Rattle.tn_option.specs.declared.q_method.Side.{Side}
 use Rattle.tn_option.proofs.OptionLaws as inner
 
-pub LeavesOthers-moved : (o : Options) (side : Side) (code : ℕ) (cause : Cause)
+pub LeavesOthers-moved : (o : Options) (side : Side) (code : ℕ) (cause : OptionEvent)
     → LeavesOthers o (options_after_cause o side cause (known_option code)) side code
 LeavesOthers-moved = inner.LeavesOthers-moved
 
-pub AgreesAsBefore-moved : (o : Options) (side : Side) (code : ℕ) (cause : Cause)
+pub AgreesAsBefore-moved : (o : Options) (side : Side) (code : ℕ) (cause : OptionEvent)
     → AgreesAsBefore o (options_after_cause o side cause (known_option code))
 AgreesAsBefore-moved = inner.AgreesAsBefore-moved
 

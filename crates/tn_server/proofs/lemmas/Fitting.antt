@@ -29,12 +29,12 @@ use Rattle.tn_server.specs.Terms.{asks_echo, asked_mask_of, wants_echo, chars_af
 use Rattle.tn_server.specs.Screen.{queue, sends_ga, none_waits, due}
 use Rattle.tn_server.specs.Replies.{asked_word_items, reply_items, table_items, new_table_items, echo_items, items_by, items_at, list_replies, triple_items}
 use Rattle.tn_server.specs.Replies.{forward_payload, data_of, opening, replies, items_said}
-use Rattle.tn_wire.specs.Words.{payload_items, list_items, mode_items}
+use Rattle.tn_linemode.specs.Words.{payload_items, list_items, mode_items}
 use Rattle.tn_server.specs.declared.wishes.Editing.{Editing}
 use Rattle.tn_codes.proofs.lemmas.Masks.{length-trimmed}
 use Rattle.tn_linemode.proofs.lemmas.Answering.{length-answers_along}
-use Rattle.tn_wire.proofs.lemmas.Fitting.{word-fits, mode-fits, list-fits}
-use Rattle.tn_wire.proofs.lemmas.Listing.{IsShortOrNone, short_under}
+use Rattle.tn_linemode.proofs.lemmas.Fitting.{word-fits, mode-fits, list-fits}
+use Rattle.tn_linemode.proofs.lemmas.Listing.{IsShortOrNone, short_under}
 use Rattle.tn_server.proofs.Listing.{length-announcement}
 
 asked_fits : (r : Result (Option (Verb × ℕ)) AskFault) → All Fits (asked_word_items r)

@@ -21,7 +21,7 @@ use Rattle.tn_nvt.specs.declared.items.Item.TheVariants.{Byte, Newline, Cmd, Neg
 use Rattle.tn_nvt.proofs.lemmas.Reading.{one_reading, reads_on, has_reading}
 use Rattle.tn_nvt.proofs.lemmas.Sizes.{doubled_some, total, IsWeight, weighs_at_most}
 use Rattle.tn_pty.specs.declared.pty.PtyFault.TheVariants.{TooFarAhead}
-use Rattle.tn_wire.specs.Prefixes.{IsRead}
+use Rattle.tn_linemode.specs.Prefixes.{IsRead}
 use Rattle.tn_server.specs.Calls.{End, IsStopCause, StopsWithin}
 use Rattle.tn_server.specs.Course.{Course, fed, stream, ReadsAs, CourseLeadsTo}
 use Rattle.tn_server.specs.Events.{History, next, got, items, gets, limit}

@@ -5,8 +5,8 @@ use Rattle.tn_nvt.specs.Feeding as nvt
 use Rattle.tn_nvt.specs.declared.items.Item.{Item}
 use Rattle.tn_pty.specs.Terminal.{max_waiting}
 use Rattle.tn_pty.specs.declared.pty.PtyFault.TheVariants.{TooFarAhead}
-use Rattle.tn_wire.proofs.lemmas.Reading.{stopped_in}
-use Rattle.tn_wire.proofs.lemmas.Cutting.{parted_on, front_on}
+use Rattle.tn_linemode.proofs.lemmas.Reading.{stopped_in}
+use Rattle.tn_linemode.proofs.lemmas.Cutting.{parted_on, front_on}
 use Rattle.tn_server.specs.Course.{Course, fed, stream, ReadsAs, CourseLeadsTo}
 use Rattle.tn_server.specs.Events.{History, next, got, items, gets}
 use Rattle.tn_server.specs.Lines.{waiting}

@@ -5,7 +5,7 @@ use Rattle.tn_discipline.specs.declared.termios.Flags.{Flags}
 use Rattle.tn_linemode.specs.Modes.{mode_of}
 use Rattle.tn_option.specs.Options.{Options, options_after_wish, state_of}
 use Rattle.tn_server.specs.Terms.{Terms, linemode, asked_mask_while, mode_sent, terms_by, wish_after, options_with_echo}
-use Rattle.tn_wire.specs.Words.{differ}
+use Rattle.tn_linemode.specs.Words.{differ}
 use Rattle.tn_server.specs.Replies.{items_by, new_table_items}
 use Rattle.tn_server.specs.declared.wishes.Editing.{Editing}
 

@@ -24,9 +24,9 @@ use Rattle.tn_option.specs.declared.negotiation.Agree.{Agree}
 use Rattle.tn_option.specs.declared.q_method.AskFault.{AskFault}
 use Rattle.tn_option.specs.declared.q_method.Side.TheVariants.{Us, Them}
 use Rattle.tn_option.proofs.lemmas.Agreement.{Moves, then-Moves}
-use Rattle.tn_wire.specs.OptionWords.{words_in}
-use Rattle.tn_wire.proofs.lemmas.OptionWords.{words_in-append, words_in-word, words_in-list, words_in-mode}
-use Rattle.tn_wire.specs.Words.{payload_items, list_items, mode_items}
+use Rattle.tn_linemode.specs.OptionWords.{words_in}
+use Rattle.tn_linemode.proofs.lemmas.OptionWords.{words_in-append, words_in-word, words_in-list, words_in-mode}
+use Rattle.tn_linemode.specs.Words.{payload_items, list_items, mode_items}
 use Rattle.tn_server.specs.Calls.{End, LeadsTo, Advances, Feeds}
 use Rattle.tn_server.specs.Course.{IsCall}
 use Rattle.tn_server.specs.Events.{Event, History, next, got, took, wrote, pulled, wished, char_set, echo_set, mask_set, gets}

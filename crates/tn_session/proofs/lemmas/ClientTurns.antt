@@ -9,12 +9,12 @@ use Rattle.tn_machines.specs.client.Commands.{command_of}
 use Rattle.tn_machines.specs.client.Counting.{after_message}
 use Rattle.tn_machines.specs.client.Marks.{Turns}
 use Rattle.tn_machines.specs.client.Run.{Run, Acts, ActsUnless, types, sent_after}
-use Rattle.tn_machines.specs.declared.client.messages.Mark.{Mark}
-use Rattle.tn_machines.specs.declared.client.messages.Mark.TheVariants as mark
+use Rattle.tn_machines.specs.declared.client.messages.ClientMark.{ClientMark}
+use Rattle.tn_machines.specs.declared.client.messages.ClientMark.TheVariants as mark
 use Rattle.tn_machines.specs.declared.client.messages.Origin.{Origin}
 use Rattle.tn_machines.specs.declared.client.messages.Origin.TheVariants.{Keys, Net}
 use Rattle.tn_machines.specs.declared.client.messages.Told.{Told}
-use Rattle.tn_machines.specs.declared.client.progress.Progress.{Progress}
+use Rattle.tn_machines.specs.declared.client.progress.ClientProgress.{ClientProgress}
 use Rattle.tn_nvt.specs.declared.items.Item.{Item}
 use Rattle.tn_machines.specs.declared.messages.Message.{Message}
 use Rattle.tn_machines.specs.declared.messages.Message.TheVariants.{Piece, HangUp, ReadFailed, Take, Said, Refused, Left, Resized, Asked}
@@ -32,7 +32,7 @@ pub record ClientAt (T : History → Type 0) (c : Run) : Type 0 where
   pub tied : T c.sent
 
 -- once closed, a client stays so
-pub opens : (from : Origin) (m : Message) (p : Progress) → (after_message from m p).closed ≡ false → p.closed ≡ false
+pub opens : (from : Origin) (m : Message) (p : ClientProgress) → (after_message from m p).closed ≡ false → p.closed ≡ false
 opens Net (Piece piece) p e = e
 opens Net HangUp p e = e
 opens Net ReadFailed p e = e
@@ -89,7 +89,7 @@ module _ (T : History → Type 0) (said : List Item) (s : ClientKeeps T said) wh
 
   turned : (c new : Run) (from : Origin) (m : Message) → new.sent ≡ c.sent → new.history ≡ c.history → new.progress ≡ after_message from m c.progress
       → ClientAt T c → ClientAt T new
-  turned c new from m e f g t = stood c new e f (λ o. opens from m c.progress (sym (ap (λ (p : Progress). p.closed) g) ∙ o)) t
+  turned c new from m e f g t = stood c new e f (λ o. opens from m c.progress (sym (ap (λ (p : ClientProgress). p.closed) g) ∙ o)) t
 
   acts : (c new : Run) (from : Origin) (m : Message) → Acts c from m new → IsPrefixOf (items new.history) said → ClientAt T c → ClientAt T new
   acts c new Keys (Piece piece) a p t =
@@ -124,7 +124,7 @@ module _ (T : History → Type 0) (said : List Item) (s : ClientKeeps T said) wh
   failed c whole new x a e f g p t =
       stood whole new e f (λ o. sym g ∙ o) (handles c.progress.over c whole x a (subst (λ (h : History). IsPrefixOf (items h) said) f p) t)
 
-  pub client_turns : (c new : Run) (x : Told) (k : Mark) → Turns c (x, k) new → IsPrefixOf (items new.history) said → ClientAt T c → ClientAt T new
+  pub client_turns : (c new : Run) (x : Told) (k : ClientMark) → Turns c (x, k) new → IsPrefixOf (items new.history) said → ClientAt T c → ClientAt T new
   client_turns c new x mark.Whole a p t = handles c.progress.over c new x a p t
   client_turns c new x mark.WriteFailed a p t = failed c a.1 new x a.2 (ap (λ (r : Run). r.sent) a.3) (ap (λ (r : Run). r.history) a.3)
       (ap (λ (r : Run). r.progress.closed) a.3) p t

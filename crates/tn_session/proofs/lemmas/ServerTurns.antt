@@ -12,8 +12,8 @@ use Rattle.tn_machines.proofs.lemmas.server.Hearing.{move_keeps}
 use Rattle.tn_machines.specs.server.Marks.{Turns, put_or_not}
 use Rattle.tn_machines.specs.server.Run.{Run, Acts, ActsUnless, flushed_history, flush, feed, ask, ask_if, answer, move, in_foreground, after_said, halt_if}
 use Rattle.tn_machines.specs.server.Run.{is_end, show}
-use Rattle.tn_machines.specs.declared.server.messages.Mark.{Mark}
-use Rattle.tn_machines.specs.declared.server.messages.Mark.TheVariants as mark
+use Rattle.tn_machines.specs.declared.server.messages.ServerMark.{ServerMark}
+use Rattle.tn_machines.specs.declared.server.messages.ServerMark.TheVariants as mark
 use Rattle.tn_machines.specs.declared.messages.Message.{Message}
 use Rattle.tn_machines.specs.declared.messages.Message.TheVariants.{Piece, HangUp, ReadFailed, Take, Said, Refused, Left, Resized, Asked}
 use Rattle.tn_streams.specs.Prefixes.{IsPrefixOf}
@@ -92,7 +92,7 @@ module _ (T : History → Type 0) (said : List Item) (s : ServerKeeps T said) wh
   handles true c new m a p t = moved c.history new.history (ap (λ (r : Run). r.history) a) t
   handles false c new m a p t = acts c new m a p t
 
-  pub server_turns : (c new : Run) (m : Message) (k : Mark) → Turns c (m, k) new → IsPrefixOf (items new.history) said → T c.history → T new.history
+  pub server_turns : (c new : Run) (m : Message) (k : ServerMark) → Turns c (m, k) new → IsPrefixOf (items new.history) said → T c.history → T new.history
   server_turns c new m mark.Whole t p at = handles c.progress.over c new m t p at
   server_turns c new m mark.WriteFailed t p at =
       let e = ap (λ (r : Run). r.history) t.3 in

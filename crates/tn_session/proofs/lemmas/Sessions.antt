@@ -6,7 +6,7 @@ use Rattle.tn_client.specs.Replies as client_says
 use Rattle.tn_machines.specs.client.Bringing.{brought, brought_from}
 use Rattle.tn_machines.specs.client.Marks as core
 use Rattle.tn_machines.specs.client.Run as core_run
-use Rattle.tn_machines.specs.declared.client.messages.Mark as core_mark
+use Rattle.tn_machines.specs.declared.client.messages.ClientMark as core_mark
 use Rattle.tn_machines.specs.declared.client.messages.Origin.TheVariants as origin
 use Rattle.tn_machines.specs.declared.client.messages.Told.{Told}
 use Rattle.tn_machines.specs.Pieces.{bytes_in}
@@ -33,7 +33,7 @@ use Rattle.tn_streams.specs.Prefixes.{IsPrefixOf}
 use Rattle.tn_machines.specs.server.Hearing.{heard}
 use Rattle.tn_machines.specs.server.Marks as term
 use Rattle.tn_machines.specs.server.Run as term_run
-use Rattle.tn_machines.specs.declared.server.messages.Mark as term_mark
+use Rattle.tn_machines.specs.declared.server.messages.ServerMark as term_mark
 
 -- what is spelled grows with its items
 spells_grow : (xs ys : List Item) → IsPrefixOf xs ys → IsPrefixOf (spells xs) (spells ys)
@@ -73,7 +73,7 @@ saying turns brings says first messages last written transcript t = record {
 }
 
 -- THE SERVER'S
-server_grows : (p q : term_run.Run) (m : Option (Message × term_mark.Mark)) → Unit {0} → of_server.OpensOrTurns p m q → Unit {0}
+server_grows : (p q : term_run.Run) (m : Option (Message × term_mark.ServerMark)) → Unit {0} → of_server.OpensOrTurns p m q → Unit {0}
     × IsPrefixOf (of_server.says p) (of_server.says q)
 server_grows p q None g t = (tt, ([], append-nil (of_server.says p) ∙ ap of_server.says (sym t)))
 server_grows p q (Some (m, k)) g t =
@@ -86,23 +86,23 @@ server_grows p q (Some (m, k)) g t =
     }) p q m k t (prefix_self (server.items q.history)) (prefix_self said) in
     (tt, spells_grow said (server_says.items_said q.history) grown)
 
-lifts : (ms : List (Message × term_mark.Mark)) (p q : term_run.Run) → term.Runs p ms q → FoldsTo of_server.OpensOrTurns p (map (λ m. Some m) ms) q
+lifts : (ms : List (Message × term_mark.ServerMark)) (p q : term_run.Run) → term.Runs p ms q → FoldsTo of_server.OpensOrTurns p (map (λ m. Some m) ms) q
 lifts [] p q r = r
 lifts (m ∷ ms) p q r = (r.0, r.1, lifts ms r.0 q r.2)
 
-brings_heard : (ms : List (Message × term_mark.Mark)) → flat_map of_server.brings (map (λ m. Some m) ms) ≡ heard (map (λ m. m.0) ms)
+brings_heard : (ms : List (Message × term_mark.ServerMark)) → flat_map of_server.brings (map (λ m. Some m) ms) ≡ heard (map (λ m. m.0) ms)
 brings_heard [] = refl
 brings_heard (m ∷ ms) = ap (λ (l : List ℕ). bytes_in m.0 ++ l) (brings_heard ms)
 
-abbrev pub ServerTranscript : term_run.Run → List (Message × term_mark.Mark) → term_run.Run → List ℕ → Type 0
+abbrev pub ServerTranscript : term_run.Run → List (Message × term_mark.ServerMark) → term_run.Run → List ℕ → Type 0
 ServerTranscript first marked last written = Transcript of_server.OpensOrTurns of_server.brings of_server.says first
     (None ∷ map (λ m. Some m) marked) last written
 
-pub server_transcript : (first : term_run.Run) (marked : List (Message × term_mark.Mark)) (last : term_run.Run) (written unwritten : List ℕ)
+pub server_transcript : (first : term_run.Run) (marked : List (Message × term_mark.ServerMark)) (last : term_run.Run) (written unwritten : List ℕ)
     → term.Runs first marked last → of_server.says last ≡ written ++ unwritten → ServerTranscript first marked last written
 server_transcript first marked last written unwritten r said =
     let P = of_server.OpensOrTurns in
-    let ms = map (λ (m : Message × term_mark.Mark). Some m) marked in
+    let ms = map (λ (m : Message × term_mark.ServerMark). Some m) marked in
     let lifted = lifts marked first last r in
     let all = all_grow P of_server.brings of_server.says (λ c. Unit {0}) server_grows ms first last tt lifted in
     let next = on_to (of_server.says first) (of_server.says first) (of_server.says last) written [] (prefix_self (of_server.says first)) all
@@ -110,20 +110,20 @@ server_transcript first marked last written unwritten r said =
     let later = transcribes_on P of_server.brings of_server.says (λ c. Unit {0}) server_grows ms first last written next.0 tt lifted
     (unwritten, sym said) next.1 in
     finished P of_server.brings of_server.says first (None ∷ ms) last written ((None, record { read = []; wrote = next.0 }) ∷ later.0)
-    (ap (λ (l : List (Option (Message × term_mark.Mark))). None ∷ l) later.1) (
+    (ap (λ (l : List (Option (Message × term_mark.ServerMark))). None ∷ l) later.1) (
       record { run = first; wrote = next.0 },
       record { turn = refl; read = refl; wrote = refl; said = next.1.is.said; whole = next.1.whole },
       later.2,
     )
 
 -- of a transcript that is there
-abbrev pub server_said : (first : term_run.Run) (marked : List (Message × term_mark.Mark)) (last : term_run.Run) (written : List ℕ) (transcript : List Exchange)
+abbrev pub server_said : (first : term_run.Run) (marked : List (Message × term_mark.ServerMark)) (last : term_run.Run) (written : List ℕ) (transcript : List Exchange)
     → Transcribes of_server.OpensOrTurns of_server.brings of_server.says first (None ∷ map (λ m. Some m) marked) last written transcript
     → ServerTranscript first marked last written
 server_said first marked last written transcript t = saying of_server.OpensOrTurns of_server.brings of_server.says first
     (None ∷ map (λ m. Some m) marked) last written transcript t
 
-pub server_reads : (first : term_run.Run) (marked : List (Message × term_mark.Mark)) (last : term_run.Run) (written : List ℕ)
+pub server_reads : (first : term_run.Run) (marked : List (Message × term_mark.ServerMark)) (last : term_run.Run) (written : List ℕ)
     (t : ServerTranscript first marked last written) → all_read t.transcript ≡ heard (map (λ m. m.0) marked)
 server_reads first marked last written t = t.reads ∙ brings_heard marked
 
@@ -131,7 +131,7 @@ server_reads first marked last written t = t.reads ∙ brings_heard marked
 abbrev IsLatest : core_run.Run → Type 0
 IsLatest c = c.progress.closed ≡ false → c.sent ≡ c.history
 
-client_grows : (p q : core_run.Run) (m : Told × core_mark.Mark) → IsLatest p → core.Turns p m q → IsLatest q × IsPrefixOf (of_client.says p) (of_client.says q)
+client_grows : (p q : core_run.Run) (m : Told × core_mark.ClientMark) → IsLatest p → core.Turns p m q → IsLatest q × IsPrefixOf (of_client.says p) (of_client.says q)
 client_grows p q (x, k) g t =
     let said = client_says.items_said p.sent in
     let grown = client_turns (λ h. IsPrefixOf (client_says.items_said p.sent) (client_says.items_said h)) (client.items q.history) (record {
@@ -142,14 +142,14 @@ client_grows p q (x, k) g t =
     }) p q x k t (prefix_self (client.items q.history)) (record { latest = g; tied = prefix_self said }) in
     (grown.latest, spells_grow said (client_says.items_said q.sent) grown.tied)
 
-brings_brought : (ms : List (Told × core_mark.Mark)) → flat_map of_client.brings ms ≡ brought origin.Net (map (λ m. m.0) ms)
+brings_brought : (ms : List (Told × core_mark.ClientMark)) → flat_map of_client.brings ms ≡ brought origin.Net (map (λ m. m.0) ms)
 brings_brought [] = refl
 brings_brought (m ∷ ms) = ap (λ (l : List ℕ). of_client.brings m ++ l) (brings_brought ms)
 
-abbrev pub ClientTranscript : core_run.Run → List (Told × core_mark.Mark) → core_run.Run → List ℕ → Type 0
+abbrev pub ClientTranscript : core_run.Run → List (Told × core_mark.ClientMark) → core_run.Run → List ℕ → Type 0
 ClientTranscript first marked last written = Transcript core.Turns of_client.brings of_client.says first marked last written
 
-pub client_transcript : (width height limit : ℕ) (marked : List (Told × core_mark.Mark)) (last : core_run.Run) (written unwritten : List ℕ)
+pub client_transcript : (width height limit : ℕ) (marked : List (Told × core_mark.ClientMark)) (last : core_run.Run) (written unwritten : List ℕ)
     → core.Runs (core_run.start width height limit) marked last → of_client.says last ≡ written ++ unwritten
     → ClientTranscript (core_run.start width height limit) marked last written
 client_transcript width height limit marked last written unwritten r said =
@@ -159,13 +159,13 @@ client_transcript width height limit marked last written unwritten r said =
     finished core.Turns of_client.brings of_client.says first marked last written later.0 later.1 later.2
 
 -- of a transcript that is there
-abbrev pub client_said : (width height limit : ℕ) (marked : List (Told × core_mark.Mark)) (last : core_run.Run) (written : List ℕ) (transcript : List Exchange)
+abbrev pub client_said : (width height limit : ℕ) (marked : List (Told × core_mark.ClientMark)) (last : core_run.Run) (written : List ℕ) (transcript : List Exchange)
     → Transcribes core.Turns of_client.brings of_client.says (core_run.start width height limit) marked last written transcript
     → ClientTranscript (core_run.start width height limit) marked last written
 client_said width height limit marked last written transcript t =
     saying core.Turns of_client.brings of_client.says (core_run.start width height limit) marked last written transcript t
 
-pub client_reads : (first : core_run.Run) (marked : List (Told × core_mark.Mark)) (last : core_run.Run) (written : List ℕ)
+pub client_reads : (first : core_run.Run) (marked : List (Told × core_mark.ClientMark)) (last : core_run.Run) (written : List ℕ)
     (t : ClientTranscript first marked last written) → all_read t.transcript ≡ brought origin.Net (map (λ m. m.0) marked)
 client_reads first marked last written t = t.reads ∙ brings_brought marked
 
@@ -175,22 +175,22 @@ as_read given bytes all e r = subst (λ (l : List ℕ). ReadsPrefix given l) (sy
 
 -- FROM THE STEPS OF A RUN
 -- with what was written in each, and before the first
-abbrev server_step_of : (Message × term_mark.Mark) × List ℕ → Option (Message × term_mark.Mark) × Exchange
+abbrev server_step_of : (Message × term_mark.ServerMark) × List ℕ → Option (Message × term_mark.ServerMark) × Exchange
 server_step_of s = (Some s.0, record { read = bytes_in s.0.0; wrote = s.1 })
 
-abbrev client_step_of : (Told × core_mark.Mark) × List ℕ → (Told × core_mark.Mark) × Exchange
+abbrev client_step_of : (Told × core_mark.ClientMark) × List ℕ → (Told × core_mark.ClientMark) × Exchange
 client_step_of s = (s.0, record { read = of_client.brings s.0; wrote = s.1 })
 
-pub server_stepped : (begin last : term_run.Run) (steps : List ((Message × term_mark.Mark) × List ℕ)) (front : List ℕ)
+pub server_stepped : (begin last : term_run.Run) (steps : List ((Message × term_mark.ServerMark) × List ℕ)) (front : List ℕ)
     → FoldsTo (IsStep term.Turns terms.says terms.is_over terms.is_marked_whole) begin steps last
     → IsUpTo term.Turns terms.says terms.is_over terms.is_marked_whole begin front
     → Transcribes of_server.OpensOrTurns of_server.brings of_server.says begin (None ∷ map (λ m. Some m) (map (λ s. s.0) steps)) last (front ++ total steps)
     (record { read = []; wrote = front } ∷ map (λ s. record { read = bytes_in s.0.0; wrote = s.1 }) steps)
 server_stepped begin last steps front goes up =
-    let some : Message × term_mark.Mark → Option (Message × term_mark.Mark) = λ m. Some m in
+    let some : Message × term_mark.ServerMark → Option (Message × term_mark.ServerMark) = λ m. Some m in
     record {
       steps = (None, record { read = []; wrote = front }) ∷ map server_step_of steps;
-      of_messages = ap (λ (l : List (Option (Message × term_mark.Mark))). None ∷ l) (firsts steps);
+      of_messages = ap (λ (l : List (Option (Message × term_mark.ServerMark))). None ∷ l) (firsts steps);
       of_steps = ap (λ (l : List Exchange). record { read = []; wrote = front } ∷ l) (seconds steps);
       goes = (
         record { run = begin; wrote = front },
@@ -206,17 +206,17 @@ server_stepped begin last steps front goes up =
       );
     }
   where
-    firsts : (ss : List ((Message × term_mark.Mark) × List ℕ)) → map (λ s. s.0) (map server_step_of ss) ≡ map (λ m. Some m) (map (λ s. s.0) ss)
+    firsts : (ss : List ((Message × term_mark.ServerMark) × List ℕ)) → map (λ s. s.0) (map server_step_of ss) ≡ map (λ m. Some m) (map (λ s. s.0) ss)
     firsts [] = refl
-    firsts (s ∷ ss) = ap (λ (l : List (Option (Message × term_mark.Mark))). Some s.0 ∷ l) (firsts ss)
+    firsts (s ∷ ss) = ap (λ (l : List (Option (Message × term_mark.ServerMark))). Some s.0 ∷ l) (firsts ss)
 
-    seconds : (ss : List ((Message × term_mark.Mark) × List ℕ)) →
+    seconds : (ss : List ((Message × term_mark.ServerMark) × List ℕ)) →
         map (λ s. s.1) (map server_step_of ss) ≡ map (λ s. record { read = bytes_in s.0.0; wrote = s.1 }) ss
     seconds [] = refl
     seconds (s ∷ ss) = ap (λ (l : List Exchange). record { read = bytes_in s.0.0; wrote = s.1 } ∷ l) (seconds ss)
 
 -- a client says nothing at first
-pub client_stepped : (begin last : core_run.Run) (steps : List ((Told × core_mark.Mark) × List ℕ))
+pub client_stepped : (begin last : core_run.Run) (steps : List ((Told × core_mark.ClientMark) × List ℕ))
     → FoldsTo (IsStep core.Turns cores.says cores.is_over cores.is_marked_written) begin steps last → cores.says begin ≡ []
     → Transcribes core.Turns of_client.brings of_client.says begin (map (λ s. s.0) steps) last (total steps)
     (map (λ s. record { read = of_client.brings s.0; wrote = s.1 }) steps)
@@ -224,15 +224,15 @@ client_stepped begin last steps goes silent = record {
   steps = map client_step_of steps;
   of_messages = firsts steps;
   of_steps = seconds steps;
-  goes = exchanged core.Turns cores.says cores.is_over cores.is_marked_written (λ (m : Told × core_mark.Mark). m) core.Turns
+  goes = exchanged core.Turns cores.says cores.is_over cores.is_marked_written (λ (m : Told × core_mark.ClientMark). m) core.Turns
       (λ p q m t. t) of_client.brings steps begin last (total steps) [] goes ((cores.says begin, refl), inl (sym silent)) refl;
 }
   where
-    firsts : (ss : List ((Told × core_mark.Mark) × List ℕ)) → map (λ s. s.0) (map client_step_of ss) ≡ map (λ s. s.0) ss
+    firsts : (ss : List ((Told × core_mark.ClientMark) × List ℕ)) → map (λ s. s.0) (map client_step_of ss) ≡ map (λ s. s.0) ss
     firsts [] = refl
-    firsts (s ∷ ss) = ap (λ (l : List (Told × core_mark.Mark)). s.0 ∷ l) (firsts ss)
+    firsts (s ∷ ss) = ap (λ (l : List (Told × core_mark.ClientMark)). s.0 ∷ l) (firsts ss)
 
-    seconds : (ss : List ((Told × core_mark.Mark) × List ℕ)) → map (λ s. s.1) (map client_step_of ss)
+    seconds : (ss : List ((Told × core_mark.ClientMark) × List ℕ)) → map (λ s. s.1) (map client_step_of ss)
         ≡ map (λ s. record { read = of_client.brings s.0; wrote = s.1 }) ss
     seconds [] = refl
     seconds (s ∷ ss) = ap (λ (l : List Exchange). record { read = of_client.brings s.0; wrote = s.1 } ∷ l) (seconds ss)
@@ -285,20 +285,20 @@ reads_of {R} {M} turns brings says first messages last written transcript t =
     brought_in [] = refl
     brought_in (s ∷ ss) = ap (λ (l : List (List ℕ)). brings s.0 ∷ l) (brought_in ss)
 
-pub server_noted : (first : term_run.Run) (marked : List (Message × term_mark.Mark)) (last : term_run.Run) (written : List ℕ) (handled : List Mail)
+pub server_noted : (first : term_run.Run) (marked : List (Message × term_mark.ServerMark)) (last : term_run.Run) (written : List ℕ) (handled : List Mail)
     (t : ServerTranscript first marked last written) → map (λ m. m.0) marked ≡ messages_of handled → (noted : Noted)
     × of_server.IsNoted first marked last written handled noted t.transcript
 server_noted first marked last written handled t messages =
     go t.transcript t.transcribed (reads_of of_server.OpensOrTurns of_server.brings of_server.says first
-    (None ∷ map (λ (m : Message × term_mark.Mark). Some m) marked) last written t.transcript t.transcribed)
+    (None ∷ map (λ (m : Message × term_mark.ServerMark). Some m) marked) last written t.transcript t.transcribed)
   where
-    some_brought : (ms : List (Message × term_mark.Mark)) (xs : List Mail) → map (λ m. m.0) ms ≡ messages_of xs
+    some_brought : (ms : List (Message × term_mark.ServerMark)) (xs : List Mail) → map (λ m. m.0) ms ≡ messages_of xs
         → map of_server.brings (map (λ m. Some m) ms) ≡ map of_server.brought_by xs
     some_brought [] [] e = refl
     some_brought [] (x ∷ xs) e = absurd (none_some e)
     some_brought (m ∷ ms) [] e = absurd (some_none e)
     some_brought (m ∷ ms) (x ∷ xs) e =
-        let p = parts m.0 x.message (map (λ (k : Message × term_mark.Mark). k.0) ms) (messages_of xs) e in
+        let p = parts m.0 x.message (map (λ (k : Message × term_mark.ServerMark). k.0) ms) (messages_of xs) e in
         λ i. bytes_in (p.0 i) ∷ some_brought ms xs p.1 i
 
     go : (transcript : List Exchange) → Transcribes of_server.OpensOrTurns of_server.brings of_server.says first
@@ -306,7 +306,7 @@ server_noted first marked last written handled t messages =
         → (noted : Noted) × of_server.IsNoted first marked last written handled noted transcript
     go [] transcribed read = absurd (none_some read)
     go (x ∷ xs) transcribed read =
-        let p = parts x.read [] (map (λ (y : Exchange). y.read) xs) (map of_server.brings (map (λ (m : Message × term_mark.Mark). Some m) marked)) read in
+        let p = parts x.read [] (map (λ (y : Exchange). y.read) xs) (map of_server.brings (map (λ (m : Message × term_mark.ServerMark). Some m) marked)) read in
         let later = noted_steps of_server.brought_by xs handled (p.1 ∙ some_brought marked handled messages) in
         let opening : Note = record { took = None; wrote = x.wrote } in
         let all = all_noted opening later.0 in
@@ -319,7 +319,7 @@ server_noted first marked last written handled t messages =
           },
         )
 
-pub client_noted : (width height limit : ℕ) (marked : List (Told × core_mark.Mark)) (last : core_run.Run) (written : List ℕ) (handled : List Mail)
+pub client_noted : (width height limit : ℕ) (marked : List (Told × core_mark.ClientMark)) (last : core_run.Run) (written : List ℕ) (handled : List Mail)
     (t : ClientTranscript (core_run.start width height limit) marked last written) → map (λ m. m.0) marked ≡ all_told handled → (noted : Noted)
     × (steps : List Note) × (notes noted ≡ notes no_notes ++ steps) × (map (λ n. n.took) steps ≡ map (λ x. Some x) handled)
     × (t.transcript ≡ map (exchange_of of_client.brought_by) steps)
@@ -328,10 +328,10 @@ client_noted width height limit marked last written handled t messages =
     let steps = noted_steps of_client.brought_by t.transcript handled (read ∙ all_brought marked handled messages) in
     (noted_from no_notes.last steps.0, steps.0, all_noted no_notes.last steps.0, steps.2, steps.1)
   where
-    all_brought : (ms : List (Told × core_mark.Mark)) (xs : List Mail) → map (λ m. m.0) ms ≡ all_told xs → map of_client.brings ms ≡ map of_client.brought_by xs
+    all_brought : (ms : List (Told × core_mark.ClientMark)) (xs : List Mail) → map (λ m. m.0) ms ≡ all_told xs → map of_client.brings ms ≡ map of_client.brought_by xs
     all_brought [] [] e = refl
     all_brought [] (x ∷ xs) e = absurd (none_some e)
     all_brought (m ∷ ms) [] e = absurd (some_none e)
     all_brought (m ∷ ms) (x ∷ xs) e =
-        let p = parts m.0 (told_of x) (map (λ (k : Told × core_mark.Mark). k.0) ms) (all_told xs) e in
+        let p = parts m.0 (told_of x) (map (λ (k : Told × core_mark.ClientMark). k.0) ms) (all_told xs) e in
         λ i. brought_from origin.Net (p.0 i).from (p.0 i).message ∷ all_brought ms xs p.1 i

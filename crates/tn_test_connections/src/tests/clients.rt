@@ -7,7 +7,9 @@ use std::sync::Arc;
 use std::test::Fail;
 use std::thread;
 use std::thread::JoinHandle;
-use tn_connect::{ConnectFault, Connecting, Host, Link, News, Notes, Origin, Screen, connect};
+use tn_connect::{
+    ClientContext, ConnectFault, Connecting, Host, KeySource, Link, News, Screen, connect,
+};
 use tn_discipline::Limit;
 
 /// A screen that takes nothing.
@@ -38,7 +40,7 @@ where
         width: 80,
         height: 24,
         line_limit: Limit::standard(),
-        origin: Origin::Reader,
+        origin: KeySource::Reader,
         escape: None,
         wait: 0,
     };
@@ -48,7 +50,7 @@ where
         link: Arc::try_clone(&link)?,
     };
     let (mut causes, mut told) = (Vec::new(alloc), Vec::new(alloc));
-    let notes = Notes {
+    let notes = ClientContext {
         trace: None,
         sizes: None,
         stands: None,

@@ -10,7 +10,7 @@ use std::sync::Arc;
 use std::test::Fail;
 use std::thread::JoinHandle;
 use std::{io, thread};
-use tn_connect::{ConnectFault, Connecting, Link, News, Notes, Origin, connect};
+use tn_connect::{ClientContext, ConnectFault, Connecting, KeySource, Link, News, connect};
 use tn_discipline::Limit;
 use tn_program::Answering;
 use tn_roster::{Roster, RosterFault, note};
@@ -84,7 +84,7 @@ fn connecting(port: u16) -> Connecting {
         width: 80,
         height: 24,
         line_limit: Limit::standard(),
-        origin: Origin::Reader,
+        origin: KeySource::Reader,
         escape: None,
         wait: 0,
     }
@@ -103,7 +103,7 @@ where
     K: Read + Drop + Send + 'static,
 {
     let (mut causes, mut told) = (Vec::new(alloc), Vec::new(alloc));
-    let notes = Notes {
+    let notes = ClientContext {
         trace: None,
         sizes: None,
         stands: None,

@@ -10,7 +10,7 @@ use std::thread::JoinHandle;
 use tn_discipline::Limit;
 use tn_program::{Joining, Network};
 use tn_serve::{Host, Serving, serve_on};
-use tn_services::{LineEnd, Lines};
+use tn_services::{LineEnd, LineFormat};
 
 // Serves one connection, joined to the service at this port. Returns the thread, which tells whether all went
 // well, and a client of it.
@@ -24,7 +24,7 @@ where
         rt,
         host: String::from_str(alloc, "127.0.0.1")?,
         port,
-        lines: Lines {
+        lines: LineFormat {
             line_end: LineEnd::CrLf,
             limit: Limit::standard(),
             ends_cut: false,

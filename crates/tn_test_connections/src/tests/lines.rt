@@ -11,12 +11,12 @@ use std::thread::Threads;
 use std::time::{Clock, Duration};
 use std::{mem, thread};
 use tn_cli::run_local;
-use tn_connect::{Connecting, Host, Link, News, Notes, Origin, connect};
+use tn_connect::{ClientContext, Connecting, Host, KeySource, Link, News, connect};
 use tn_discipline::{Entry, Limit, Settings, Sig, Text};
 use tn_jobs::{After, Job, Reaction};
 use tn_server::Editing;
 use tn_session::{Ended, Finish, Maker, Unwatched, serve_session};
-use tn_test_models::chance::Dice;
+use tn_test_models::random::Random;
 
 /// How many sessions are tried, half of them with lines that the client is asked to edit.
 const SESSIONS: u32 = 100;
@@ -26,21 +26,21 @@ const SPECIAL: [u8; 11] = [3, 28, 26, 4, 127, 127, 127, 21, 13, 13, 10];
 
 const ORDINARY: [u8; 6] = [b'a', b'b', b'c', b' ', b',', b';'];
 
-fn key(dice: &mut Dice) -> u8 {
-    match dice.roll(16) {
-        0 => u8::try_from(dice.roll(256)).unwrap_or(0),
+fn key(random: &mut Random) -> u8 {
+    match random.roll(16) {
+        0 => u8::try_from(random.roll(256)).unwrap_or(0),
         1 => 255,
-        2..=6 => dice.pick(&SPECIAL),
-        _ => dice.pick(&ORDINARY),
+        2..=6 => random.pick(&SPECIAL),
+        _ => random.pick(&ORDINARY),
     }
 }
 
 // Some keys, and at times one of them as often as no line has room for.
-fn keys_of(alloc: Global, dice: &mut Dice) -> Result<Vec<u8>, AllocError> {
+fn keys_of(alloc: Global, random: &mut Random) -> Result<Vec<u8>, AllocError> {
     let mut keys = Vec::new(alloc);
-    for _ in 0..dice.roll(200) {
-        let key = key(dice);
-        let times = if dice.roll(60) == 0 { 270 } else { 1 };
+    for _ in 0..random.roll(200) {
+        let key = key(random);
+        let times = if random.roll(60) == 0 { 270 } else { 1 };
         for _ in 0..times {
             keys.push(key)?;
         }
@@ -52,16 +52,16 @@ fn keys_of(alloc: Global, dice: &mut Dice) -> Result<Vec<u8>, AllocError> {
 #[derive(Drop)]
 struct Typist<R> {
     rt: R,
-    dice: Dice,
+    random: Random,
     keys: Cursor<Vec<u8>>,
 }
 
 impl<R: Clock> Read for Typist<R> {
     fn read(&mut self, buf: &mut [u8]) -> io::Result<usize> {
-        if self.dice.flips() {
+        if self.random.flips() {
             thread::sleep(&self.rt, Duration::from_millis(1));
         }
-        let most = self.dice.roll(16).saturating_add(1).min(buf.len());
+        let most = self.random.roll(16).saturating_add(1).min(buf.len());
         self.keys.read(&mut buf[..most])
     }
 }
@@ -206,7 +206,7 @@ fn typed_there<H>(
     rt: H,
     alloc: Global,
     keys: Vec<u8>,
-    dice: Dice,
+    random: Random,
     editing: Editing,
 ) -> Result<Option<String>, Fail>
 where
@@ -222,7 +222,7 @@ where
     })?;
     let typist = Typist {
         rt,
-        dice,
+        random,
         keys: Cursor::new(keys),
     };
     let connecting = Connecting {
@@ -230,12 +230,12 @@ where
         width: 80,
         height: 24,
         line_limit: Limit::standard(),
-        origin: Origin::Reader,
+        origin: KeySource::Reader,
         escape: None,
         wait: 0,
     };
     let (mut screen, mut causes, mut told) = (Vec::new(alloc), Vec::new(alloc), Vec::new(alloc));
-    let notes = Notes {
+    let notes = ClientContext {
         trace: None,
         sizes: None,
         stands: None,
@@ -273,15 +273,15 @@ fn is_same<H>(rt: H, alloc: Global, seed: u32) -> Result<bool, Fail>
 where
     H: Host + Clock + Net<Listener = TcpListener, Stream = TcpStream>,
 {
-    let mut dice = Dice::new(seed);
-    let keys = keys_of(alloc, &mut dice)?;
+    let mut random = Random::new(seed);
+    let keys = keys_of(alloc, &mut random)?;
     let here = typed_here(alloc, &keys)?;
-    let editing = if dice.flips() {
+    let editing = if random.flips() {
         Editing::Local
     } else {
         Editing::Remote
     };
-    match typed_there(rt, alloc, keys, dice, editing)? {
+    match typed_there(rt, alloc, keys, random, editing)? {
         Some(there) => Ok(there.as_bytes() == here.as_slice()),
         None => Ok(false),
     }

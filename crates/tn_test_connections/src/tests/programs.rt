@@ -3,7 +3,7 @@
 use std::alloc::{AllocError, Global};
 use std::io::{self, Cursor, ErrorKind, Write};
 use std::sync::Arc;
-use tn_program::{Link, Origin, OwnCharacters, Seat, own_characters, run_words};
+use tn_program::{Link, Origin, OwnCharacters, Streams, own_characters, run_words};
 
 /// Takes all that is written, or fails.
 #[derive(Drop)]
@@ -67,7 +67,7 @@ fn faults_are_told(rt: HostRuntime) {
         };
         let mut errors = Vec::new(alloc);
         let mut writer = Paper { open: *open };
-        let seat = Seat {
+        let streams = Streams {
             origin: Origin::Reader,
             reader: Cursor::new(*b"a\n"),
             sizes: None,
@@ -75,7 +75,7 @@ fn faults_are_told(rt: HostRuntime) {
             terminal: None,
             link,
         };
-        let ended = run_words(rt, alloc, Ok(words), seat, &mut writer, &mut errors);
+        let ended = run_words(rt, alloc, Ok(words), streams, &mut writer, &mut errors);
         assert!(rt; is_told(ended, &errors, *status, told));
     }
 }
@@ -99,7 +99,7 @@ fn the_line_of_a_fault_is_told(rt: HostRuntime) {
         };
         let mut output = Vec::new(alloc);
         let mut errors = Vec::new(alloc);
-        let seat = Seat {
+        let streams = Streams {
             origin: Origin::Reader,
             reader: *script,
             sizes: None,
@@ -107,7 +107,7 @@ fn the_line_of_a_fault_is_told(rt: HostRuntime) {
             terminal: None,
             link,
         };
-        let ended = run_words(rt, alloc, Ok(words), seat, &mut output, &mut errors);
+        let ended = run_words(rt, alloc, Ok(words), streams, &mut output, &mut errors);
         assert!(rt; is_told(ended, &errors, *status, told));
     }
 }
@@ -145,7 +145,7 @@ fn what_of_a_stream_is_not_printed_is_told(rt: HostRuntime) {
         };
         let mut output = Vec::new(alloc);
         let mut errors = Vec::new(alloc);
-        let seat = Seat {
+        let streams = Streams {
             origin: Origin::Reader,
             reader: *stream,
             sizes: None,
@@ -153,7 +153,7 @@ fn what_of_a_stream_is_not_printed_is_told(rt: HostRuntime) {
             terminal: None,
             link,
         };
-        let ended = run_words(rt, alloc, Ok(words), seat, &mut output, &mut errors);
+        let ended = run_words(rt, alloc, Ok(words), streams, &mut output, &mut errors);
         assert!(rt; is_unread_told(ended, &errors, told));
     }
 }

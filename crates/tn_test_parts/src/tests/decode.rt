@@ -1,12 +1,12 @@
-//! The lines that are printed of streams: each form once, and streams of chance beside the plain printing.
+//! The lines that are printed of streams: each form once, and random streams beside the model of it.
 
 use std::alloc::{AllocError, Global};
 use std::process::Abort;
 use tn_decode::{Lines, Prefix};
 use tn_nvt::Decoder;
-use tn_test_models::chance::Dice;
 use tn_test_models::decode::lines;
 use tn_test_models::page::bytes_of;
+use tn_test_models::random::Random;
 use tn_test_models::streams::{read_whole, say_sub};
 
 // What is printed of a stream that comes in two pieces; the lines that are complete are taken in between.
@@ -182,31 +182,31 @@ fn each_line_has_its_prefix(rt: HostRuntime) {
 }
 
 // Appends a part of a stream, which may be no item.
-fn say(dice: &mut Dice, stream: &mut Vec<u8>) {
+fn say(random: &mut Random, stream: &mut Vec<u8>) {
     let codes = [
         0, 10, 13, 31, 34, 92, 97, 240, 244, 250, 251, 252, 253, 254, 255,
     ];
-    match dice.roll(6) {
+    match random.roll(6) {
         0 => {
-            for _ in 0..dice.roll(150) {
-                let byte = dice.pick(b"ab \"\\~\x7f\x1f\x80\xfe\x00\n");
+            for _ in 0..random.roll(150) {
+                let byte = random.pick(b"ab \"\\~\x7f\x1f\x80\xfe\x00\n");
                 let _refused = stream.push(byte);
             }
         },
         1 => {
-            for _ in 0..dice.roll(12) {
-                let byte = dice.pick(&codes);
+            for _ in 0..random.roll(12) {
+                let byte = random.pick(&codes);
                 let _refused = stream.push(byte);
             }
         },
         2 => {
-            let _refused = stream.extend_from_slice(&[255, low(dice.roll(256))]);
+            let _refused = stream.extend_from_slice(&[255, low(random.roll(256))]);
         },
         3 => {
-            let verb = dice.pick(&[251, 252, 253, 254]);
-            let _refused = stream.extend_from_slice(&[255, verb, low(dice.roll(42))]);
+            let verb = random.pick(&[251, 252, 253, 254]);
+            let _refused = stream.extend_from_slice(&[255, verb, low(random.roll(42))]);
         },
-        _ => say_parameters(dice, stream),
+        _ => say_parameters(random, stream),
     }
 }
 
@@ -215,30 +215,34 @@ fn low(number: usize) -> u8 {
 }
 
 // Appends a subnegotiation, most of which say something.
-fn say_parameters(dice: &mut Dice, stream: &mut Vec<u8>) {
-    let option = dice.pick(&[24, 31, 34, 34, 34, 99]);
+fn say_parameters(random: &mut Random, stream: &mut Vec<u8>) {
+    let option = random.pick(&[24, 31, 34, 34, 34, 99]);
     let mut params = [0; 40];
     for param in params.iter_mut() {
-        *param = low(dice.roll(256));
+        *param = low(random.roll(256));
     }
-    params[0] = dice.pick(&[1, 3, 3, 3, 251, 252, 253, 253, 254, 77]);
-    params[1] = if params[0] > 3 { 2 } else { low(dice.roll(33)) };
-    let count = match dice.roll(4) {
+    params[0] = random.pick(&[1, 3, 3, 3, 251, 252, 253, 253, 254, 77]);
+    params[1] = if params[0] > 3 {
+        2
+    } else {
+        low(random.roll(33))
+    };
+    let count = match random.roll(4) {
         0 => 2,
         1 => 4,
-        _ => dice.roll(40),
+        _ => random.roll(40),
     };
     say_sub(option, &params[..count.min(params.len())], stream);
 }
 
 #[test]
-fn streams_of_chance_are_printed_plainly(rt: HostRuntime) {
+fn random_streams_are_printed_as_the_model_says(rt: HostRuntime) {
     let alloc = rt.alloc();
-    let mut dice = Dice::new(7);
+    let mut random = Random::new(7);
     for _ in 0..300 {
         let mut stream = Vec::new(alloc);
-        for _ in 0..dice.roll(12) {
-            say(&mut dice, &mut stream);
+        for _ in 0..random.roll(12) {
+            say(&mut random, &mut stream);
         }
         let wanted = lines(alloc, "", &read_whole(alloc, &stream));
         prints(&rt, alloc, Prefix::Empty, &stream, wanted.as_bytes());

@@ -7,8 +7,8 @@ use std::process::Abort;
 use tn_client::UserCommand;
 use tn_discipline::Limit;
 use tn_server::{Editing, ServerFault};
-use tn_test_models::chance::Dice;
 use tn_test_models::payloads::mask;
+use tn_test_models::random::Random;
 use tn_world::{Cause, Event, World, WorldFault};
 
 const SCRIPTS: &[(&str, &str)] = &[
@@ -47,8 +47,8 @@ const KEYS: [u8; 14] = [
 ];
 
 // One of the commands that a user may send.
-fn command(dice: &mut Dice) -> UserCommand {
-    match dice.roll(4) {
+fn command(random: &mut Random) -> UserCommand {
+    match random.roll(4) {
         0 => UserCommand::Brk,
         1 => UserCommand::Ip,
         2 => UserCommand::Ayt,
@@ -57,20 +57,20 @@ fn command(dice: &mut Dice) -> UserCommand {
 }
 
 // Something that may happen: wishes anywhere, forward masks, deliveries cut anywhere.
-fn chance(dice: &mut Dice) -> Event {
-    match dice.roll(19) {
+fn random_event(random: &mut Random) -> Event {
+    match random.roll(19) {
         0 => Event::Wish(Editing::Local),
         1 => Event::Wish(Editing::Remote),
         2 => Event::Mask(Some(mask(&[0, 0, 0, 0, 0, 8]))),
         3 => Event::Mask(None),
-        4 | 5 => Event::ToServer(dice.roll(9)),
-        6 | 7 => Event::ToClient(dice.roll(9)),
+        4 | 5 => Event::ToServer(random.roll(9)),
+        6 | 7 => Event::ToClient(random.roll(9)),
         8 => Event::Take,
-        9 => Event::Pull(dice.roll(9)),
-        10 => Event::Echo(dice.flips()),
+        9 => Event::Pull(random.roll(9)),
+        10 => Event::Echo(random.flips()),
         11 => Event::Resize(80, 25),
-        12 => Event::Send(command(dice)),
-        _ => Event::Key(dice.pick(&KEYS)),
+        12 => Event::Send(command(random)),
+        _ => Event::Key(random.pick(&KEYS)),
     }
 }
 
@@ -102,12 +102,12 @@ fn happen(
     rt: &impl Abort,
     alloc: Global,
     world: &mut World,
-    dice: &mut Dice,
+    random: &mut Random,
     late: bool,
     most: usize,
 ) -> Result<(), WorldFault> {
-    play_or_not(world, chance(dice))?;
-    let roll = dice.roll(60);
+    play_or_not(world, random_event(random))?;
+    let roll = random.roll(60);
     rarely(world, roll, late)?;
     if (3..=10).contains(&roll) {
         agrees(rt, alloc, world, most);
@@ -119,11 +119,11 @@ fn live(
     rt: &impl Abort,
     alloc: Global,
     world: &mut World,
-    dice: &mut Dice,
+    random: &mut Random,
     most: usize,
 ) -> Result<(), WorldFault> {
     for step in 0..160 {
-        happen(rt, alloc, world, dice, step > 120, most)?;
+        happen(rt, alloc, world, random, step > 120, most)?;
     }
     settle(world)?;
     agrees(rt, alloc, world, most);
@@ -143,7 +143,7 @@ fn live_by(
     if settled {
         assert!(rt; rests(&mut world)?);
     }
-    live(rt, alloc, &mut world, &mut Dice::new(seed), most)
+    live(rt, alloc, &mut world, &mut Random::new(seed), most)
 }
 
 #[test]

@@ -6,7 +6,7 @@ use std::test::Fail;
 use tn_discipline::{Entry, Limit, Settings, Text};
 use tn_jobs::Table;
 use tn_server::Editing;
-use tn_two_sessions::{Event, Joined};
+use tn_two_sessions::{Joined, LoopEvent};
 
 fn text_of(alloc: Global, bytes: &[u8]) -> Result<Text, AllocError> {
     let mut text = Vec::new(alloc);
@@ -28,8 +28,8 @@ fn start(alloc: Global, editing: Editing) -> Result<Joined, Fail> {
 // So much comes to the server and to the client, turn and turn about.
 fn carry(joined: &mut Joined, alloc: Global, count: usize, times: usize) -> Result<(), Fail> {
     for _ in 0..times {
-        joined.happen(alloc, Event::ToServer(count))?;
-        joined.happen(alloc, Event::ToClient(count))?;
+        joined.happen(alloc, LoopEvent::ToServer(count))?;
+        joined.happen(alloc, LoopEvent::ToClient(count))?;
     }
     Ok(())
 }
@@ -44,9 +44,9 @@ fn reads_a_line(
 ) -> Result<(), Fail> {
     let mut joined = start(alloc, editing)?;
     carry(&mut joined, alloc, count, 200)?;
-    joined.happen(alloc, Event::Take)?;
+    joined.happen(alloc, LoopEvent::Take)?;
     for key in b"hx\x7fi\r".as_slice() {
-        joined.happen(alloc, Event::Typed(text_of(alloc, &[*key])?))?;
+        joined.happen(alloc, LoopEvent::Typed(text_of(alloc, &[*key])?))?;
         carry(&mut joined, alloc, count, 3)?;
     }
     carry(&mut joined, alloc, count, 200)?;
@@ -71,8 +71,8 @@ fn one_loop_reads_what_is_typed_wherever_it_is_edited(rt: HostRuntime) -> Result
 #[test]
 fn nothing_is_read_before_it_comes(rt: HostRuntime) -> Result<(), Fail> {
     let mut joined = start(rt.alloc(), Editing::Remote)?;
-    joined.happen(rt.alloc(), Event::Take)?;
-    joined.happen(rt.alloc(), Event::Typed(text_of(rt.alloc(), b"hi\r")?))?;
+    joined.happen(rt.alloc(), LoopEvent::Take)?;
+    joined.happen(rt.alloc(), LoopEvent::Typed(text_of(rt.alloc(), b"hi\r")?))?;
     assert!(&rt; joined.puts.is_empty());
     Ok(())
 }

@@ -1,4 +1,4 @@
-//! Worlds that the trials play, and what their keys give at one line. Nothing here has a contract, so that
+//! Worlds that the tests play, and what their keys give at one line. Nothing here has a contract, so that
 //! those of a world's calls are looked at once.
 
 use std::alloc::Global;

@@ -10,7 +10,7 @@ use std::io::{self, ErrorKind, Read};
 use std::process::Abort;
 use std::test::Fail;
 use tn_cli::{
-    Address, Asked, Characters, CliFault, Connecting, Escape, Serving, WordsFault, read_words,
+    Address, Asked, Characters, CliFault, ConnectWords, Escape, ServeWords, WordsFault, read_words,
     run_local, run_replay,
 };
 use tn_discipline::Limit;
@@ -52,7 +52,7 @@ fn words_ask_for_runs(rt: HostRuntime) {
 
 #[test]
 fn words_ask_for_a_server(rt: HostRuntime) -> Result<(), Fail> {
-    let asked = Asked::Serve(Serving {
+    let asked = Asked::Serve(ServeWords {
         host: String::from_str(rt.alloc(), "127.0.0.1")?,
         port: 2323,
         sessions: 8,
@@ -75,7 +75,7 @@ fn words_ask_for_a_server(rt: HostRuntime) -> Result<(), Fail> {
 
 #[test]
 fn words_ask_for_all_of_a_server(rt: HostRuntime) -> Result<(), Fail> {
-    let asked = Asked::Serve(Serving {
+    let asked = Asked::Serve(ServeWords {
         host: String::from_str(rt.alloc(), "::1")?,
         port: 2323,
         sessions: 64,
@@ -104,7 +104,7 @@ fn words_ask_for_all_of_a_server(rt: HostRuntime) -> Result<(), Fail> {
 
 #[test]
 fn words_ask_for_a_server_without_end(rt: HostRuntime) -> Result<(), Fail> {
-    let asked = Asked::Serve(Serving {
+    let asked = Asked::Serve(ServeWords {
         host: String::from_str(rt.alloc(), "127.0.0.1")?,
         port: 7,
         sessions: 8,
@@ -130,8 +130,8 @@ fn words_ask_for_a_server_without_end(rt: HostRuntime) -> Result<(), Fail> {
 }
 
 // A connection of this machine without any option but its port.
-fn connecting(alloc: Global) -> Result<Connecting, AllocError> {
-    Ok(Connecting {
+fn connecting(alloc: Global) -> Result<ConnectWords, AllocError> {
+    Ok(ConnectWords {
         host: String::from_str(alloc, "127.0.0.1")?,
         port: 7,
         width: None,

@@ -1,7 +1,7 @@
 use Rattle.std.proofs.Common.{IfOk, subst}
 use Rattle.crossbeam_channel.specs.Claims.{view}
 use Rattle.tn_connect.specs.Clients.{RunsWriting, foreseen, window_of}
-use Rattle.tn_connect.specs.declared.settings.Origin.TheVariants.{Reader}
+use Rattle.tn_connect.specs.declared.settings.KeySource.TheVariants.{Reader}
 use Rattle.tn_sockets.specs.Queue.{put_bytes}
 use Rattle.tn_connect.proofs.connecting.talk_from.Goals as goal
 

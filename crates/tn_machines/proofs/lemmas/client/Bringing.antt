@@ -7,8 +7,8 @@ use Rattle.tn_machines.proofs.of_core.Typing.{items-types}
 use Rattle.tn_machines.specs.client.Bringing.{Input, key_typed, key_in, keys_in, inputs, inputs_from, inputs_brought, brought_from, brought, TakesInOrder}
 use Rattle.tn_machines.specs.client.Marks.{Turns, Runs}
 use Rattle.tn_machines.specs.client.Run.{Run, Acts, ActsUnless, Asks, Handles, TakesPiece, types, start}
-use Rattle.tn_machines.specs.declared.client.messages.Mark.{Mark}
-use Rattle.tn_machines.specs.declared.client.messages.Mark.TheVariants as mark
+use Rattle.tn_machines.specs.declared.client.messages.ClientMark.{ClientMark}
+use Rattle.tn_machines.specs.declared.client.messages.ClientMark.TheVariants as mark
 use Rattle.tn_machines.specs.declared.client.messages.Origin.{Origin}
 use Rattle.tn_machines.specs.declared.client.messages.Origin.TheVariants.{Keys, Net}
 use Rattle.tn_machines.specs.declared.client.messages.Told.{Told}
@@ -20,7 +20,7 @@ use Rattle.tn_machines.specs.declared.messages.Message.{Message}
 use Rattle.tn_machines.specs.declared.messages.Message.TheVariants.{Piece, HangUp, ReadFailed, Take, Said, Refused, Left, Resized, Asked}
 use Rattle.tn_nvt.specs.declared.items.Item.{Item}
 use Rattle.tn_streams.specs.declared.control.Control.{Control}
-use Rattle.tn_wire.specs.Prefixes.{IsRead}
+use Rattle.tn_linemode.specs.Prefixes.{IsRead}
 
 true_false : true ≡ false → ⊥
 true_false e = cc
@@ -133,7 +133,7 @@ takes_as c from m whole new same stream t = record {
       subst P (sym stream) (subst Q (sym same) (t.reads_on r));
 }
 
-turn_takes : (c new : Run) (m : Told × Mark) → c.progress.over ≡ false → Turns c m new → Takes c m.0.from m.0.message new
+turn_takes : (c new : Run) (m : Told × ClientMark) → c.progress.over ≡ false → Turns c m new → Takes c m.0.from m.0.message new
 turn_takes c new (told, mark.Whole) on t = handled c told new on t
 turn_takes c new (told, mark.WriteFailed) on t = takes_as c told.from told.message t.1 new (ap (λ (r : Run). r.history) t.3) (ap (λ (r : Run). r.stream) t.3)
     (handled c told t.1 on t.2)
@@ -143,7 +143,7 @@ turn_takes c new (told, mark.Refused f) on t = takes_as c told.from told.message
     (handled c told t.1 on t.2)
 
 -- nothing has any effect
-turn_stays : (c new : Run) (m : Told × Mark) → c.progress.over ≡ true → Turns c m new → new ≡ c
+turn_stays : (c new : Run) (m : Told × ClientMark) → c.progress.over ≡ true → Turns c m new → new ≡ c
 turn_stays c new (told, mark.Whole) off t = let P : Bool → Type 0 = λ b. ActsUnless b c told new in subst P off t
 turn_stays c new (told, mark.WriteFailed) off t = absurd (true_false (sym off ∙ t.0))
 turn_stays c new (told, mark.ShowFailed) off t = absurd (true_false (sym off ∙ t.0))
@@ -155,18 +155,18 @@ Reads c = IsRead c.stream (items c.history)
 
 -- what messages bring from one side is taken in order
 side_takes : {A : Type 0} (taken : Run → List A) (brings : Origin → Message → List A)
-    → ((c new : Run) (from : Origin) (m : Message) → Takes c from m new → taken new ≡ taken c ++ brings from m) → (ms : List (Told × Mark)) (c new : Run)
+    → ((c new : Run) (from : Origin) (m : Message) → Takes c from m new → taken new ≡ taken c ++ brings from m) → (ms : List (Told × ClientMark)) (c new : Run)
     → Runs c ms new → Reads c → TakesFront new.progress.over (taken c
-    ++ flat_map (λ (told : Told). brings told.from told.message) (map (λ (m : Told × Mark). m.0) ms)) (taken new) × Reads new
+    ++ flat_map (λ (told : Told). brings told.from told.message) (map (λ (m : Told × ClientMark). m.0) ms)) (taken new) × Reads new
 side_takes taken brings more ms c new runs read =
-    run_takes Turns (λ (r : Run). r.progress.over) Reads taken (λ (m : Told × Mark). m.0) (λ (told : Told). brings told.from told.message) (record {
+    run_takes Turns (λ (r : Run). r.progress.over) Reads taken (λ (m : Told × ClientMark). m.0) (λ (told : Told). brings told.from told.message) (record {
       on = λ p q m on t h. let one = turn_takes p q m on t in (more p q m.0.from m.0.message one, one.reads_on h);
       off = λ p q m off t h.
           let same = turn_stays p q m off t in
           (ap (λ (r : Run). r.progress.over) same ∙ off, ap taken same, subst Reads (sym same) h);
     }) ms c new runs read
 
-pub in_order : (width height limit : ℕ) (ms : List (Told × Mark)) (new : Run) → Runs (start width height limit) ms new → TakesInOrder (map (λ m. m.0) ms) new
+pub in_order : (width height limit : ℕ) (ms : List (Told × ClientMark)) (new : Run) → Runs (start width height limit) ms new → TakesInOrder (map (λ m. m.0) ms) new
 in_order width height limit ms new r =
     let c = start width height limit in
     let ks = side_takes (λ (x : Run). inputs x.history) inputs_from (λ p q from m t. t.types_on) ms c new r ([], reads_none) in

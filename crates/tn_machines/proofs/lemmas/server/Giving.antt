@@ -24,8 +24,8 @@ use Rattle.tn_server.specs.Course.{in_parts}
 use Rattle.tn_server.specs.Events.{limit}
 use Rattle.tn_discipline.specs.Canon.{Canon}
 use Rattle.tn_machines.specs.server.Marks.{Turns, Runs, unput, put_or_not, run_after_opening}
-use Rattle.tn_machines.specs.declared.server.messages.Mark.{Mark}
-use Rattle.tn_machines.specs.declared.server.messages.Mark.TheVariants as mark
+use Rattle.tn_machines.specs.declared.server.messages.ServerMark.{ServerMark}
+use Rattle.tn_machines.specs.declared.server.messages.ServerMark.TheVariants as mark
 use Rattle.tn_server.specs.declared.wishes.Editing.{Editing}
 use Rattle.tn_machines.specs.declared.faults.SessionFault.{SessionFault}
 use Rattle.tn_machines.specs.declared.faults.Ended.TheVariants.{Fault}
@@ -295,7 +295,7 @@ handled_in_order true c new m e a i =
     })
 handled_in_order false c new m e a i = let g = gives_acts c new m a (i.gives e) in record { gives = λ f. g; front = front_of new.puts new.history g }
 
-turned_in_order : (c new : Run) (m : Message × Mark) → Turns c m new → InOrder c → InOrder new
+turned_in_order : (c new : Run) (m : Message × ServerMark) → Turns c m new → InOrder c → InOrder new
 turned_in_order c new (m, mark.Whole) t i = handled_in_order c.progress.over c new m refl t i
 turned_in_order c new (m, mark.WriteFailed) t i =
     let g = gives_acts c t.1 m (acts_of c.progress.over c t.1 m t.0 t.2) (i.gives t.0) in
@@ -310,13 +310,13 @@ started_in_order true canon editing jobs = let g = gives_start canon editing in 
 started_in_order false canon editing jobs = failed_in_order fault.Write (start canon editing jobs)
     (front_of [] (opening canon editing) (gives_start canon editing))
 
-pub puts_are_front : (b : Bool) (canon : Canon) (editing : Editing) (jobs : Jobs) (marked : List (Message × Mark)) (new : Run)
+pub puts_are_front : (b : Bool) (canon : Canon) (editing : Editing) (jobs : Jobs) (marked : List (Message × ServerMark)) (new : Run)
     → Runs (run_after_opening b (start canon editing jobs)) marked new → GivesPrefix new.puts new.history
 puts_are_front b canon editing jobs marked new r = (run_keeps Turns InOrder turned_in_order marked (run_after_opening b (start canon editing jobs)) new r
     (started_in_order b canon editing jobs)).front
 
 -- while messages have their effect, what was put and what waits are all
-pub puts_are_given : (b : Bool) (canon : Canon) (editing : Editing) (jobs : Jobs) (marked : List (Message × Mark)) (new : Run)
+pub puts_are_given : (b : Bool) (canon : Canon) (editing : Editing) (jobs : Jobs) (marked : List (Message × ServerMark)) (new : Run)
     → Runs (run_after_opening b (start canon editing jobs)) marked new → new.progress.over ≡ false → Gives new.puts new.history
 puts_are_given b canon editing jobs marked new r = (run_keeps Turns InOrder turned_in_order marked (run_after_opening b (start canon editing jobs)) new r
     (started_in_order b canon editing jobs)).gives

@@ -21,7 +21,7 @@ use Rattle.tn_server.specs.Events.{History, next, got, took, items, gets, limit}
 use Rattle.tn_server.specs.Lines.{entries, roles, role_at, waiting}
 use Rattle.tn_server.specs.Terms.{settings, mode}
 use Rattle.tn_server.specs.declared.wishes.Editing.{Editing}
-use Rattle.tn_wire.specs.Prefixes.{IsRead}
+use Rattle.tn_linemode.specs.Prefixes.{IsRead}
 use Rattle.tn_machines.proofs.of_terminal.Alike.{OfItems, SameLines, lines_self, lines_took, lines_flushed, lines_parts, same_entries, of_items_gets, items_parts}
 use Rattle.tn_machines.proofs.lemmas.server.Giving.{acts_of}
 use Rattle.tn_machines.specs.Pieces.{bytes_in}
@@ -31,8 +31,8 @@ use Rattle.tn_machines.specs.server.Run.{Run, Acts, ActsUnless, flushed_history,
 use Rattle.tn_machines.specs.server.Run.{in_foreground, after_said, halt_if, is_end, show, fail, opening, start}
 use Rattle.tn_machines.specs.declared.faults.Ended.TheVariants.{Fault}
 use Rattle.tn_machines.specs.declared.faults.SessionFault.TheVariants as fault
-use Rattle.tn_machines.specs.declared.server.messages.Mark.{Mark}
-use Rattle.tn_machines.specs.declared.server.messages.Mark.TheVariants as mark
+use Rattle.tn_machines.specs.declared.server.messages.ServerMark.{ServerMark}
+use Rattle.tn_machines.specs.declared.server.messages.ServerMark.TheVariants as mark
 use Rattle.tn_machines.specs.declared.messages.Message.{Message}
 use Rattle.tn_machines.specs.declared.messages.Message.TheVariants.{Piece, HangUp, ReadFailed, Take, Said, Refused, Left, Resized, Asked}
 
@@ -169,7 +169,7 @@ put_or_not_keeps true m c whole = record { history = refl; stream = refl }
 put_or_not_keeps false m c whole = record { history = refl; stream = refl }
 
 -- while messages have their effect
-turned_on : (first : History) (m : Message) (k : Mark) (c new : Run) → c.progress.over ≡ false → Turns c (m, k) new → Heard first c.stream c.history
+turned_on : (first : History) (m : Message) (k : ServerMark) (c new : Run) → c.progress.over ≡ false → Turns c (m, k) new → Heard first c.stream c.history
     → Hearing first m c new
 turned_on first m mark.Whole c new on t h = hearing_acts first m c new (acts_of c.progress.over c new m on t) h
 turned_on first m mark.WriteFailed c new on t h =
@@ -197,18 +197,18 @@ stays_idle false m c new off e a = cc
 true_false : true ≡ false → ⊥
 true_false e = cc
 
-turned_off : (m : Message) (k : Mark) (c new : Run) → c.progress.over ≡ true → Turns c (m, k) new → Stays c new
+turned_off : (m : Message) (k : ServerMark) (c new : Run) → c.progress.over ≡ true → Turns c (m, k) new → Stays c new
 turned_off m mark.Whole c new off t = stays_idle c.progress.over m c new off off t
 turned_off m mark.WriteFailed c new off t = absurd (true_false (sym off ∙ t.0))
 turned_off m (mark.Refused f put) c new off t = absurd (true_false (sym off ∙ t.0))
 
 -- ALL MESSAGES
 
-turned_hearing : (first : History) (c new : Run) (m : Message × Mark) → c.progress.over ≡ false → Turns c m new → Heard first c.stream c.history
+turned_hearing : (first : History) (c new : Run) (m : Message × ServerMark) → c.progress.over ≡ false → Turns c m new → Heard first c.stream c.history
     → (new.stream ≡ c.stream ++ bytes_in m.0) × Heard first new.stream new.history
 turned_hearing first c new m on t h = let one = turned_on first m.0 m.1 c new on t h in (one.stream, one.heard_on)
 
-turned_stays : (first : History) (c new : Run) (m : Message × Mark) → c.progress.over ≡ true → Turns c m new → Heard first c.stream c.history
+turned_stays : (first : History) (c new : Run) (m : Message × ServerMark) → c.progress.over ≡ true → Turns c m new → Heard first c.stream c.history
     → (new.progress.over ≡ true) × (new.stream ≡ c.stream) × Heard first new.stream new.history
 turned_stays first c new m off t h =
     let s = turned_off m.0 m.1 c new off t in
@@ -223,13 +223,13 @@ begun_stream : (b : Bool) (canon : Canon) (editing : Editing) (jobs : Jobs) → 
 begun_stream true canon editing jobs = refl
 begun_stream false canon editing jobs = refl
 
-pub hears : (b : Bool) (canon : Canon) (editing : Editing) (jobs : Jobs) (marked : List (Message × Mark)) (new : Run)
+pub hears : (b : Bool) (canon : Canon) (editing : Editing) (jobs : Jobs) (marked : List (Message × ServerMark)) (new : Run)
     → Runs (run_after_opening b (start canon editing jobs)) marked new → Hears canon editing (map (λ m. m.0) marked) new
 hears b canon editing jobs marked new runs =
     let o = opening canon editing in
     let c = run_after_opening b (start canon editing jobs) in
     let begun = begun_stream b canon editing jobs in
-    let r = run_takes Turns (λ (u : Run). u.progress.over) (λ u. Heard o u.stream u.history) (λ u. u.stream) (λ (m : Message × Mark). m.0) bytes_in
+    let r = run_takes Turns (λ (u : Run). u.progress.over) (λ u. Heard o u.stream u.history) (λ u. u.stream) (λ (m : Message × ServerMark). m.0) bytes_in
     (record { on = turned_hearing o; off = turned_stays o }) marked c new runs
     (heard_as o o c.history [] c.stream begun (begun_history b canon editing jobs) (record { read = ([], reads_none); lines = lines_self o })) in
     record {

@@ -7,7 +7,7 @@ use Rattle.tn_server.specs.Lines.{waiting}
 use Rattle.tn_server.specs.declared.faults.ServerFault.{ServerFault}
 use Rattle.tn_server.specs.declared.faults.ServerFault.TheVariants.{Pty, Memory}
 use Rattle.tn_server.proofs.lemmas.Room.{completes_few, waits_few}
-use Rattle.tn_wire.specs.Prefixes.{IsRead}
+use Rattle.tn_linemode.specs.Prefixes.{IsRead}
 use Rattle.tn_machines.proofs.of_terminal.Ending.{turned}
 use Rattle.tn_machines.specs.server.Ending.{EndsAt}
 use Rattle.tn_machines.specs.server.Marks.{Turns}
@@ -15,9 +15,9 @@ use Rattle.tn_machines.specs.server.Reaching.{LeadsTo}
 use Rattle.tn_machines.specs.server.Refusing.{RefusesAtItem, IsRefusalCause}
 use Rattle.tn_machines.specs.server.Run.{Run}
 use Rattle.tn_machines.specs.server.Welcoming.{IsWelcome, too_far_ahead}
-use Rattle.tn_machines.specs.declared.server.messages.Mark.{Mark}
-use Rattle.tn_machines.specs.declared.server.messages.Mark.TheVariants as mark
-use Rattle.tn_machines.specs.declared.server.progress.Progress.{Progress}
+use Rattle.tn_machines.specs.declared.server.messages.ServerMark.{ServerMark}
+use Rattle.tn_machines.specs.declared.server.messages.ServerMark.TheVariants as mark
+use Rattle.tn_machines.specs.declared.server.progress.ServerProgress.{ServerProgress}
 use Rattle.tn_machines.specs.declared.server.terminal.Term.{Term}
 use Rattle.tn_machines.specs.declared.faults.Ended.{Ended}
 use Rattle.tn_machines.specs.declared.messages.Message.{Message}
@@ -43,7 +43,7 @@ no_memory e = cc
 
 never_refused : (c : Run) (t : Term) (m : Message) → LeadsTo c t → c.progress.over ≡ false → IsWelcome c m → IsRefusalCause c m (Pty pty.TooFarAhead) → ⊥
 never_refused c t (Piece piece) at on welcome cause =
-    let live = at.live (ap (λ (p : Progress). p.over) at.progress ∙ on) in
+    let live = at.live (ap (λ (p : ServerProgress). p.over) at.progress ∙ on) in
     finds_room c piece live.bytes (live.read.rest, live.read.reading) welcome.0 (welcome.1 on) cause
 never_refused c t HangUp at on welcome cause = no_memory cause.0
 never_refused c t ReadFailed at on welcome cause = no_memory cause.0
@@ -54,13 +54,13 @@ never_refused c t Left at on welcome cause = no_memory cause.0
 never_refused c t (Resized size) at on welcome cause = no_memory cause.0
 never_refused c t (Asked control) at on welcome cause = no_memory cause.0
 
-was_on : (c new : Run) (m : Message) (k : Mark) (f : ServerFault) (put : Bool) → k ≡ mark.Refused f put → Turns c (m, k) new → c.progress.over ≡ false
+was_on : (c new : Run) (m : Message) (k : ServerMark) (f : ServerFault) (put : Bool) → k ≡ mark.Refused f put → Turns c (m, k) new → c.progress.over ≡ false
 was_on c new m k f put e t =
-    let turn : Turns c (m, mark.Refused f put) new = subst (λ (x : Mark). Turns c (m, x) new) e t in
+    let turn : Turns c (m, mark.Refused f put) new = subst (λ (x : ServerMark). Turns c (m, x) new) e t in
     turn.0
 
 -- no welcome message ends a session because too many entries wait
-pub stays_in_reach : (c new : Run) (t : Term) (m : Message) (k : Mark) → LeadsTo c t → IsWelcome c m → Turns c (m, k) new → new.progress.ended ≡ too_far_ahead
+pub stays_in_reach : (c new : Run) (t : Term) (m : Message) (k : ServerMark) → LeadsTo c t → IsWelcome c m → Turns c (m, k) new → new.progress.ended ≡ too_far_ahead
     → c.progress.ended ≡ too_far_ahead
 stays_in_reach c new t m k at welcome turn e =
     ⊎_elim

@@ -1,6 +1,6 @@
 use Rattle.std.proofs.Common.{IfOk, List, ℕ, refl, subst}
 use Rattle.tn_connect.specs.Clients.{ConnectsBy, RunsClient, connection_of, foreseen, window_of}
-use Rattle.tn_connect.specs.declared.settings.Origin.{Origin}
+use Rattle.tn_connect.specs.declared.settings.KeySource.{KeySource}
 use Rattle.tn_network.specs.Asked.{Reaches}
 use Rattle.tn_program.proofs.Origins.{foreseen_as}
 use Rattle.tn_session.specs.Facts.{Window}
@@ -16,13 +16,13 @@ returns-clause-comes g c = (
   refl,
   record {
     telnet = c.requires;
-    ran = subst (λ (w : Window). IfOk c.connect.result (λ r. RunsClient w (foreseen c.args.seat.origin (g.R.Read.remaining c.args.seat.reader))
+    ran = subst (λ (w : Window). IfOk c.connect.result (λ r. RunsClient w (foreseen c.args.streams.origin (g.R.Read.remaining c.args.streams.reader))
         (g.W.Write.contents c.args.writer.now) (g.W.Write.contents c.connect.new.screen) r)) c.connecting_of-connecting.ensures.window
         (subst (λ (k : KnownTyping). IfOk c.connect.result (λ r. RunsClient (window_of c.connecting_of-connecting.result) k
         (g.W.Write.contents c.args.writer.now) (g.W.Write.contents c.connect.new.screen) r))
-        (foreseen_as c.args.asked.characters c.args.seat.origin (g.R.Read.remaining c.args.seat.reader))
-        (subst (λ (o : Origin). IfOk c.connect.result (λ r. RunsClient (window_of c.connecting_of-connecting.result)
-        (foreseen o (g.R.Read.remaining c.args.seat.reader)) (g.W.Write.contents c.args.writer.now) (g.W.Write.contents c.connect.new.screen) r))
+        (foreseen_as c.args.asked.characters c.args.streams.origin (g.R.Read.remaining c.args.streams.reader))
+        (subst (λ (o : KeySource). IfOk c.connect.result (λ r. RunsClient (window_of c.connecting_of-connecting.result)
+        (foreseen o (g.R.Read.remaining c.args.streams.reader)) (g.W.Write.contents c.args.writer.now) (g.W.Write.contents c.connect.new.screen) r))
         c.connecting_of-connecting.ensures.origin c.connect.ensures.ran));
     whole = c.connect.ensures.whole;
     reached = subst (λ (host : List ℕ). ConnectsBy connection_of

@@ -13,7 +13,7 @@ returns-clause-comes g c = (
     line_end = c.args.line_end;
     plain = c.requires;
     ran =
-        subst (λ (p : Plain). IfOk c.connect_plain.result (RunsTalk p (g.R.Read.remaining c.args.seat.reader)
+        subst (λ (p : Plain). IfOk c.connect_plain.result (RunsTalk p (g.R.Read.remaining c.args.streams.reader)
         (g.W.Write.contents c.args.writer.now) (g.W.Write.contents c.connect_plain.new.screen))) c.plain_of-plain.ensures c.connect_plain.ensures.talked;
     reached =
         subst (λ (host : List ℕ). ConnectsBy talked_over (Reaches (g.H.Network.finds c.args.rt host c.args.asked.now.port) (g.H.Network.dials c.args.rt))

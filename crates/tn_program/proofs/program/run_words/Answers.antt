@@ -12,7 +12,7 @@ returns-clause-done g c zero =
     let machine = machine_of (g.H.Network.listens c.args.rt) (g.H.Network.shares c.args.rt) (g.H.Network.accepts c.args.rt) (g.H.Network.finds c.args.rt)
     (g.H.Network.dials c.args.rt) (g.H.Lookout.sees c.args.rt) in
     let run = c.outcome_of_words-outcome in
-    if_ok c.args.words _ _ (λ words. does machine (map string_bytes words.items) c.args.seat.origin (g.R.Read.remaining c.args.seat.reader)
+    if_ok c.args.words _ _ (λ words. does machine (map string_bytes words.items) c.args.streams.origin (g.R.Read.remaining c.args.streams.reader)
     (g.W.Write.contents c.args.writer.now) (g.W.Write.contents run.new.writer) run.result (sym c.status.ensures ∙ zero)) run.ensures.comes
 
 pub returns-clause-ended : goal.returns-clause-ended
@@ -29,7 +29,7 @@ returns-clause-refused g c =
     let machine = machine_of (g.H.Network.listens c.args.rt) (g.H.Network.shares c.args.rt) (g.H.Network.accepts c.args.rt) (g.H.Network.finds c.args.rt)
     (g.H.Network.dials c.args.rt) (g.H.Lookout.sees c.args.rt) in
     let run = c.outcome_of_words-outcome in
-    if_ok c.args.words _ _ (λ words. refused machine (map string_bytes words.items) c.args.seat.origin (g.R.Read.remaining c.args.seat.reader)
+    if_ok c.args.words _ _ (λ words. refused machine (map string_bytes words.items) c.args.streams.origin (g.R.Read.remaining c.args.streams.reader)
     (g.W.Write.contents c.args.writer.now) (g.W.Write.contents run.new.writer) run.result c.status.result c.status.ensures) run.ensures.comes
 
 pub returns-clause-memory : goal.returns-clause-memory

@@ -1,8 +1,8 @@
 use Rattle.std.proofs.Common.{◌∙◌, ◌||◌, ◌&&◌, not, ap, refl, sym, [], ◌∷◌, ◌++◌, Option, List, map, subst, arith}
 use Rattle.crossbeam_channel.specs.Claims.{view}
-use Rattle.tn_machines.specs.declared.client.messages.Mark.{Mark}
+use Rattle.tn_machines.specs.declared.client.messages.ClientMark.{ClientMark}
 use Rattle.tn_machines.specs.declared.client.messages.Told.{Told}
-use Rattle.tn_machines.specs.declared.client.progress.Progress.{Progress}
+use Rattle.tn_machines.specs.declared.client.progress.ClientProgress.{ClientProgress}
 use Rattle.tn_session.proofs.CoreGoing.{told_first, told_next, told_kept, core_told}
 use Rattle.tn_session.proofs.Finishing.{open_none, stands_next, stands_last, stays_done}
 use Rattle.tn_session.proofs.Going.{lefts_of-push, left_small, notes_next, notes_kept}
@@ -69,7 +69,7 @@ loop-preserved g c =
         left,
         core_told c.args.core.now c.loop.core c.turn.new.core i.0 x _ _ _ _ _ _ _ _ c.loop.told c.is_due.result c.in_ok-told-2.told c.has_left-keys_left.result
             i.3 turned told.0 told.1.0 left (c.is_due.ensures ∙ ap
-            (λ (p : Progress). core_stops p && not c.has_left-keys_left.result) c.progress-in-loop-2.ensures) c.in_ok-told-2.ensures.told i.5,
+            (λ (p : ClientProgress). core_stops p && not c.has_left-keys_left.result) c.progress-in-loop-2.ensures) c.in_ok-told-2.ensures.told i.5,
         notes_next i.0 x i.3.steps told.0.steps (told_of x, turned.mark) turned.bytes no_notes (noted_of c.loop.output.transcript) (noted_of c.take.new.self)
             (noted_of c.turn.new.output.transcript) i.6 told.1.1 c.in_ok-mail.ensures.noted turned.noted,
       ),
@@ -79,7 +79,7 @@ loop-preserved g c =
       stands_next c.closes.result c.loop.closed c.finish_once-closed.result (c.loop.core.progress.over || c.loop.core.progress.closed)
           (c.turn.new.core.progress.over || c.turn.new.core.progress.closed) _ _ _ _ c.loop.invariant.5 c.turn.ensures.going c.turn.ensures.silent
           (stays_done c.loop.core.progress.over c.loop.core.progress.closed _ _ c.turn.ensures.turned.turn.stays c.turn.ensures.closed)
-          (c.closes.ensures ∙ ap (λ (p : Progress). p.over || p.closed) c.progress-in-loop.ensures) c.finish_once-closed.ensures.closes,
+          (c.closes.ensures ∙ ap (λ (p : ClientProgress). p.over || p.closed) c.progress-in-loop.ensures) c.finish_once-closed.ensures.closes,
       c.tell-in-loop.ensures.seat,
       c.tell-in-loop.ensures.to ∙ c.loop.invariant.7,
       c.in_ok-told-2.ensures.word,
@@ -101,7 +101,7 @@ returns-then-lefts-ge-SENDERS-clause-acted g c =
       noted = notes_kept i.0 i.3.steps kept.0.steps _ _ kept.2 i.6;
       told = c.loop.told;
       word = c.loop.invariant.8;
-      stands = λ run at. subst (λ (ms : List (Told × Mark)). StandsTold Keys all_told (Runs run) (λ r. core_stops r.progress) i.0 ms
+      stands = λ run at. subst (λ (ms : List (Told × ClientMark)). StandsTold Keys all_told (Runs run) (λ r. core_stops r.progress) i.0 ms
           (core_stops c.loop.core.progress) c.loop.told) (sym kept.1) (i.5 run at);
     }
 

@@ -10,7 +10,7 @@ use Rattle.tn_session.specs.Stops.{has_stopped}
 use Rattle.tn_session.specs.Turns.{HandlesAll}
 use Rattle.tn_streams.specs.Known.{known_typing, known_writer}
 use Rattle.tn_session.specs.declared.parties.Report.{Report}
-use Rattle.tn_machines.specs.declared.server.progress.Progress.{Progress}
+use Rattle.tn_machines.specs.declared.server.progress.ServerProgress.{ServerProgress}
 use Rattle.tn_session.specs.Notes.{noted_of}
 use Rattle.tn_session.proofs.session.run_beside.Goals as goal
 
@@ -50,7 +50,7 @@ returns-clause-ran g c began words first opened settings table at ew =
 
 pub returns-clause-in_reach : goal.returns-clause-in_reach
 returns-clause-in_reach g c d at e = c.in-Some.ensures.in_reach d at
-    (ap (λ (p : Progress). p.ended) (sym c.progress.ensures) ∙ ap (λ (r : Report). r.ended) (sym c.report.ensures) ∙ e)
+    (ap (λ (p : ServerProgress). p.ended) (sym c.progress.ensures) ∙ ap (λ (r : Report). r.ended) (sym c.report.ensures) ∙ e)
 
 pub settle-ports-requires-clause-told : goal.settle-ports-requires-clause-told
 settle-ports-requires-clause-told g c = told_words c.in-Some.ensures.acted.told (view c.run_term.new.watched.stops.pass) c.in-Some.ensures.acted.word

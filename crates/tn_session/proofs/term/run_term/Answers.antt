@@ -5,9 +5,9 @@ use Rattle.tn_machines.specs.declared.messages.Message.{Message}
 use Rattle.tn_session.specs.declared.mail.Mail.{Mail}
 use Rattle.tn_session.specs.declared.mail.Sender.TheVariants.{Back}
 use Rattle.tn_machines.specs.server.Marks.{Runs}
-use Rattle.tn_machines.specs.declared.server.messages.Mark.{Mark}
+use Rattle.tn_machines.specs.declared.server.messages.ServerMark.{ServerMark}
 use Rattle.tn_machines.specs.server.Run.{puts_of}
-use Rattle.tn_machines.specs.declared.server.progress.Progress.{Progress}
+use Rattle.tn_machines.specs.declared.server.progress.ServerProgress.{ServerProgress}
 use Rattle.tn_session.proofs.Mailbox.{handled_more}
 use Rattle.tn_session.proofs.Credits.{among-push, counts_on, steps-push}
 use Rattle.tn_session.specs.Credits.{pieces_among}
@@ -50,7 +50,7 @@ loop-init g c =
       c.give_credit-owed.ensures.seat,
       reach_start c.args.term.now,
       stands_next c.progress.result.over false c.finish_once-closed.result false c.args.term.now.progress.over _ _ _ _ (open_none _) (open_none _) (λ e. refl)
-          (λ e. absurd (false_true e)) (ap (λ (p : Progress). p.over) c.progress.ensures) c.finish_once-closed.ensures.closes,
+          (λ e. absurd (false_true e)) (ap (λ (p : ServerProgress). p.over) c.progress.ensures) c.finish_once-closed.ensures.closes,
       c.tell.ensures.seat,
       c.tell.ensures.to,
       c.in_ok-told.ensures.word,
@@ -90,7 +90,7 @@ loop-preserved g c =
         left,
         term_told c.args.term.now c.loop.term c.turn.new.term i.0 x _ _ _ i.1 _ _ _ (view c.loop.hand)
             (view c.in_ok-hand.hand) c.loop.told c.is_told.result c.in_ok-told-2.told c.has_left-back_left.result i.6 t goes.0 goes.1.0 left
-            (c.is_told.ensures ∙ ap (λ (p : Progress). term_stops p && not c.has_left-back_left.result) c.progress-in-loop-3.ensures)
+            (c.is_told.ensures ∙ ap (λ (p : ServerProgress). term_stops p && not c.has_left-back_left.result) c.progress-in-loop-3.ensures)
             c.in_ok-told-2.ensures.told i.9,
         notes_next i.0 x i.6.steps goes.0.steps (x.message, t.mark) t.bytes (noted_of c.args.output.now.transcript) (noted_of c.loop.output.transcript)
             (noted_of c.take.new.self) (noted_of c.turn.new.output.transcript) i.10 goes.1.1 c.in_ok-mail.ensures.noted t.noted,
@@ -102,7 +102,7 @@ loop-preserved g c =
           (λ d at. c.welcomes.ensures.welcome d at c.if-not-welcomes.false) c.loop.invariant.6,
       stands_next c.progress-in-loop-2.result.over c.loop.closed c.finish_once-closed-in-loop.result c.loop.term.progress.over c.turn.new.term.progress.over _ _
           _ _ c.loop.invariant.7 c.turn.ensures.going c.turn.ensures.silent t.turn.stays
-          (ap (λ (p : Progress). p.over) c.progress-in-loop-2.ensures) c.finish_once-closed-in-loop.ensures.closes,
+          (ap (λ (p : ServerProgress). p.over) c.progress-in-loop-2.ensures) c.finish_once-closed-in-loop.ensures.closes,
       c.tell-in-loop.ensures.seat,
       c.tell-in-loop.ensures.to ∙ c.loop.invariant.9,
       c.in_ok-told-2.ensures.word,
@@ -126,7 +126,7 @@ returns-then-lefts-ge-SENDERS-clause-acted g c =
       noted = notes_kept i.0 i.6.steps kept.0.steps _ _ kept.2 i.10;
       told = c.loop.told;
       word = c.loop.invariant.10;
-      stands = λ run at. subst (λ (ms : List (Message × Mark)). StandsTold Back messages_of (Runs run) (λ r. term_stops r.progress) i.0 ms
+      stands = λ run at. subst (λ (ms : List (Message × ServerMark)). StandsTold Back messages_of (Runs run) (λ r. term_stops r.progress) i.0 ms
           (term_stops c.loop.term.progress) c.loop.told) (sym kept.1) (i.9 run at);
     }
 

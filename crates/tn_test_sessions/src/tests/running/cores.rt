@@ -4,7 +4,7 @@ use std::alloc::Global;
 use std::process::Abort;
 use std::test::Fail;
 use tn_discipline::{Limit, Text};
-use tn_machines::client::{Core, Mark, Origin, Told};
+use tn_machines::client::{ClientMark, Core, Origin, Told};
 use tn_machines::{Ended, Message, SessionFault};
 
 fn piece(alloc: Global, from: Origin, bytes: &[u8]) -> Result<Told, Fail> {
@@ -19,7 +19,7 @@ fn writes(
     core: &mut Core,
     told: Told,
     wanted: (&[u8], &[u8]),
-) -> Mark {
+) -> ClientMark {
     let mut out = Vec::new(alloc);
     let mut screen = Vec::new(alloc);
     let mark = core.handle(told, &mut out, &mut screen);
@@ -31,7 +31,7 @@ fn writes(
 fn sends_and_echoes(rt: &impl Abort, alloc: Global, core: &mut Core) -> Result<(), Fail> {
     let keys = piece(alloc, Origin::Keys, b"a\r")?;
     let mark = writes(rt, alloc, core, keys, (b"a\r\0", b"a\r\n"));
-    assert!(rt; mark == Mark::Whole);
+    assert!(rt; mark == ClientMark::Whole);
     assert!(rt; core.progress().pieces == 1);
     Ok(())
 }

@@ -1,6 +1,6 @@
 use Rattle.std.proofs.Common.{[], ◌∷◌, sym, ap}
 use Rattle.tn_codes.specs.declared.triples.Triple.{Triple}
-use Rattle.tn_wire.specs.Words.{list_items}
+use Rattle.tn_linemode.specs.Words.{list_items}
 use Rattle.tn_client.proofs.end.ClientEnd.propose.Goals as goal
 use Rattle.tn_client.proofs.end.ClientEnd.propose.Goals.{in-Err, in-Ok+in-Ok-put_triple, in-Ok+in-Err-put_triple}
 

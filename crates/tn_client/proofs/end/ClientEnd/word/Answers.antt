@@ -8,8 +8,8 @@ use Rattle.tn_nvt.specs.declared.items.Item.TheVariants.{Neg}
 use Rattle.tn_option.specs.Options.{Options, reply_to, options_after_word}
 use Rattle.tn_client.specs.Terms.{mode_at, tells_size}
 use Rattle.tn_client.specs.Replies.{end_of_edit_items, new_size_items}
-use Rattle.tn_wire.specs.Words.{word_items}
-use Rattle.tn_wire.proofs.lemmas.Cutting.{cut_after_two, front_some, back_some}
+use Rattle.tn_linemode.specs.Words.{word_items}
+use Rattle.tn_linemode.proofs.lemmas.Cutting.{cut_after_two, front_some, back_some}
 use Rattle.tn_client.proofs.end.ClientEnd.word.Goals as goal
 
 -- what is held, the answer, and the size

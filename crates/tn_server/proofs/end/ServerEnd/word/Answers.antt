@@ -3,9 +3,9 @@ use Rattle.std.proofs.lemmas.Grind.{common_steps}
 use Rattle.std.proofs.lemmas.Result.{err_from_is_err_and}
 use Rattle.tn_option.specs.Options.{reply_to, options_after_word}
 use Rattle.tn_server.specs.Terms.{linemode}
-use Rattle.tn_wire.specs.Words.{word_items}
+use Rattle.tn_linemode.specs.Words.{word_items}
 use Rattle.tn_server.specs.Steps.{negotiation_items}
-use Rattle.tn_wire.proofs.lemmas.Cutting.{cut_after_one}
+use Rattle.tn_linemode.proofs.lemmas.Cutting.{cut_after_one}
 use Rattle.tn_server.proofs.end.ServerEnd.word.Goals as goal
 
 pub returns-in_err-_sent-clause-cut : goal.returns-in_err-_sent-clause-cut

@@ -3,9 +3,9 @@ use Rattle.std.proofs.lemmas.Grind.{common_steps}
 use Rattle.std.proofs.lemmas.Result.{err_from_is_err_and}
 use Rattle.tn_server.specs.Terms.{linemode, wants_echo}
 use Rattle.tn_server.specs.Replies.{new_table_items, echo_items}
-use Rattle.tn_wire.specs.Words.{mode_items}
+use Rattle.tn_linemode.specs.Words.{mode_items}
 use Rattle.tn_server.specs.Steps.{told_now, masks_by, is_due}
-use Rattle.tn_wire.proofs.lemmas.Cutting.{cut_after_two}
+use Rattle.tn_linemode.proofs.lemmas.Cutting.{cut_after_two}
 use Rattle.tn_server.proofs.terms.Negotiation.settle.Goals as goal
 
 pub returns-in_err-ask_echo-clause-err : goal.returns-in_err-ask_echo-clause-err

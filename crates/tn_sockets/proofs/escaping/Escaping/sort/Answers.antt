@@ -2,8 +2,8 @@ use Rattle.std.proofs.Common.{◌≡◌, ◌<◌, ℕ, true, is_ok, refl, [], �
 use Rattle.std.proofs.Math.ListN.{get_or}
 use Rattle.std.specs.VecDeque.{deque_len, deque_capacity}
 use Rattle.tn_sockets.proofs.Sorting.{none_yet, obeys_none, one_more, commands_with, pushed, pushed_len}
-use Rattle.tn_sockets.specs.declared.escaping.Command.TheVariants.{Close}
-use Rattle.tn_sockets.specs.declared.escaping.Input.TheVariants as input
+use Rattle.tn_sockets.specs.declared.escaping.EscapeCommand.TheVariants.{Close}
+use Rattle.tn_sockets.specs.declared.escaping.SessionInput.TheVariants as input
 use Rattle.tn_sockets.specs.declared.escaping.Typed.TheVariants as typed
 use Rattle.tn_sockets.specs.Typing.{commands}
 use Rattle.tn_sockets.proofs.escaping.Escaping.sort.Goals.{in-Key, in-Control, in-Command, in-Nothing}

@@ -1,18 +1,18 @@
 use Rattle.std.proofs.Common.{ap}
-use Rattle.tn_machines.specs.declared.server.progress.Progress.{Progress}
+use Rattle.tn_machines.specs.declared.server.progress.ServerProgress.{ServerProgress}
 use Rattle.tn_machines.proofs.of_terminal.Doing.{does_answer, does_wait, of_some, of_none}
 use Rattle.tn_machines.proofs.server.terminal.Term.ask.Goals as goal
 
 pub returns-in-Ok-Some-clause-ok : goal.returns-in-Ok-Some-clause-ok
 returns-in-Ok-Some-clause-ok c =
     does_answer c.args.self.now _ c.take.new.self c.in-Ok-Some.entry _ _ c.requires
-    (ap (λ (p : Progress). record c.args.self.now { end = c.take.new.self; progress = p }) c.answered-self.ensures) c.in-Ok-Some.ensures.ok
+    (ap (λ (p : ServerProgress). record c.args.self.now { end = c.take.new.self; progress = p }) c.answered-self.ensures) c.in-Ok-Some.ensures.ok
     c.in-Ok-Some.ensures.keeps (λ h s. of_some _ _ c.in-Ok-Some.field-0 _ c.in-Ok-Some.field-0-is (c.in-Ok-Some.ensures.entry h s))
 
 pub returns-in-Ok-None-clause-ok : goal.returns-in-Ok-None-clause-ok
 returns-in-Ok-None-clause-ok c =
     does_wait c.args.self.now _ c.take.new.self _ _ _ c.requires
-    (ap (λ (p : Progress). record c.args.self.now { end = c.take.new.self; progress = p }) c.unanswered-self.ensures) c.end_if-put.ensures
+    (ap (λ (p : ServerProgress). record c.args.self.now { end = c.take.new.self; progress = p }) c.unanswered-self.ensures) c.end_if-put.ensures
     c.in-Ok-None.ensures.ok c.in-Ok-None.ensures.keeps (λ h s. of_none _ _ c.in-Ok-None.field-0 c.in-Ok-None.field-0-is (c.in-Ok-None.ensures.entry h s))
 
 pub returns-in-Err-clause-grows : goal.returns-in-Err-clause-grows

@@ -1,6 +1,6 @@
 use Rattle.std.proofs.Common.{ap, Err, ◌<◌}
 use Rattle.std.proofs.lemmas.List.Elements.{All-from_get_or}
-use Rattle.tn_machines.specs.declared.server.progress.Progress.{Progress}
+use Rattle.tn_machines.specs.declared.server.progress.ServerProgress.{ServerProgress}
 use Rattle.tn_machines.proofs.of_terminal.Breaking.{feed_breaks}
 use Rattle.tn_machines.proofs.of_terminal.Doing.{feeds}
 use Rattle.tn_machines.proofs.of_terminal.Refusing.{feed_cause}
@@ -10,12 +10,12 @@ pub returns-in-Ok-clause-ok : goal.returns-in-Ok-clause-ok
 returns-in-Ok-clause-ok c =
     feeds c.args.self.now _ c.feed.new.self c.args.piece.now _ _
     (All-from_get_or (λ b. b < 256) c.args.piece.now 0 (λ i within. (c.type_inv.piece i).fits)) c.requires
-    (ap (λ (p : Progress). record c.args.self.now { end = c.feed.new.self; progress = p }) c.fed-self.ensures) c.in-Ok.ensures.ok
+    (ap (λ (p : ServerProgress). record c.args.self.now { end = c.feed.new.self; progress = p }) c.fed-self.ensures) c.in-Ok.ensures.ok
 
 pub returns-in-Err-clause-err : goal.returns-in-Err-clause-err
 returns-in-Err-clause-err c =
     feed_breaks c.args.self.now _ c.feed.new.self c.args.piece.now _ _ c.in-Err.fault c.requires
-    (ap (λ (p : Progress). record c.args.self.now { end = c.feed.new.self; progress = p }) c.fed-self-in-Err.ensures)
+    (ap (λ (p : ServerProgress). record c.args.self.now { end = c.feed.new.self; progress = p }) c.fed-self-in-Err.ensures)
     (All-from_get_or (λ b. b < 256) c.args.piece.now 0 (λ i within. (c.type_inv.piece i).fits)) c.in-Err.ensures.halts
     (λ e. (c.in-Err.ensures.failed.0 (ap Err e), c.in-Err.ensures.failed_appends (ap Err e))) c.in-Err.ensures.of_piece
 

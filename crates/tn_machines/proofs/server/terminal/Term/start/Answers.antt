@@ -1,5 +1,5 @@
 use Rattle.std.proofs.Common.{ap}
-use Rattle.tn_machines.specs.declared.server.progress.Progress.{Progress}
+use Rattle.tn_machines.specs.declared.server.progress.ServerProgress.{ServerProgress}
 use Rattle.tn_machines.proofs.of_terminal.Doing.{starts, start_sends}
 use Rattle.tn_machines.proofs.server.terminal.Term.start.Goals as goal
 
@@ -8,7 +8,7 @@ returns-clause-at c =
     starts (record { settings = c.args.settings; limit = c.args.limit }) c.args.editing c.args.table c.in_ok-end.end c.wish.new.self c.pull_all.new.end _ _ _ _
     c.in_ok-end.ensures.leads c.in_ok-end.ensures.reads c.in_ok-end.ensures.runs c.in_ok-end.ensures.opens c.in_ok-wish.ensures.ok
     c.in_ok-wish.ensures.keeps c.in_ok-pull_all.ensures.ok (ap
-    (λ (p : Progress). record { end = c.pull_all.new.end; table = c.args.table; tostop = c.args.settings.flags.tostop; progress = p }) c.new.ensures)
+    (λ (p : ServerProgress). record { end = c.pull_all.new.end; table = c.args.table; tostop = c.args.settings.flags.tostop; progress = p }) c.new.ensures)
 
 pub returns-clause-out : goal.returns-clause-out
 returns-clause-out c =

@@ -1,5 +1,5 @@
 use Rattle.std.proofs.Common.{ap, inl, inr}
-use Rattle.tn_machines.specs.declared.server.progress.Progress.{Progress}
+use Rattle.tn_machines.specs.declared.server.progress.ServerProgress.{ServerProgress}
 use Rattle.tn_machines.specs.declared.messages.Message.TheVariants.{Take}
 use Rattle.tn_machines.proofs.of_terminal.Handling.{with_ok, with_stuck, handled_take, stops_take, stops_ask}
 use Rattle.tn_machines.proofs.of_terminal.Refusing.{on_err, wait_asked}
@@ -18,7 +18,7 @@ returns-in-Ok-clause-err c =
 pub returns-in-Err-clause-err : goal.returns-in-Err-clause-err
 returns-in-Err-clause-err c =
     stops_ask c.args.self.now c.ask.new.self _ _ _ c.requires c.in-Err.ensures.err c.in-Err.ensures.err_appends
-    (ap (λ (p : Progress). record c.ask.new.self { progress = p }) c.asking-self.ensures)
+    (ap (λ (p : ServerProgress). record c.ask.new.self { progress = p }) c.asking-self.ensures)
 
 pub returns-in-Ok-clause-grows : goal.returns-in-Ok-clause-grows
 returns-in-Ok-clause-grows c =

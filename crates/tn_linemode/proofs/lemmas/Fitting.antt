@@ -9,8 +9,8 @@ use Rattle.tn_codes.specs.declared.triples.Triple.{Triple}
 use Rattle.tn_nvt.specs.Spelling.{Fits}
 use Rattle.tn_nvt.specs.declared.items.Item.{Item}
 use Rattle.tn_nvt.specs.declared.items.Item.TheVariants.{Neg, Sub}
-use Rattle.tn_wire.specs.Words.{word_items, mode_items, list_items}
-use Rattle.tn_wire.proofs.lemmas.Listing.{length-octets}
+use Rattle.tn_linemode.specs.Words.{word_items, mode_items, list_items}
+use Rattle.tn_linemode.proofs.lemmas.Listing.{length-octets}
 
 -- these items fit
 abbrev pub Fit : List Item → Type 0

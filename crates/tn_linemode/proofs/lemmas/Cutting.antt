@@ -3,7 +3,7 @@ use Rattle.std.proofs.Common.{◌≡◌, ◌≢◌, ℕ, List, [], ◌∷◌, �
 use Rattle.std.proofs.lemmas.Grind.{flat_map-append}
 use Rattle.tn_nvt.specs.Spelling.{spelling, spells}
 use Rattle.tn_nvt.specs.declared.items.Item.{Item}
-use Rattle.tn_wire.specs.Prefixes.{AppendsPrefix}
+use Rattle.tn_linemode.specs.Prefixes.{AppendsPrefix}
 
 pub spells-append : (xs ys : List Item) → spells (xs ++ ys) ≡ spells xs ++ spells ys
 spells-append xs ys = flat_map-append spelling xs ys

@@ -5,14 +5,14 @@ use std::fs::File;
 use std::io;
 use std::io::Read;
 use std::sync::Arc;
-use tn_connect::{Link, Origin};
+use tn_connect::{KeySource, Link};
 
 /// A reader, where its bytes come from, what tells the sizes of the window in which they are typed, what is
 /// told once the connection that they are for stands, the terminal that they are typed at, and that
 /// connection, as the screen has it.
 #[derive(Drop)]
-pub struct Seat<R> {
-    pub origin: Origin,
+pub struct Streams<R> {
+    pub origin: KeySource,
     pub reader: R,
     pub sizes: Option<File>,
     pub stands: Option<File>,
@@ -20,8 +20,8 @@ pub struct Seat<R> {
     pub link: Arc<Link, Global>,
 }
 
-impl<R: Read> Read for Seat<R> {
-    ghost remaining = { λ seat. R.Read.remaining seat.reader };
+impl<R: Read> Read for Streams<R> {
+    ghost remaining = { λ streams. R.Read.remaining streams.reader };
 
     fn read(&mut self, buf: &mut [u8]) -> io::Result<usize> {
         self.reader.read(buf)

@@ -4,7 +4,7 @@ use Rattle.std.proofs.lemmas.List.{append_cancel_left}
 use Rattle.tn_nvt.specs.Stream.{Reading}
 use Rattle.tn_nvt.specs.declared.items.Item.{Item}
 use Rattle.tn_nvt.proofs.lemmas.Reading.{one_reading, reads_on}
-use Rattle.tn_wire.specs.Prefixes.{IsRead}
+use Rattle.tn_linemode.specs.Prefixes.{IsRead}
 
 -- the items that a stream brings after the same items are the same
 pub same_more : (bytes : List ℕ) (a b more others : List Item) → a ≡ b → IsRead bytes (a ++ more) → IsRead bytes (b ++ others) → more ≡ others

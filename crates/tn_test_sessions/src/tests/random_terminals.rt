@@ -1,4 +1,4 @@
-//! Worlds of chance beside a local terminal.
+//! Random worlds beside a local terminal.
 
 use super::playing::{
     ALL, agrees, open, play, play_all, rests, rests_with, settle, settle_with, types,
@@ -9,17 +9,17 @@ use tn_client::{ClientFault, UserCommand};
 use tn_codes::Func;
 use tn_discipline::{CharFault, Entry, Limit, Settings, Sig};
 use tn_server::{Editing, ServerFault};
-use tn_test_models::chance::Dice;
+use tn_test_models::random::Random;
 use tn_world::{Cause, Event, World, WorldFault};
 
 const KEYS: [u8; 12] = [b'a', b'b', b'c', 255, 3, 26, 4, 127, 127, 21, 13, 10];
 
-fn height(dice: &mut Dice) -> u16 {
-    if dice.flips() { 24 } else { 25 }
+fn height(random: &mut Random) -> u16 {
+    if random.flips() { 24 } else { 25 }
 }
 
-fn editing(dice: &mut Dice) -> Editing {
-    if dice.flips() {
+fn editing(random: &mut Random) -> Editing {
+    if random.flips() {
         Editing::Local
     } else {
         Editing::Remote
@@ -27,15 +27,15 @@ fn editing(dice: &mut Dice) -> Editing {
 }
 
 // Anything but a change of the mode or of a character.
-fn event(dice: &mut Dice) -> Event {
-    match dice.roll(12) {
+fn event(random: &mut Random) -> Event {
+    match random.roll(12) {
         0 => Event::Take,
-        1 => Event::Pull(dice.roll(9)),
-        2 => Event::Resize(80, height(dice)),
-        3 => Event::Echo(dice.flips()),
-        4..=6 => Event::ToServer(dice.roll(7)),
-        7 | 8 => Event::ToClient(dice.roll(7)),
-        _ => Event::Key(dice.pick(&KEYS)),
+        1 => Event::Pull(random.roll(9)),
+        2 => Event::Resize(80, height(random)),
+        3 => Event::Echo(random.flips()),
+        4..=6 => Event::ToServer(random.roll(7)),
+        7 | 8 => Event::ToClient(random.roll(7)),
+        _ => Event::Key(random.pick(&KEYS)),
     }
 }
 
@@ -46,22 +46,22 @@ fn change_mode(world: &mut World, editing: Editing) -> Result<(), WorldFault> {
     play(world, Event::ToClient(ALL))
 }
 
-fn happen(world: &mut World, dice: &mut Dice) -> Result<(), WorldFault> {
-    if dice.roll(30) == 0 {
-        change_mode(world, editing(dice))?;
+fn happen(world: &mut World, random: &mut Random) -> Result<(), WorldFault> {
+    if random.roll(30) == 0 {
+        change_mode(world, editing(random))?;
     }
-    play(world, event(dice))
+    play(world, event(random))
 }
 
 fn lives(
     rt: &impl Abort,
     alloc: Global,
     world: &mut World,
-    dice: &mut Dice,
+    random: &mut Random,
 ) -> Result<(), WorldFault> {
     assert!(rt; rests(world)?);
     for _ in 0..240 {
-        happen(world, dice)?;
+        happen(world, random)?;
         agrees(rt, alloc, world, 254);
     }
     Ok(())
@@ -69,7 +69,7 @@ fn lives(
 
 fn lives_by(rt: &impl Abort, alloc: Global, seed: u32) -> Result<(), WorldFault> {
     let mut world = open(alloc, Limit::standard())?;
-    lives(rt, alloc, &mut world, &mut Dice::new(seed))
+    lives(rt, alloc, &mut world, &mut Random::new(seed))
 }
 
 #[test]

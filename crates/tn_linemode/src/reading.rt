@@ -2,7 +2,7 @@
 
 ghost use Rattle.std.specs.Prelude.{◌≡◌, IfOk, IfSome, OnErr};
 ghost use Rattle.tn_codes.specs.Payloads.{IsShort};
-ghost use Rattle.tn_wire.specs.Words.{payload_under, IsList};
+ghost use Rattle.tn_linemode.specs.Words.{payload_under, IsList};
 
 use std::alloc::{AllocError, Global};
 use tn_codes::{Payload, PayloadFault, read_payload};

@@ -13,7 +13,7 @@ use Rattle.tn_codes.proofs.lemmas.Telling.{told, says}
 use Rattle.tn_discipline.specs.Characters.{Characters}
 use Rattle.tn_linemode.specs.Exchange.{answers_along}
 use Rattle.tn_linemode.proofs.lemmas.Answering.{length-answers_along}
-use Rattle.tn_wire.specs.Words.{payload_under}
+use Rattle.tn_linemode.specs.Words.{payload_under}
 
 pub length-octets : (triples : List Triple) → length (flat_map octets_of triples) ≡ 3 * length triples
 length-octets [] = refl

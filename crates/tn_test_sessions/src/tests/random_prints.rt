@@ -5,14 +5,14 @@ use std::process::Abort;
 use tn_cli::{run_local, run_replay};
 use tn_discipline::{Entry, Settings, Sig};
 use tn_test_models::canonical::{entries, role_of};
-use tn_test_models::chance::Dice;
 use tn_test_models::characters::Table;
+use tn_test_models::random::Random;
 
 const KEYS: [u8; 6] = [b'a', 127, 21, 4, 3, 13];
 
 const KEYS_OF_CHANCE: [u8; 12] = [b'a', b'b', b'c', 0, 255, 127, 127, 21, 4, 3, 13, 10];
 
-// How often a key of chance is typed.
+// How often a random key is typed.
 const COUNTS: [u8; 10] = [1, 1, 1, 2, 3, 4, 5, 17, 100, 254];
 
 fn put_line(lines: &mut String, entry: &Entry) {
@@ -87,13 +87,13 @@ fn every_short_list_of_keys_is_printed_as_its_definition_says(rt: HostRuntime) {
 }
 
 #[test]
-fn keys_of_chance_are_printed_as_their_definition_says(rt: HostRuntime) {
+fn random_keys_are_printed_as_their_definition_says(rt: HostRuntime) {
     for seed in 0..500 {
-        let mut dice = Dice::new(seed);
+        let mut random = Random::new(seed);
         let mut keys = Vec::new(rt.alloc());
-        for _ in 0..dice.roll(40) {
-            let key = dice.pick(&KEYS_OF_CHANCE);
-            for _ in 0..dice.pick(&COUNTS) {
+        for _ in 0..random.roll(40) {
+            let key = random.pick(&KEYS_OF_CHANCE);
+            for _ in 0..random.pick(&COUNTS) {
                 let _refused = keys.push(key);
             }
         }

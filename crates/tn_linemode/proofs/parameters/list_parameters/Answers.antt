@@ -1,8 +1,8 @@
 use Rattle.std.proofs.Common.{◌<◌, ◌+◌, ◌*◌, ◌∷◌, ◌++◌, [], ℕ, List, length, slice_index_or, ap, ◌∙◌, arith}
 use Rattle.tn_codes.specs.Payloads.{slc}
 use Rattle.tn_codes.specs.declared.triples.Triple.{Triple}
-use Rattle.tn_wire.proofs.Filling.{length-three, three_more, octets_more}
-use Rattle.tn_wire.proofs.parameters.list_parameters.Goals as goal
+use Rattle.tn_linemode.proofs.Filling.{length-three, three_more, octets_more}
+use Rattle.tn_linemode.proofs.parameters.list_parameters.Goals as goal
 
 pub loop-i-preserved : goal.loop-i-preserved
 loop-i-preserved c =

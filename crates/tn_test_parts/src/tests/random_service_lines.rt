@@ -5,8 +5,8 @@ use std::process::Abort;
 use tn_discipline::{Entry, Limit, Role, Settings, Sig};
 use tn_lines::{FileLines, KeyLines, LineEnd, Output};
 use tn_test_models::canonical::{entries, half, role_of};
-use tn_test_models::chance::Dice;
 use tn_test_models::characters::Table;
+use tn_test_models::random::Random;
 
 /// An ordinary byte, ERASE, KILL, the end of file, an interrupt, a quit, a return and 255.
 const ALPHABET: [u8; 8] = [b'a', 127, 21, 4, 3, 28, 13, 255];
@@ -112,10 +112,10 @@ fn is_read(rt: &impl Abort, alloc: Global, bytes: &[u8]) {
     assert!(rt; all == file_said(alloc, bytes));
 }
 
-fn thrown(alloc: Global, dice: &mut Dice, alphabet: &[u8]) -> Vec<u8> {
+fn thrown(alloc: Global, random: &mut Random, alphabet: &[u8]) -> Vec<u8> {
     let mut bytes = Vec::new(alloc);
-    for _ in 0..dice.roll(12) {
-        let _refused = bytes.push(dice.pick(alphabet));
+    for _ in 0..random.roll(12) {
+        let _refused = bytes.push(random.pick(alphabet));
     }
     bytes
 }
@@ -123,9 +123,9 @@ fn thrown(alloc: Global, dice: &mut Dice, alphabet: &[u8]) -> Vec<u8> {
 #[test]
 fn a_service_gets_the_lines_of_a_local_terminal(rt: HostRuntime) {
     let alloc = rt.alloc();
-    let mut dice = Dice::new(1);
+    let mut random = Random::new(1);
     for _ in 0..2_000 {
-        is_said(&rt, alloc, &thrown(alloc, &mut dice, &ALPHABET));
-        is_read(&rt, alloc, &thrown(alloc, &mut dice, &FILE));
+        is_said(&rt, alloc, &thrown(alloc, &mut random, &ALPHABET));
+        is_read(&rt, alloc, &thrown(alloc, &mut random, &FILE));
     }
 }

@@ -5,7 +5,7 @@ use std::process::Abort;
 use tn_codes::Command;
 use tn_discipline::{Limit, Role, Settings};
 use tn_pty::{Pair, PtyFault};
-use tn_test_models::chance::Dice;
+use tn_test_models::random::Random;
 use tn_test_models::terminal::Terminal;
 
 const KEYS: [u8; 8] = [b'a', b'b', 127, 21, 4, 3, 13, 10];
@@ -19,9 +19,13 @@ const EDITS: [u8; 12] = [b'a', b'b', b'c', b'd', b'e', 127, 127, 127, 127, 21, 3
 const BEFORE: [u8; 5] = [0, 3, 17, 240, 253];
 
 // A key, a byte or a command at both.
-fn type_at_both(pair: &mut Pair, plain: &mut Terminal, dice: &mut Dice) -> Result<(), PtyFault> {
-    let key = dice.pick(&KEYS);
-    match dice.roll(5) {
+fn type_at_both(
+    pair: &mut Pair,
+    plain: &mut Terminal,
+    random: &mut Random,
+) -> Result<(), PtyFault> {
+    let key = random.pick(&KEYS);
+    match random.roll(5) {
         4 => {
             for key in [b'c', key, b'd'] {
                 plain.raw_key(key, true);
@@ -70,13 +74,19 @@ fn take_at_both(rt: &impl Abort, pair: &mut Pair, plain: &mut Terminal) {
 }
 
 // Some call at both.
-fn step(rt: &impl Abort, alloc: Global, pair: &mut Pair, plain: &mut Terminal, dice: &mut Dice) {
-    match dice.roll(8) {
+fn step(
+    rt: &impl Abort,
+    alloc: Global,
+    pair: &mut Pair,
+    plain: &mut Terminal,
+    random: &mut Random,
+) {
+    match random.roll(8) {
         0 => take_at_both(rt, pair, plain),
-        1 => write_at_both(rt, pair, plain, dice.roll(700)),
-        2 => pull_at_both(rt, alloc, pair, plain, dice.roll(900)),
+        1 => write_at_both(rt, pair, plain, random.roll(700)),
+        2 => pull_at_both(rt, alloc, pair, plain, random.roll(900)),
         _ => {
-            let typed = type_at_both(pair, plain, dice);
+            let typed = type_at_both(pair, plain, random);
             assert!(rt; typed.is_ok());
         },
     }
@@ -89,14 +99,14 @@ fn are_alike(rt: &impl Abort, pair: &Pair, plain: &Terminal) {
 
 #[test]
 fn a_pair_does_what_its_definition_says(rt: HostRuntime) {
-    let mut dice = Dice::new(1);
+    let mut random = Random::new(1);
     let settings = Settings::standard();
     let Ok(mut pair) = Pair::new(rt.alloc(), settings, Limit::standard()) else {
         return;
     };
     let mut plain = Terminal::new(rt.alloc(), &settings);
     for _ in 0..800 {
-        step(&rt, rt.alloc(), &mut pair, &mut plain, &mut dice);
+        step(&rt, rt.alloc(), &mut pair, &mut plain, &mut random);
         are_alike(&rt, &pair, &plain);
     }
 }
@@ -106,12 +116,12 @@ fn type_piece_at_both(
     alloc: Global,
     pair: &mut Pair,
     plain: &mut Terminal,
-    dice: &mut Dice,
+    random: &mut Random,
 ) -> Result<(), PtyFault> {
-    let echo = dice.flips();
+    let echo = random.flips();
     let mut piece = Vec::new(alloc);
-    for _ in 0..dice.roll(41) {
-        let key = dice.pick(&EDITS);
+    for _ in 0..random.roll(41) {
+        let key = random.pick(&EDITS);
         plain.raw_key(key, echo);
         let _refused = piece.push(key);
     }
@@ -119,7 +129,7 @@ fn type_piece_at_both(
 }
 
 // Pieces of keys at both, behind a line of so many bytes.
-fn are_pieces_alike(rt: &impl Abort, alloc: Global, dice: &mut Dice, before: usize) {
+fn are_pieces_alike(rt: &impl Abort, alloc: Global, random: &mut Random, before: usize) {
     let settings = Settings::standard();
     let Ok(mut pair) = Pair::new(alloc, settings, Limit::standard()) else {
         return;
@@ -131,7 +141,7 @@ fn are_pieces_alike(rt: &impl Abort, alloc: Global, dice: &mut Dice, before: usi
     }
     assert!(rt; pair.type_run(line, false).is_ok());
     for _ in 0..4 {
-        let typed = type_piece_at_both(alloc, &mut pair, &mut plain, dice);
+        let typed = type_piece_at_both(alloc, &mut pair, &mut plain, random);
         assert!(rt; typed.is_ok());
         are_alike(rt, &pair, &plain);
         pull_at_both(rt, alloc, &mut pair, &mut plain, 900);
@@ -140,9 +150,9 @@ fn are_pieces_alike(rt: &impl Abort, alloc: Global, dice: &mut Dice, before: usi
 
 #[test]
 fn pieces_of_keys_are_typed_as_their_definition_says(rt: HostRuntime) {
-    let mut dice = Dice::new(2);
+    let mut random = Random::new(2);
     for _ in 0..40 {
-        let before = usize::from(dice.pick(&BEFORE));
-        are_pieces_alike(&rt, rt.alloc(), &mut dice, before);
+        let before = usize::from(random.pick(&BEFORE));
+        are_pieces_alike(&rt, rt.alloc(), &mut random, before);
     }
 }

@@ -1,6 +1,6 @@
 use Rattle.std.proofs.Common.{◌≤◌, Err, length, ap, arith}
-use Rattle.tn_wire.proofs.lemmas.Listing.{says_short, list_under}
-use Rattle.tn_wire.proofs.reading.read_under.Goals as goal
+use Rattle.tn_linemode.proofs.lemmas.Listing.{says_short, list_under}
+use Rattle.tn_linemode.proofs.reading.read_under.Goals as goal
 
 pub returns-in-Ok-clause-short : goal.returns-in-Ok-clause-short
 returns-in-Ok-clause-short c =

@@ -1,6 +1,6 @@
 use Rattle.std.proofs.Common.{◌≡◌, ◌+◌, ◌*◌, ◌∷◌, length, take, flat_map}
 use Rattle.tn_codes.specs.Payloads.{slc, octets_of}
-use Rattle.tn_wire.proofs.parameters.list_parameters.Given as goal
+use Rattle.tn_linemode.proofs.parameters.list_parameters.Given as goal
 
 abbrev pub invariant-loop-i : goal.invariant-loop-i
 invariant-loop-i l = record {

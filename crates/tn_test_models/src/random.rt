@@ -1,13 +1,13 @@
 //! Pseudorandom numbers, the same in each run.
 
 #[derive(Drop)]
-pub struct Dice {
+pub struct Random {
     seed: u32,
 }
 
-impl Dice {
-    pub fn new(seed: u32) -> Dice {
-        Dice { seed }
+impl Random {
+    pub fn new(seed: u32) -> Random {
+        Random { seed }
     }
 
     pub fn roll(&mut self, sides: usize) -> usize {

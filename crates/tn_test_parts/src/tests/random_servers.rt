@@ -1,13 +1,13 @@
 //! A server end beside the reference model of its definition.
 
-use crate::plain::server::Server;
+use crate::model::server::Server;
 use std::alloc::Global;
 use std::process::Abort;
 use tn_codes::Func;
 use tn_discipline::{Entry, Limit, Settings, Sig};
 use tn_pty::PtyFault;
 use tn_server::{Editing, ServerEnd, ServerFault};
-use tn_test_models::chance::Dice;
+use tn_test_models::random::Random;
 
 const KEYS: [u8; 16] = [
     97, 98, 99, 97, 98, 0, 10, 13, 13, 3, 4, 21, 127, 127, 28, 255,
@@ -36,28 +36,31 @@ fn say(bytes: &[u8], stream: &mut Vec<u8>) {
 }
 
 // Some bytes that a client could send.
-fn speak(dice: &mut Dice, stream: &mut Vec<u8>) {
-    match dice.roll(40) {
+fn speak(random: &mut Random, stream: &mut Vec<u8>) {
+    match random.roll(40) {
         0 => say(&[b'a'; 90], stream),
-        1..=6 => say(&[255, dice.pick(&VERBS), dice.pick(&OPTIONS)], stream),
-        7..=9 => say(&[255, 250, 34, 1, dice.pick(&MASKS), 255, 240], stream),
-        10 | 11 => list(dice, stream),
+        1..=6 => say(&[255, random.pick(&VERBS), random.pick(&OPTIONS)], stream),
+        7..=9 => say(&[255, 250, 34, 1, random.pick(&MASKS), 255, 240], stream),
+        10 | 11 => list(random, stream),
         12 => say(
-            &[255, 250, 31, 0, dice.pick(&BYTES[..8]), 1, 0, 255, 240],
+            &[255, 250, 31, 0, random.pick(&BYTES[..8]), 1, 0, 255, 240],
             stream,
         ),
-        13..=15 => say(&[255, dice.pick(&COMMANDS)], stream),
-        16..=18 => say(&[dice.pick(&BYTES)], stream),
-        _ => say(&[dice.pick(&KEYS)], stream),
+        13..=15 => say(&[255, random.pick(&COMMANDS)], stream),
+        16..=18 => say(&[random.pick(&BYTES)], stream),
+        _ => say(&[random.pick(&KEYS)], stream),
     }
 }
 
 // A list of local characters.
-fn list(dice: &mut Dice, stream: &mut Vec<u8>) {
+fn list(random: &mut Random, stream: &mut Vec<u8>) {
     say(&[255, 250, 34, 3], stream);
-    for _ in 0..dice.roll(4) {
-        let value = dice.pick(&VALUES);
-        say(&[dice.pick(&FUNCS), dice.pick(&MODIFIERS), value], stream);
+    for _ in 0..random.roll(4) {
+        let value = random.pick(&VALUES);
+        say(
+            &[random.pick(&FUNCS), random.pick(&MODIFIERS), value],
+            stream,
+        );
         if value == 255 {
             say(&[255], stream);
         }
@@ -65,26 +68,26 @@ fn list(dice: &mut Dice, stream: &mut Vec<u8>) {
     say(&[255, 240], stream);
 }
 
-fn settings(dice: &mut Dice) -> Settings {
+fn settings(random: &mut Random) -> Settings {
     let mut settings = Settings::standard();
-    if dice.flips() {
+    if random.flips() {
         let flags = &mut settings.flags;
-        flags.icrnl = dice.roll(4) > 0;
-        flags.inlcr = dice.roll(4) == 0;
-        flags.igncr = dice.roll(4) == 0;
-        flags.isig = dice.flips();
-        flags.echo = dice.flips();
-        flags.echoe = dice.flips();
-        flags.echok = dice.flips();
-        flags.echonl = dice.flips();
-        flags.opost = dice.flips();
-        flags.onlcr = dice.roll(4) > 0;
+        flags.icrnl = random.roll(4) > 0;
+        flags.inlcr = random.roll(4) == 0;
+        flags.igncr = random.roll(4) == 0;
+        flags.isig = random.flips();
+        flags.echo = random.flips();
+        flags.echoe = random.flips();
+        flags.echok = random.flips();
+        flags.echonl = random.flips();
+        flags.opost = random.flips();
+        flags.onlcr = random.roll(4) > 0;
     }
     settings
 }
 
-fn editing(dice: &mut Dice) -> Editing {
-    if dice.flips() {
+fn editing(random: &mut Random) -> Editing {
+    if random.flips() {
         Editing::Local
     } else {
         Editing::Remote
@@ -101,7 +104,7 @@ const LONG: [u8; 700] = [b'y'; 700];
 
 // An end, the reference model beside it, and what their client says.
 #[derive(Drop)]
-struct Trial {
+struct Compared {
     alloc: Global,
     end: ServerEnd,
     stream: Vec<u8>,
@@ -110,10 +113,10 @@ struct Trial {
     plain: Server,
 }
 
-impl Trial {
-    fn start(alloc: Global, settings: Settings) -> Result<Trial, ServerFault> {
+impl Compared {
+    fn start(alloc: Global, settings: Settings) -> Result<Compared, ServerFault> {
         let mut sent = Vec::new(alloc);
-        Ok(Trial {
+        Ok(Compared {
             alloc,
             end: ServerEnd::start(alloc, settings, Limit::standard(), &mut sent)?,
             stream: Vec::new(alloc),
@@ -124,11 +127,11 @@ impl Trial {
     }
 
     // The client says something, of which some bytes come.
-    fn feed(&mut self, dice: &mut Dice) -> Result<(), ServerFault> {
-        for _ in 0..dice.roll(5) {
-            speak(dice, &mut self.stream);
+    fn feed(&mut self, random: &mut Random) -> Result<(), ServerFault> {
+        for _ in 0..random.roll(5) {
+            speak(random, &mut self.stream);
         }
-        let count = dice.roll(self.stream.len().saturating_add(1));
+        let count = random.roll(self.stream.len().saturating_add(1));
         let (piece, rest) = self.stream.split_at(count.min(self.stream.len()));
         self.plain.feed(piece);
         let fed = self.end.feed(piece, &mut self.sent);
@@ -173,34 +176,34 @@ impl Trial {
     }
 
     // Some call or none.
-    fn call(&mut self, rt: &impl Abort, dice: &mut Dice) -> Result<(), ServerFault> {
-        match dice.roll(16) {
+    fn call(&mut self, rt: &impl Abort, random: &mut Random) -> Result<(), ServerFault> {
+        match random.roll(16) {
             3..=5 => self.take(rt),
-            6 | 7 => self.pull(rt, dice.roll(900)),
-            8 => self.wish(rt, editing(dice)),
-            10 => self.set_echo(dice.flips()),
+            6 | 7 => self.pull(rt, random.roll(900)),
+            8 => self.wish(rt, editing(random)),
+            10 => self.set_echo(random.flips()),
             roll => {
-                self.change(rt, roll, dice);
+                self.change(rt, roll, random);
                 Ok(())
             },
         }
     }
 
     // What memory is not refused to.
-    fn change(&mut self, rt: &impl Abort, roll: usize, dice: &mut Dice) {
+    fn change(&mut self, rt: &impl Abort, roll: usize, random: &mut Random) {
         match roll {
-            0..=2 => self.write_some(rt, dice),
+            0..=2 => self.write_some(rt, random),
             9 => self.set_char(
                 rt,
-                dice.pick(&FUNCS),
-                dice.flips().then_some(dice.pick(&VALUES)),
+                random.pick(&FUNCS),
+                random.flips().then_some(random.pick(&VALUES)),
             ),
             _ => {},
         }
     }
 
-    fn write_some(&mut self, rt: &impl Abort, dice: &mut Dice) {
-        match dice.roll(3) {
+    fn write_some(&mut self, rt: &impl Abort, random: &mut Random) {
+        match random.roll(3) {
             0 => self.write(rt, &LONG),
             1 => self.write(rt, b"x\n\r\xff"),
             _ => self.write(rt, b"one\ntwo\n"),
@@ -241,43 +244,43 @@ fn signal_of(entry: &Entry) -> Option<Sig> {
 }
 
 // A piece comes, and some call is made. Returns whether the end goes on.
-fn go_on(rt: &impl Abort, trial: &mut Trial, dice: &mut Dice) -> bool {
-    if let Err(fault) = trial.feed(dice) {
+fn go_on(rt: &impl Abort, compared: &mut Compared, random: &mut Random) -> bool {
+    if let Err(fault) = compared.feed(random) {
         assert!(rt; fault == ServerFault::Pty(PtyFault::TooFarAhead));
         return false;
     }
-    let called = trial.call(rt, dice);
+    let called = compared.call(rt, random);
     assert!(rt; called.is_ok());
     true
 }
 
 // One end.
-fn run_beside(rt: &impl Abort, alloc: Global, dice: &mut Dice) -> Result<(), ServerFault> {
-    let mut trial = Trial::start(alloc, settings(dice))?;
-    live(rt, &mut trial, dice);
+fn run_beside(rt: &impl Abort, alloc: Global, random: &mut Random) -> Result<(), ServerFault> {
+    let mut compared = Compared::start(alloc, settings(random))?;
+    live(rt, &mut compared, random);
     Ok(())
 }
 
 // So many pieces, and calls between them, as long as the end is not too far ahead.
-fn live(rt: &impl Abort, trial: &mut Trial, dice: &mut Dice) {
-    if dice.flips() {
-        say(&JOINING, &mut trial.stream);
+fn live(rt: &impl Abort, compared: &mut Compared, random: &mut Random) {
+    if random.flips() {
+        say(&JOINING, &mut compared.stream);
     }
     for count in 0..100 {
-        if !go_on(rt, trial, dice) {
+        if !go_on(rt, compared, random) {
             return;
         }
         if count % 33 == 0 {
-            trial.assert_alike(rt);
+            compared.assert_alike(rt);
         }
     }
 }
 
 #[test]
 fn a_server_does_what_its_definition_says(rt: HostRuntime) -> Result<(), ServerFault> {
-    let mut dice = Dice::new(1);
+    let mut random = Random::new(1);
     for _ in 0..100 {
-        run_beside(&rt, rt.alloc(), &mut dice)?;
+        run_beside(&rt, rt.alloc(), &mut random)?;
     }
     Ok(())
 }

@@ -21,7 +21,7 @@ use Rattle.tn_nvt.specs.declared.items.Item.{Item}
 use Rattle.tn_nvt.specs.declared.items.Item.TheVariants.{Neg, Sub}
 use Rattle.tn_nvt.proofs.lemmas.Sizes.{doubled_within, doubled_some, doubled_alone, length-doubled-append, length-doubled-none, length-doubled-cons, length-sub}
 use Rattle.tn_nvt.proofs.lemmas.Sizes.{length-spells-append}
-use Rattle.tn_wire.specs.Words.{word_items, payload_items, list_items, payload_under}
+use Rattle.tn_linemode.specs.Words.{word_items, payload_items, list_items, payload_under}
 
 -- the bytes of some items
 abbrev pub size : List Item → ℕ

@@ -1,11 +1,11 @@
 //! A client end beside the reference model of its definition.
 
-use crate::plain::client::Client;
+use crate::model::client::Client;
 use std::alloc::Global;
 use std::process::Abort;
 use tn_client::{ClientEnd, ClientFault};
 use tn_discipline::Limit;
-use tn_test_models::chance::Dice;
+use tn_test_models::random::Random;
 
 const KEYS: [u8; 14] = [b'a', b'b', 255, 3, 28, 26, 4, 127, 127, 21, 10, 13, b';', 8];
 
@@ -19,20 +19,20 @@ fn say(bytes: &[u8], stream: &mut Vec<u8>) {
 }
 
 // Something that a server may say.
-fn speak(dice: &mut Dice, stream: &mut Vec<u8>) {
-    match dice.roll(9) {
+fn speak(random: &mut Random, stream: &mut Vec<u8>) {
+    match random.roll(9) {
         0 => {
-            let verb = dice.pick(&[251, 252, 253, 254]);
-            say(&[255, verb, dice.pick(&[1, 3, 31, 34, 34, 99])], stream);
+            let verb = random.pick(&[251, 252, 253, 254]);
+            say(&[255, verb, random.pick(&[1, 3, 31, 34, 34, 99])], stream);
         },
         1 | 2 => say(
-            &[255, 250, 34, 1, dice.pick(&[0, 1, 2, 3, 3, 7]), 255, 240],
+            &[255, 250, 34, 1, random.pick(&[0, 1, 2, 3, 3, 7]), 255, 240],
             stream,
         ),
         3 => {
-            let func = dice.pick(&[0, 3, 5, 8, 10, 11, 17, 18]);
-            let modifier = dice.pick(&[0, 1, 2, 2, 3, 130]);
-            let value = dice.pick(&[0, 3, 8, 10, b';', 127]);
+            let func = random.pick(&[0, 3, 5, 8, 10, 11, 17, 18]);
+            let modifier = random.pick(&[0, 1, 2, 2, 3, 130]);
+            let value = random.pick(&[0, 3, 8, 10, b';', 127]);
             say(&[255, 250, 34, 3, func, modifier, value, 255, 240], stream);
         },
         4 => say(&[255, 253, 34, 255, 250, 34, 1, 3, 255, 240], stream),
@@ -44,7 +44,7 @@ fn speak(dice: &mut Dice, stream: &mut Vec<u8>) {
 
 // An end, its definition, and what both were told.
 #[derive(Drop)]
-struct Trial {
+struct Compared {
     alloc: Global,
     end: ClientEnd,
     plain: Client,
@@ -53,14 +53,14 @@ struct Trial {
     shown: Vec<u8>,
 }
 
-impl Trial {
-    fn start(alloc: Global) -> Result<Trial, ClientFault> {
+impl Compared {
+    fn start(alloc: Global) -> Result<Compared, ClientFault> {
         let mut stream = Vec::new(alloc);
         say(
             b"\xff\xfd\x22\xff\xfd\x1f\xff\xfb\x03\xff\xfd\x03\xff\xfb\x01",
             &mut stream,
         );
-        Ok(Trial {
+        Ok(Compared {
             alloc,
             end: ClientEnd::start(alloc, 80, 24, Limit::standard())?,
             plain: Client::new(alloc, (80, 24)),
@@ -70,11 +70,11 @@ impl Trial {
         })
     }
 
-    fn call(&mut self, dice: &mut Dice) -> Result<(), ClientFault> {
-        match dice.roll(10) {
-            0 => self.resize(u16::from(dice.pick(&[0, 80, 255]))),
-            1..=4 => self.key(dice.pick(&KEYS)),
-            _ => self.feed(dice),
+    fn call(&mut self, random: &mut Random) -> Result<(), ClientFault> {
+        match random.roll(10) {
+            0 => self.resize(u16::from(random.pick(&[0, 80, 255]))),
+            1..=4 => self.key(random.pick(&KEYS)),
+            _ => self.feed(random),
         }
     }
 
@@ -89,9 +89,9 @@ impl Trial {
     }
 
     // The server says something, of which some bytes come.
-    fn feed(&mut self, dice: &mut Dice) -> Result<(), ClientFault> {
-        speak(dice, &mut self.stream);
-        let count = dice.roll(12).min(self.stream.len());
+    fn feed(&mut self, random: &mut Random) -> Result<(), ClientFault> {
+        speak(random, &mut self.stream);
+        let count = random.roll(12).min(self.stream.len());
         let (piece, rest) = self.stream.split_at(count);
         self.plain.feed(piece);
         let fed = self.end.feed(piece, &mut self.sent, &mut self.shown);
@@ -111,10 +111,10 @@ impl Trial {
 }
 
 // So many calls, each of which both do alike.
-fn live(rt: &impl Abort, trial: &mut Trial, dice: &mut Dice) -> Result<(), ClientFault> {
+fn live(rt: &impl Abort, compared: &mut Compared, random: &mut Random) -> Result<(), ClientFault> {
     for _ in 0..150 {
-        trial.call(dice)?;
-        trial.assert_alike(rt);
+        compared.call(random)?;
+        compared.assert_alike(rt);
     }
     Ok(())
 }
@@ -122,9 +122,9 @@ fn live(rt: &impl Abort, trial: &mut Trial, dice: &mut Dice) -> Result<(), Clien
 #[test]
 fn a_client_does_what_its_definition_says(rt: HostRuntime) -> Result<(), ClientFault> {
     for seed in 0..6u32 {
-        let mut dice = Dice::new(seed);
-        let mut trial = Trial::start(rt.alloc())?;
-        live(&rt, &mut trial, &mut dice)?;
+        let mut random = Random::new(seed);
+        let mut compared = Compared::start(rt.alloc())?;
+        live(&rt, &mut compared, &mut random)?;
     }
     Ok(())
 }

@@ -1,6 +1,0 @@
-pub mod Cutting
-pub mod Listing
-pub mod Fitting
-pub mod Reading
-pub mod OptionWords
-pub mod Sizes
