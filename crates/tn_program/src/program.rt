@@ -6,6 +6,7 @@ ghost use Rattle.tn_program.specs.Machine.{machine_of};
 ghost use Rattle.tn_program.specs.Outcomes.{ComesOf, ComesOfRun, EndsVersion, EndsWith, AskForNothing};
 ghost use Rattle.tn_program.specs.Runs.{DoesAsAsked};
 ghost use Rattle.tn_program.specs.Told.{IsConnecting, IsTold, UnlessConnected, UnlessTelling};
+ghost use Rattle.tn_words.specs.Words.{AskFor, Refuses};
 
 use crate::lines::Lines;
 use crate::outcome::Outcome;
@@ -113,6 +114,27 @@ fn refusal(kind: ErrorKind) -> Outcome
     Outcome::Usage(None)
 }
 
+fn texts_of<'a>(alloc: Global, words: &'a [String]) -> Result<Vec<&'a str>, AllocError>
+    ensures { IfOk result (λ texts. map (λ text. text.now) texts.items ≡ map string_bytes words.entry.now) }
+{
+    let mut texts = Vec::new(alloc);
+    for word in words {
+        texts.push(word.as_str())?;
+    }
+    Ok(texts)
+}
+
+// What the words ask for.
+fn asked_of(alloc: Global, words: &[String]) -> Result<Asked, WordsFault>
+    ensures asked { IfOk result (AskFor (map string_bytes words.now)) }
+    ensures refuses { IfErr result (Refuses (map string_bytes words.now)) }
+{
+    match texts_of(alloc, words) {
+        Ok(texts) => read_words(alloc, &texts),
+        Err(_) => Err(WordsFault::Memory),
+    }
+}
+
 fn run_strings<
     H: Network + Host + Lookout + Files<File = File>,
     R: Read + Drop + Send + 'static,
@@ -134,44 +156,7 @@ fn run_strings<
     ensures quiet { UnlessTelling result (errors.new ≡ errors.old) }
     ensures uncaused { UnlessConnected result (causes.new.items ≡ causes.old.items) }
 {
-    match texts_of(alloc, words) {
-        Ok(texts) => run_texts(rt, alloc, &texts, streams, writer, errors, causes),
-        Err(_) => Outcome::Memory,
-    }
-}
-
-fn texts_of<'a>(alloc: Global, words: &'a [String]) -> Result<Vec<&'a str>, AllocError>
-    ensures { IfOk result (λ texts. map (λ text. text.now) texts.items ≡ map string_bytes words.entry.now) }
-{
-    let mut texts = Vec::new(alloc);
-    for word in words {
-        texts.push(word.as_str())?;
-    }
-    Ok(texts)
-}
-
-fn run_texts<
-    H: Network + Host + Lookout + Files<File = File>,
-    R: Read + Drop + Send + 'static,
-    W: Write,
-    E: Drain,
->(
-    rt: H,
-    alloc: Global,
-    words: &[&str],
-    streams: Streams<R>,
-    writer: &mut W,
-    errors: &mut E,
-    causes: &mut Vec<u8>,
-) -> Outcome
-    ensures comes { ComesOf
-        (machine_of (H.listens rt) (H.shares rt) (H.accepts rt) (H.finds rt) (H.dials rt) (H.sees rt))
-        (map (λ word. word.now) words.now) streams.origin (R.remaining streams.reader)
-        (W.contents writer.old) (W.contents writer.new) result }
-    ensures quiet { UnlessTelling result (errors.new ≡ errors.old) }
-    ensures uncaused { UnlessConnected result (causes.new.items ≡ causes.old.items) }
-{
-    match read_words(alloc, words) {
+    match asked_of(alloc, words) {
         Ok(asked) => return run_asked(rt, alloc, asked, streams, writer, errors, causes),
         Err(WordsFault::Help(text)) => {
             let written = writer.write_all(text.as_bytes());
@@ -222,38 +207,14 @@ fn run_asked<
             let served = serve_asked(rt, alloc, &asked, &mut Lines(errors), causes);
             Outcome::Served(served)
         },
-        Asked::Connect(asked) => run_connecting(rt, alloc, asked, streams, writer, errors, causes),
+        Asked::Connect(asked) => match asked.plain {
+            Some(line_end) => run_plain(rt, alloc, &asked, line_end, streams, writer, errors, causes),
+            None => run_connect(rt, alloc, asked, streams, writer, errors, causes),
+        },
     }
 }
 
-// A client's session, or a talk with a service that takes lines.
-fn run_connecting<
-    H: Network + Host + Lookout + Files<File = File>,
-    R: Read + Drop + Send + 'static,
-    W: Write,
-    E: Drain,
->(
-    rt: H,
-    alloc: Global,
-    asked: ConnectWords,
-    streams: Streams<R>,
-    writer: &mut W,
-    errors: &mut E,
-    causes: &mut Vec<u8>,
-) -> Outcome
-    ensures comes { ComesOfRun
-        (machine_of (H.listens rt) (H.shares rt) (H.accepts rt) (H.finds rt) (H.dials rt) (H.sees rt))
-        (Asked.Connect asked) streams.origin (R.remaining streams.reader)
-        (W.contents writer.old) (W.contents writer.new) result }
-    ensures connects { IsConnecting result }
-    ensures quiet { UnlessTelling result (errors.new ≡ errors.old) }
-{
-    match asked.plain {
-        Some(line_end) => run_plain(rt, alloc, &asked, line_end, streams, writer, errors, causes),
-        None => run_connect(rt, alloc, asked, streams, writer, errors, causes),
-    }
-}
-
+// A talk with a service that takes lines.
 fn run_plain<H: Network + Host + Lookout, R: Read + Drop + Send + 'static, W: Write, E: Drain>(
     rt: H,
     alloc: Global,
@@ -299,6 +260,7 @@ fn run_plain<H: Network + Host + Lookout, R: Read + Drop + Send + 'static, W: Wr
     Outcome::Talked(connect_plain(rt, alloc, host, plain, reader, writer, notes))
 }
 
+// A client's session.
 fn run_connect<
     H: Network + Host + Lookout + Files<File = File>,
     R: Read + Drop + Send + 'static,

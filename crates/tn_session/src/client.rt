@@ -280,37 +280,6 @@ where
     )
 }
 
-// Makes what a session runs on, and runs it.
-fn converse<R, N, K, W, S, G>(
-    rt: R,
-    alloc: Global,
-    readers: Readers<N, K>,
-    writer: &mut W,
-    screen: &mut S,
-    core: &mut Core,
-    gate: Arc<G, Global>,
-) -> Result<(Report, ClientPorts), SessionFault>
-where
-    R: Threads + Wait + Copy + Send + 'static,
-    N: Source + Drop + Send + 'static,
-    K: Source + Drop + Send + 'static,
-    W: Finish,
-    S: Drain,
-    G: Gate + Drop + Send + Sync + 'static,
-    ensures fault { IfErr result IsRefusal }
-    ensures ran { IfOk result (λ r.
-        IsClientRun core.old (known_typing K.remaining K.foretold K.sizes K.controls readers.keys)
-        (known_reader N.remaining N.foretold N.sizes readers.net)
-        (known_writing W.contents W.told writer.old writer.new)
-        (known_writing S.contents S.told screen.old screen.new) (client_result r.0 r.1)) }
-    ensures finished { IfOk result (λ r. IsFinished (W.sending writer.old) (W.sending writer.new)) }
-{
-    let Ok(outfit) = equip(alloc, gate) else {
-        return Err(SessionFault::Memory);
-    };
-    run(rt, alloc, readers, writer, screen, core, outfit)
-}
-
 /// Runs a client's session over a connection: its reader and its writer, the user's keys and screen, and a
 /// window of this size whose lines have at most `limit` bytes. An `Err` is `Memory`, `Start` or `Channel`,
 /// and tells nothing of what was handled; all else ends in the report.
@@ -345,9 +314,12 @@ where
     let Ok(mut core) = Core::start(alloc, width, height, limit) else {
         return Err(SessionFault::Memory);
     };
+    let Ok(outfit) = equip(alloc, gate) else {
+        return Err(SessionFault::Memory);
+    };
     let readers = Readers {
         net: net_reader,
         keys: keys_reader,
     };
-    converse(rt, alloc, readers, net_writer, screen, &mut core, gate)
+    run(rt, alloc, readers, net_writer, screen, &mut core, outfit)
 }

@@ -74,6 +74,7 @@ impl Core {
         })
     }
 
+    // What the user types.
     fn keys(
         &mut self,
         keys: &[u8],
@@ -117,30 +118,6 @@ impl Core {
         self.progress = self.progress.fed();
         self.end.feed(piece, out, screen)?;
         Ok(())
-    }
-
-    fn piece(
-        &mut self,
-        from: Origin,
-        piece: &[u8],
-        out: &mut Vec<u8>,
-        screen: &mut Vec<u8>,
-    ) -> Result<(), ClientFault>
-        requires { self.old.progress.over ≡ false }
-        ensures ok { OnOk result (DoesWhole self.old
-            (record { from = from; message = Message.Piece piece.now })
-            out.old.items out.new.items screen.old.items screen.new.items self.new) }
-        ensures err { OnErr result (StopsWithin self.old
-            (record { from = from; message = Message.Piece piece.now })
-            out.old.items out.new.items screen.old.items screen.new.items self.new) }
-        ensures cause { IfErr result (RefusesFor self.old
-            (record { from = from; message = Message.Piece piece.now })) }
-        ensures closed { self.new.progress.closed ≡ self.old.progress.closed }
-    {
-        match from {
-            Origin::Keys => self.keys(piece, out, screen),
-            Origin::Net => self.feed(piece, out, screen),
-        }
     }
 
     // The window has another size.
@@ -236,7 +213,10 @@ impl Core {
     {
         let Told { from, message } = told;
         match message {
-            Message::Piece(piece) => self.piece(from, piece.as_slice(), out, screen),
+            Message::Piece(piece) => match from {
+                Origin::Keys => self.keys(piece.as_slice(), out, screen),
+                Origin::Net => self.feed(piece.as_slice(), out, screen),
+            },
             Message::Resized(size) => self.resize(from, size, out),
             Message::Asked(control) => self.ask(from, control, out),
             other => {
