@@ -1,6 +1,6 @@
 -- What a handle holds, what a call does to it where that is of the call's kind, and why the call is refused
 -- where it is not.
-use Rattle.std.specs.Prelude.{◌≡◌, ◌≢◌, ◌⊎◌, ℕ, Bool, true, Option, Some, None, IfSome, if◌then◌else◌}
+use Rattle.std.specs.Prelude.{◌≡◌, ◌≢◌, ◌⊎◌, ℕ, Bool, IsTrue, Option, Some, None, IfSome, if◌then◌else◌}
 use Rattle.tn_c_parts.specs.Codes.{code_number, Answers}
 use Rattle.tn_c.specs.declared.held.Held.{Held}
 use Rattle.tn_c.specs.declared.held.Held.TheVariants as held
@@ -118,6 +118,6 @@ pub record Starts (old new : Option Held) (number : ℕ) (fits : Bool) (Holds : 
   pub started : old ≢ None → number ≡ code_number Started
   pub codes : old ≡ None
       → (number ≡ code_number Done) ⊎ (number ≡ code_number (if fits then Memory else NoLimit))
-  pub accepted : number ≡ code_number Done → fits ≡ true
+  pub accepted : number ≡ code_number Done → IsTrue fits
   pub holds : number ≡ code_number Done → Holds new
   pub err : number ≢ code_number Done → new ≡ old

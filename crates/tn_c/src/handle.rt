@@ -1,6 +1,6 @@
 //! The handle that C has.
 
-ghost use Rattle.std.specs.Prelude.{◌≡◌, ◌≢◌, ◌↔◌, ◌⊎◌, true, Option, None, Some, MatchOption};
+ghost use Rattle.std.specs.Prelude.{◌≡◌, ◌≢◌, ◌↔◌, ◌⊎◌, true, IsTrue, Option, None, Some, MatchOption};
 ghost use Rattle.tn_c.specs.Owning.{handle_owns, held_coded};
 ghost use Rattle.tn_c.specs.declared.held.Held.{Held};
 ghost use Rattle.tn_c_parts.specs.declared.codes.Code.TheVariants.{Done, Memory};
@@ -98,7 +98,7 @@ impl Handle {
 
     /// Whether something is held.
     pub(crate) fn is_started(&mut self, alloc: Global) -> bool
-        ensures value { (result ≡ true) ↔ (self.old.held ≢ None) }
+        ensures value { IsTrue result ↔ (self.old.held ≢ None) }
         ensures same { self.new.held ≡ self.old.held }
     {
         match self.take(alloc) {

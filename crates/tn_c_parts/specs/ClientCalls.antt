@@ -1,5 +1,6 @@
 -- What each call of a held client end does.
-use Rattle.std.specs.Prelude.{◌≡◌, ◌≢◌, ◌↔◌, ◌⊎◌, ℕ, Bool, true, false, List, [], drop, Option, None}
+use Rattle.std.specs.Prelude.{◌≡◌, ◌≢◌, ◌↔◌, ◌⊎◌, ℕ, Bool, true, IsTrue, false, IsFalse, List, [], drop}
+use Rattle.std.specs.Prelude.{Option, None}
 use Rattle.tn_codes.specs.declared.codes.Func.{Func}
 use Rattle.tn_discipline.specs.Characters.{slot}
 use Rattle.tn_option.specs.Options.{state_of}
@@ -73,7 +74,7 @@ pub record FeedCall (piece : List ℕ) (answer : Code) (before after : HeldClien
   pub refused : (answer ≡ code.Done) ⊎ (answer ≡ client_refusal (call_fault before.end))
   pub memory : answer ≡ code.Memory → StopsWithin before.end piece
       before.pending.items after.pending.items before.shown.items after.shown.items
-  pub err : answer ≢ code.Done → after.end.failed ≡ true
+  pub err : answer ≢ code.Done → IsTrue after.end.failed
   pub failed : answer ≡ code.Failed → Untouched before after
 
 -- bytes that waited to be sent were moved to a buffer
@@ -122,6 +123,6 @@ pub record IsClientChar (held : HeldClient) (func : Func) (value : ℕ) : Type 0
 pub record IsOpened (width height limit : ℕ) (held : HeldClient) : Type 0 where
   pub leads : LeadsTo (begun width height limit) held.end
   pub reads : nvt.LeadsTo [] [] held.end.decoder
-  pub runs : held.end.failed ≡ false
+  pub runs : IsFalse held.end.failed
   pub pending : held.pending.items ≡ []
   pub shown : held.shown.items ≡ []

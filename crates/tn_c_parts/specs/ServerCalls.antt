@@ -1,5 +1,6 @@
 -- What each call of a held server end does.
-use Rattle.std.specs.Prelude.{◌≡◌, ◌≢◌, ◌↔◌, ◌⊎◌, ◌*◌, ◌<◌, ◌≤◌, ℕ, Bool, true, false, List, [], ◌∷◌, length}
+use Rattle.std.specs.Prelude.{◌≡◌, ◌≢◌, ◌↔◌, ◌⊎◌, ◌*◌, ◌<◌, ◌≤◌, ℕ, Bool, IsTrue, IsFalse, List, [], ◌∷◌}
+use Rattle.std.specs.Prelude.{length}
 use Rattle.std.specs.Prelude.{min, drop, Option, Some, None, MatchOption}
 use Rattle.tn_codes.specs.Masks.{filled_octets}
 use Rattle.tn_codes.specs.declared.codes.Func.{Func}
@@ -69,15 +70,15 @@ pub record SetOctetsCall (octets : List ℕ) (answer : Code) (before after : Hel
 pub record FeedCall (piece : List ℕ) (answer : Code) (before after : HeldServer) : Type 0 where
   pub ok : answer ≡ code.Done → Feeds before.end piece before.pending.items after.pending.items after.end
   pub accepted : answer ≡ code.Done → call_fault before.end ≡ None
-  pub failed : (answer ≡ code.Failed) ↔ (before.end.failed ≡ true)
+  pub failed : (answer ≡ code.Failed) ↔ IsTrue before.end.failed
   pub failed_stays : answer ≡ code.Failed → Untouched before after
   pub halts : answer ≢ code.Done → answer ≢ code.Failed → (f : ServerFault)
       × (answer ≡ server_code f)
       × StopsWithin before.end piece f before.pending.items after.pending.items after.end
-  pub err : answer ≢ code.Done → after.end.failed ≡ true
+  pub err : answer ≢ code.Done → IsTrue after.end.failed
   pub codes : (answer ≡ code.Done) ⊎ ((answer ≡ code.Memory) ⊎ ((answer ≡ code.Failed)
       ⊎ ((answer ≡ code.TooFarAhead) ⊎ (answer ≡ code.Closed))))
-  pub shut : answer ≡ code.Closed → before.end.terminal.closed ≡ true
+  pub shut : answer ≡ code.Closed → IsTrue before.end.terminal.closed
   pub entry : after.entry ≡ before.entry
 
 pub record TakeCall (old_kind new_kind : ℕ) (answer : Code) (before after : HeldServer) : Type 0 where
@@ -134,7 +135,7 @@ IsServerChar server func value =
 pub record IsOpened (canon : Canon) (held : HeldServer) : Type 0 where
   pub leads : LeadsTo (begun canon) held.end
   pub reads : nvt.LeadsTo [] [] held.end.decoder
-  pub runs : held.end.failed ≡ false
-  pub opens : held.end.terminal.closed ≡ false
+  pub runs : IsFalse held.end.failed
+  pub opens : IsFalse held.end.terminal.closed
   pub pending : held.pending.items ≡ spells opening
   pub entry : held.entry ≡ None

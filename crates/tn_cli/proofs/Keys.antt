@@ -103,7 +103,8 @@ gives_none line r e quiet gives =
     absurd (cc)
 
 pub typed_quiet : {E : Type 0} (old new : Typing) (key : ℕ) (r : Role) (played : Result Effect E) → new.roles ≡ old.roles
-    → r ≡ role_of_key old.roles key → gives_entry r ≡ false → OnOk played (new.line ≡ line_after old.line r) → OnErr played (GivesText old.line r) → new.printed.items ≡ old.printed.items → Types (key ∷ []) old new
+    → r ≡ role_of_key old.roles key → gives_entry r ≡ false → OnOk played (new.line ≡ line_after old.line r) → OnErr played (GivesText old.line r) →
+    new.printed.items ≡ old.printed.items → Types (key ∷ []) old new
 typed_quiet old new key r (Ok e) same is quiet line text shown =
     typed_key old new key r [] same is
     (subst (λ (gain : List Entry). Advances old.line (roles_from r) gain new.line) (quiet_gain old.line r quiet)

@@ -1,6 +1,6 @@
 //! `tn decode`: reads one direction of a stream, and prints its items.
 
-ghost use Rattle.std.specs.Prelude.{◌≡◌, [], true, false, IfOk, IfErr, OnOk, OnErr, IsErrOf};
+ghost use Rattle.std.specs.Prelude.{◌≡◌, [], true, IsTrue, false, IsFalse, IfOk, IfErr, OnOk, OnErr, IsErrOf};
 ghost use Rattle.std.specs.Io.KnownBytes.{IsAtEnd};
 ghost use Rattle.tn_cli.specs.Decode.{Decoded, DecodesSome, HasPrinted, PrintsLast, PrintsPiece, StopsPiece};
 ghost use Rattle.tn_cli.specs.Decode.{WritesLast, WritesPiece};
@@ -89,8 +89,8 @@ fn print_pieces<R: Source, W: Drain>(
     requires { HasPrinted [] [] decoding.now }
     ensures ok { OnOk result (Decoded (R.remaining reader.old) (R.remaining reader.new)
         (W.contents writer.old) (W.contents writer.new) decoding.new) }
-    ensures end { IfOk result (λ whole. whole ≡ true → IsAtEnd (R.remaining reader.new)) }
-    ensures failed { IfOk result (λ whole. whole ≡ false →
+    ensures end { IfOk result (λ whole. IsTrue whole → IsAtEnd (R.remaining reader.new)) }
+    ensures failed { IfOk result (λ whole. IsFalse whole →
         HasFailed max_pieces (R.told reader.old) (R.told reader.new)) }
     ensures err { OnErr result (DecodesSome (R.remaining reader.old) (R.remaining reader.new)
         (W.contents writer.old) (W.contents writer.new)) }

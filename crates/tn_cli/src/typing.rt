@@ -1,6 +1,6 @@
 //! Types keys at one line, and prints the entries that they give.
 
-ghost use Rattle.std.specs.Prelude.{◌≡◌, ◌+◌, ◌<◌, ◌≤◌, ℕ, List, [], ◌∷◌, ◌++◌, true, length, take, IfOk};
+ghost use Rattle.std.specs.Prelude.{◌≡◌, ◌+◌, ◌<◌, ◌≤◌, ℕ, List, [], ◌∷◌, ◌++◌, IsTrue, length, take, IfOk};
 ghost use Rattle.std.specs.Prelude.{vec_len, vec_capacity};
 ghost use Rattle.tn_discipline.specs.Editing.{closing_byte, with_byte};
 ghost use Rattle.tn_discipline.specs.Entries.{line_of};
@@ -131,7 +131,7 @@ impl Typing {
 
     // Types a key of a role that makes an entry, and prints that.
     fn enter(&mut self, role: Role)
-        requires gives { gives_entry role ≡ true }
+        requires gives { IsTrue (gives_entry role) }
         requires room { vec_len self.old.printed + max_entry ≤ vec_capacity self.old.printed }
         ensures types { (key : ℕ) → role ≡ role_of_key self.old.roles key →
             Types (key ∷ []) self.old self.new }

@@ -290,7 +290,13 @@ bounded names (next h (got item)) =
 bounded names (next h (typed key)) =
     omega (arith, bounded names h, size-append (items_said h) (replies h (typed key)), typed_pays h key (edits (mode h)) refl)
 bounded names (next h (resized width height)) =
-    omega (arith, bounded names h, size-append (items_said h) (replies h (resized width height)), resized_pays (tells_size (options h)) (window h) (width, height))
+    omega (
+      arith,
+      bounded names h,
+      size-append (items_said h) (replies h (resized width height)),
+      resized_pays (tells_size (options h)) (window h)
+          (width, height),
+    )
 bounded names (next h (proposed func value)) =
     omega (arith, bounded names h, size-append (items_said h) (replies h (proposed func value)), size-triple func value)
 bounded names (next h (sent command)) =

@@ -1,5 +1,5 @@
 -- Where a history leads a client end, and what a call adds to it, whatever the history was.
-use Rattle.std.specs.Prelude.{◌≡◌, ◌≢◌, ◌⊎◌, ℕ, Bool, true, false, Option, Some, None, option_map}
+use Rattle.std.specs.Prelude.{◌≡◌, ◌≢◌, ◌⊎◌, ℕ, Bool, true, IsTrue, false, Option, Some, None, option_map}
 use Rattle.std.specs.Prelude.{if◌then◌else◌, List, [], ◌∷◌, ◌++◌, length, Vec}
 use Rattle.tn_codes.specs.declared.codes.Func.{Func}
 use Rattle.tn_codes.specs.declared.masks.Mask.{Mask}
@@ -72,7 +72,7 @@ LacksRoomFor old e out = (h : History) → LeadsTo h old → LacksRoom out (leng
 
 -- the key closes a line that is edited here, and gives its text, which takes memory of its own
 abbrev pub GivesTextHere : History → ℕ → Type 0
-GivesTextHere h key = (edits (mode h) ≡ true) × GivesText (line h) (role_at h key)
+GivesTextHere h key = IsTrue (edits (mode h)) × GivesText (line h) (role_at h key)
 
 -- what the client says at a key does not fit what is allocated, or what it shows there does not, or the key
 -- gives a text

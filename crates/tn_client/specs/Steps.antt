@@ -1,5 +1,6 @@
 -- One event at a client end, as a step from what the end knows now. `Calls` ties these steps to histories.
-use Rattle.std.specs.Prelude.{◌≡◌, ◌≢◌, ◌⊎◌, ℕ, Bool, true, false, Option, List, [], ◌++◌, length, take, Vec}
+use Rattle.std.specs.Prelude.{◌≡◌, ◌≢◌, ◌⊎◌, ℕ, Bool, true, IsTrue, false, Option, List, [], ◌++◌, length}
+use Rattle.std.specs.Prelude.{take, Vec}
 use Rattle.std.specs.Prelude.{if◌then◌else◌}
 use Rattle.tn_codes.specs.declared.masks.Mask.{Mask}
 use Rattle.tn_codes.specs.declared.payloads.Payload.{Payload}
@@ -79,7 +80,7 @@ abbrev pub LacksMemoryNow : {Y Z : Type 0} → End → ℕ → Vec ℕ Y → Vec
 LacksMemoryNow old key out screen =
     LacksRoom out (length (spells (says_key old key)))
     ⊎ (LacksRoom screen (length (shows_key old key))
-    ⊎ ((edits old.mode ≡ true) × GivesText old.line (role_now old key)))
+    ⊎ (IsTrue (edits old.mode) × GivesText old.line (role_now old key)))
 
 -- the line where the mask changes: EDIT ends with nothing held, and begins with so many bytes ahead
 abbrev pub line_left : Bool → Bool → ℕ → HalfLine → HalfLine

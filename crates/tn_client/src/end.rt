@@ -1,6 +1,7 @@
 //! The client end: the calls that its owner makes.
 
-ghost use Rattle.std.specs.Prelude.{◌≡◌, ◌≢◌, ◌++◌, ◌∷◌, ℕ, List, true, false, None, [], length, take, IfOk};
+ghost use Rattle.std.specs.Prelude.{◌≡◌, ◌≢◌, ◌++◌, ◌∷◌, ℕ, List, true, IsTrue, false, IsFalse, None, []};
+ghost use Rattle.std.specs.Prelude.{length, take, IfOk};
 ghost use Rattle.std.specs.Prelude.{IfErr, OnOk, OnErr, IsErrOf};
 ghost use Rattle.tn_linemode.specs.Triples.{triple_of};
 ghost use Rattle.tn_nvt.specs.Room.{LacksRoom};
@@ -82,7 +83,7 @@ impl ClientEnd {
     ) -> Result<ClientEnd, ClientFault>
         ensures leads { IfOk result (λ end. LeadsTo (begun width height limit) end) }
         ensures reads { IfOk result (λ end. nvt.LeadsTo [] [] end.decoder) }
-        ensures runs { IfOk result (λ end. end.failed ≡ false) }
+        ensures runs { IfOk result (λ end. IsFalse end.failed) }
         ensures fault { IfErr result (λ fault. fault ≡ ClientFault.Memory) }
     {
         let line = match Line::new(alloc, limit) {
@@ -162,7 +163,7 @@ impl ClientEnd {
         // Some items were done, and it is said why no more were.
         ensures memory { IsErrOf result ClientFault.Memory → StopsWithin self.old piece.now
             out.old.items out.new.items screen.old.items screen.new.items }
-        ensures err { OnErr result (self.new.failed ≡ true) }
+        ensures err { OnErr result (IsTrue self.new.failed) }
 
         ensures failed { IsErrOf result ClientFault.Failed → self.new ≡ self.old }
         ensures failed_out { IsErrOf result ClientFault.Failed → out.new.items ≡ out.old.items }

@@ -1,6 +1,7 @@
 //! What a client end does with a key.
 
-ghost use Rattle.std.specs.Prelude.{◌≡◌, ◌≢◌, ◌⊎◌, ◌<◌, ◌≤◌, ◌++◌, ℕ, [], true, false, length, IfOk, OnOk};
+ghost use Rattle.std.specs.Prelude.{◌≡◌, ◌≢◌, ◌⊎◌, ◌<◌, ◌≤◌, ◌++◌, ℕ, [], true, false, IsFalse, length, IfOk};
+ghost use Rattle.std.specs.Prelude.{OnOk};
 ghost use Rattle.std.specs.Prelude.{OnErr, if◌then◌else◌};
 ghost use Rattle.tn_nvt.specs.Room.{LacksRoom};
 ghost use Rattle.tn_nvt.specs.Spelling.{spells};
@@ -84,7 +85,7 @@ impl ClientEnd {
         ensures value { let terminal = key_settings self.now.mode self.now.table in
             let text = edited_shown (is_echoed self.now.options) terminal role self.now.line in
             result ≡ length text }
-        ensures here { 0 < result → is_echoed self.now.options ≡ false }
+        ensures here { 0 < result → IsFalse (is_echoed self.now.options) }
     {
         if self.is_echoed() {
             return 0;

@@ -1,6 +1,6 @@
 //! Laws of the definitions alone.
 
-ghost use Rattle.std.specs.Prelude.{◌≡◌, ◌↔◌, ◌<◌, ◌≤◌, ◌+◌, ◌*◌, ◌++◌, ℕ, Bool, true, List, All, false};
+ghost use Rattle.std.specs.Prelude.{◌≡◌, ◌↔◌, ◌<◌, ◌≤◌, ◌+◌, ◌*◌, ◌++◌, ℕ, Bool, IsTrue, List, All, IsFalse};
 ghost use Rattle.std.specs.Prelude.{None, [], length, take};
 ghost use Rattle.tn_discipline.specs.Limits.{max_counted};
 ghost use Rattle.tn_linemode.specs.Modes.{edits};
@@ -46,11 +46,11 @@ pub fn half_lines_fit()
 /// Without EDIT no half line is here, and with it none is counted; without LINEMODE there are no mode and
 /// no forward mask.
 pub fn nothing_without_edit()
-    ensures line { (h : History) → edits (mode h) ≡ false → half_line h ≡ [] }
-    ensures ahead { (h : History) → edits (mode h) ≡ false → ahead h ≡ 0 }
-    ensures counts { (isig : Bool) (h : History) → edits (mode h) ≡ true → count_under isig h ≡ 0 }
-    ensures mode { (h : History) → linemode (options h) ≡ false → mode h ≡ 0 }
-    ensures forward { (h : History) → linemode (options h) ≡ false → forward h ≡ None }
+    ensures line { (h : History) → IsFalse (edits (mode h)) → half_line h ≡ [] }
+    ensures ahead { (h : History) → IsFalse (edits (mode h)) → ahead h ≡ 0 }
+    ensures counts { (isig : Bool) (h : History) → IsTrue (edits (mode h)) → count_under isig h ≡ 0 }
+    ensures mode { (h : History) → IsFalse (linemode (options h)) → mode h ≡ 0 }
+    ensures forward { (h : History) → IsFalse (linemode (options h)) → forward h ≡ None }
 {}
 
 /// A command that the user sends leaves the half line as it is, whichever end edits it.

@@ -1,5 +1,5 @@
 -- What a connection took of what a session wrote.
-use Rattle.std.specs.Prelude.{◌≡◌, true, Ok, Some, []}
+use Rattle.std.specs.Prelude.{◌≡◌, IsTrue, Ok, Some, []}
 use Rattle.crossbeam_channel.specs.Claims.{view}
 use Rattle.tn_connect.specs.declared.connected.Connected.{Connected}
 use Rattle.tn_connect.specs.declared.sending.Delivered.{Delivered}
@@ -20,4 +20,4 @@ pub record IsDelivered (table : PieceTable) (key : PieceKey) (delivered : Delive
 -- them where the session tells so.
 abbrev pub TookWhatWasWritten : Connected → Type 0
 TookWhatWasWritten connected =
-    IsSent (put_bytes (view connected.queue)) (connected.all_sent ≡ true) (logged connected.log)
+    IsSent (put_bytes (view connected.queue)) (IsTrue connected.all_sent) (logged connected.log)

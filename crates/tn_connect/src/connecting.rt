@@ -1,6 +1,7 @@
 //! `tn connect`: a client's session over a connection.
 
-ghost use Rattle.std.specs.Prelude.{◌≡◌, ◌≢◌, [], Err, IfErr, IfOk, IsOk, Ok, OnErr, Some, false, true};
+ghost use Rattle.std.specs.Prelude.{◌≡◌, ◌≢◌, [], Err, IfErr, IfOk, IsOk, Ok, OnErr, Some, false, IsFalse};
+ghost use Rattle.std.specs.Prelude.{IsTrue};
 ghost use Rattle.crossbeam_channel.specs.Claims.{view};
 ghost use Rattle.crossbeam_channel.specs.Ends.{sends_on};
 ghost use Rattle.tn_connect.specs.Clients.{ConnectsBy, RunsClient, RunsWriting, connection_of, foreseen};
@@ -382,10 +383,10 @@ fn result_of(
     is_left: bool,
 ) -> Result<Connected, ConnectFault>
     ensures ran { IfOk result (λ r. (talked.ended ≡ Ok (r.report, r.ports)) × (r.queue ≡ talked.queue)) }
-    ensures log { IfOk result (λ r. (r.log ≡ talked.log) × (r.all_sent ≡ true → talked.sent ≡ Ok Whole)) }
+    ensures log { IfOk result (λ r. (r.log ≡ talked.log) × (IsTrue r.all_sent → talked.sent ≡ Ok Whole)) }
     ensures whole { IfOk result (λ r. EndsWhole r.report.ended) }
     ensures connection { IfOk result (λ r. r.connection ≡ connection) }
-    ensures sent { IfOk result (λ _. is_left ≡ false → IsOk talked.sent) }
+    ensures sent { IfOk result (λ _. IsFalse is_left → IsOk talked.sent) }
     ensures fault { IfErr result (λ fault. fault ≡ ConnectFault.Session) }
 {
     let Talked {
@@ -412,7 +413,7 @@ fn result_of(
 
 // Whether all was sent.
 fn is_whole(sent: &io::Result<Sent>) -> bool
-    ensures { result ≡ true → sent.now ≡ Ok Whole }
+    ensures { IsTrue result → sent.now ≡ Ok Whole }
 {
     matches!(sent, Ok(Sent::Whole))
 }

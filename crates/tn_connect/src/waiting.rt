@@ -71,7 +71,8 @@ impl<H: Clock + Wait, K: Source> Source for Patient<H, K> {
     fn read_some(&mut self, buf: &mut [u8]) -> io::Result<usize>
         ensures bound { ReadsAtMost result buf.new }
         ensures bytes { ReadConsumes None None result buf.new }
-        ensures hands_on { ReadConsumes (K.remaining self.old.keys) (K.remaining self.new.keys) result buf.new }
+        ensures hands_on { ReadConsumes (K.remaining self.old.keys)
+            (K.remaining self.new.keys) result buf.new }
     {
         let read = self.keys.read_some(buf);
         if is_last(&read) {

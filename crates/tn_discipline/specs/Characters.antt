@@ -1,6 +1,7 @@
 -- The special characters of a terminal (POSIX.1-2017, XBD 11.1.9), each under the function of the set of
 -- local characters that stands for it on the wire (RFC 1184, section 2.4).
-use Rattle.std.specs.Prelude.{◌≡◌, ℕ, Bool, false, not, ◌&&◌, ◌||◌, ◌==◌, Option, Some, None, List, [], ◌∷◌}
+use Rattle.std.specs.Prelude.{◌≡◌, ℕ, Bool, false, IsFalse, not, ◌&&◌, ◌||◌, ◌==◌, Option, Some, None, List}
+use Rattle.std.specs.Prelude.{[], ◌∷◌}
 use Rattle.std.specs.Prelude.{if◌then◌else◌}
 use Rattle.std.specs.List.{list_any}
 use Rattle.tn_codes.specs.Codes.{func_code}
@@ -97,7 +98,7 @@ char_fault c f value = if is_settable f then value_fault c f value else Some Not
 -- no byte is the character of two functions, and none is reserved
 pub record AreAllowed (c : Characters) : Type 0 where
   pub distinct : (f g : Func) (byte : ℕ) → slot c f ≡ Some byte → slot c g ≡ Some byte → f ≡ g
-  pub unreserved : (f : Func) (byte : ℕ) → slot c f ≡ Some byte → is_reserved byte ≡ false
+  pub unreserved : (f : Func) (byte : ℕ) → slot c f ≡ Some byte → IsFalse (is_reserved byte)
 
 -- control-C, control-backslash, control-D, control-Z, delete and control-U; EOL and EOL2 are disabled
 abbrev pub standard_characters : Characters

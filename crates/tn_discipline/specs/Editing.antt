@@ -1,5 +1,5 @@
 -- Keys that edit a line and make no entry, and keys that close it.
-use Rattle.std.specs.Prelude.{◌≡◌, ℕ, false, Option, Some, None, List, [], ◌∷◌, ◌++◌}
+use Rattle.std.specs.Prelude.{◌≡◌, ℕ, IsFalse, Option, Some, None, List, [], ◌∷◌, ◌++◌}
 use Rattle.tn_discipline.specs.HalfLine.{HalfLine}
 use Rattle.tn_discipline.specs.Keys.{role_of_key, gives_entry}
 use Rattle.tn_discipline.specs.declared.termios.Settings.{Settings}
@@ -8,7 +8,7 @@ use Rattle.tn_discipline.specs.declared.keys.Role.TheVariants as role
 
 -- a key that makes no entry
 abbrev pub IsQuiet : Settings → ℕ → Type 0
-IsQuiet settings key = gives_entry (role_of_key settings key) ≡ false
+IsQuiet settings key = IsFalse (gives_entry (role_of_key settings key))
 
 -- the line of these parts
 abbrev pub line_at : List ℕ → ℕ → ℕ → HalfLine

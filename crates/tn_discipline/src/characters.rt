@@ -4,7 +4,7 @@ ghost use Rattle.std.specs.Prelude.{◌≡◌, ◌↔◌, Some, None, find, IfEr
 ghost use Rattle.tn_codes.specs.declared.codes.Func.{Func};
 ghost use Rattle.tn_discipline.specs.Characters.{standard_characters, AreAllowed, slot, with_slot};
 ghost use Rattle.tn_discipline.specs.Characters.{special_functions, is_settable, is_set_to, is_taken};
-ghost use Rattle.tn_discipline.specs.Characters.{char_fault};
+ghost use Rattle.tn_discipline.specs.Characters.{char_fault, is_reserved};
 
 use std::marker::Model;
 use thiserror::Error;
@@ -127,6 +127,13 @@ impl Model for Chars {
     } };
 }
 
+/// Whether no special character may be this byte: a line feed, a carriage return and 255, which is IAC.
+pub fn is_reserved(byte: u8) -> bool
+    ensures { result ≡ is_reserved byte }
+{
+    byte == b'\n' || byte == b'\r' || byte == 255
+}
+
 impl Chars {
     /// The characters of a new terminal: the bytes 3, 28, 4, 26, 127 and 21, and no
     /// EOL or EOL2. POSIX.1-2017, XBD 11.1.9 names no values.
@@ -164,7 +171,7 @@ impl Chars {
             return Some(CharFault::NotSettable);
         }
         let byte = value?;
-        if byte == b'\n' || byte == b'\r' || byte == 255 {
+        if is_reserved(byte) {
             return Some(CharFault::Reserved);
         }
         if self.is_taken(func, byte) {

@@ -1,5 +1,5 @@
 //! Keys that make no entry, one after another, at the parts of a line.
-ghost use Rattle.std.specs.Prelude.{◌≡◌, ◌+◌, ◌<◌, ◌≤◌, false, true, All, length, take, get_or, vec_len};
+ghost use Rattle.std.specs.Prelude.{◌≡◌, ◌+◌, ◌<◌, ◌≤◌, IsFalse, IsTrue, All, length, take, get_or, vec_len};
 ghost use Rattle.std.specs.Prelude.{vec_capacity};
 ghost use Rattle.tn_discipline.specs.Keys.{role_of_key, gives_entry};
 ghost use Rattle.tn_discipline.specs.HalfLine.{line_after, line_kept, line_erased};
@@ -26,7 +26,7 @@ pub(crate) fn edit_front(parts: Parts, roles: &Roles, keys: &[u8]) -> (Parts, us
     ensures within { result.1 ≤ length keys.now }
     ensures quiet { All (IsQuiet roles.now) (take result.1 keys.now) }
     ensures next { result.1 < length keys.now →
-        gives_entry (role_of_key roles.now (get_or keys.now result.1 0)) ≡ true }
+        IsTrue (gives_entry (role_of_key roles.now (get_or keys.now result.1 0))) }
 
     ensures line { let typed = each_role roles.now (take result.1 keys.now) in
         line_at result.0.held.items result.0.ahead result.0.limit
@@ -50,7 +50,7 @@ pub(crate) fn edit_front(parts: Parts, roles: &Roles, keys: &[u8]) -> (Parts, us
 
 // What a key of this role does, which makes no entry.
 fn edit(parts: &mut Parts, role: Role)
-    requires quiet { gives_entry role ≡ false }
+    requires quiet { IsFalse (gives_entry role) }
     requires room { parts.old.limit ≤ vec_capacity parts.old.held }
     requires fits { parts.old.ahead + vec_len parts.old.held < parts.old.limit }
 

@@ -1,6 +1,6 @@
 //! The half line that is being typed.
 
-ghost use Rattle.std.specs.Prelude.{◌≡◌, ◌==◌, ◌<◌, ◌≤◌, ◌+◌, ◌-◌, true, [], ◌∷◌, ◌++◌, All, length, take};
+ghost use Rattle.std.specs.Prelude.{◌≡◌, ◌==◌, ◌<◌, ◌≤◌, ◌+◌, ◌-◌, IsTrue, [], ◌∷◌, ◌++◌, All, length, take};
 ghost use Rattle.std.specs.Prelude.{get_or, min, IfOk, OnOk, OnErr, vec_len, vec_capacity};
 ghost use Rattle.tn_discipline.specs.Keys.{roles_of, role_of_key, literal_role, roles_from, gives_entry};
 ghost use Rattle.tn_discipline.specs.Limits.{max_counted};
@@ -191,7 +191,7 @@ impl Line {
         ensures within { result ≤ length keys.now }
         ensures quiet { All (IsQuiet roles.now) (take result keys.now) }
         ensures next { result ≡ 0 → 0 < length keys.now →
-            gives_entry (role_of_key roles.now (get_or keys.now 0 0)) ≡ true }
+            IsTrue (gives_entry (role_of_key roles.now (get_or keys.now 0 0))) }
     {
         self.edit_some(roles, keys)
     }
@@ -298,7 +298,7 @@ impl Line {
         ensures within { result ≤ length keys.now }
         ensures quiet { All (IsQuiet roles.now) (take result keys.now) }
         ensures next { result ≡ 0 → 0 < length keys.now →
-            gives_entry (role_of_key roles.now (get_or keys.now 0 0)) ≡ true }
+            IsTrue (gives_entry (role_of_key roles.now (get_or keys.now 0 0))) }
     {
         let count = roles.ordinary_front(keys);
         if count >= LONG_RUN {
@@ -315,7 +315,7 @@ impl Line {
         ensures within { result ≤ length keys.now }
         ensures quiet { All (IsQuiet roles.now) (take result keys.now) }
         ensures next { result < length keys.now →
-            gives_entry (role_of_key roles.now (get_or keys.now result 0)) ≡ true }
+            IsTrue (gives_entry (role_of_key roles.now (get_or keys.now result 0))) }
     {
         let alloc = *self.held.allocator();
         let parts = Parts {

@@ -12,7 +12,7 @@
 //! always set.
 #![tactic(auto)]
 
-pub use characters::{CharFault, Chars, SPECIAL};
+pub use characters::{CharFault, Chars, SPECIAL, is_reserved};
 pub use echo::{BELL, Symbol, echo_of, echo_of_role};
 pub use half_line::{Effect, Line};
 pub use keys::{Role, role_of, role_of_literal};

@@ -1,6 +1,6 @@
 //! How long a line may be.
 
-ghost use Rattle.std.specs.Prelude.{◌≡◌, Some, None, true, if◌then◌else◌};
+ghost use Rattle.std.specs.Prelude.{◌≡◌, Some, None, IsTrue, if◌then◌else◌};
 ghost use Rattle.tn_discipline.specs.Limits.{standard_limit, is_limit};
 
 use std::marker::Model;
@@ -18,14 +18,14 @@ pub struct Limit {
 }
 
 impl Model for Limit {
-    ghost use Rattle.std.specs.Prelude.{ℕ, ◌≡◌, true};
+    ghost use Rattle.std.specs.Prelude.{ℕ, ◌≡◌, IsTrue};
     ghost use Rattle.tn_discipline.specs.Limits.{is_limit};
 
     ghost Value = { ℕ };
 
     ghost view = { λ limit. limit.bytes };
 
-    ghost invariant = { λ limit. is_limit limit.bytes ≡ true };
+    ghost invariant = { λ limit. IsTrue (is_limit limit.bytes) };
 
     ghost inverse = { λ bytes. record { bytes = bytes } };
 }
@@ -54,7 +54,7 @@ impl Limit {
     /// The number of bytes.
     pub fn bytes(self) -> u16
         ensures value { result ≡ self }
-        ensures within { is_limit self ≡ true }
+        ensures within { IsTrue (is_limit self) }
     {
         self.bytes
     }

@@ -1,6 +1,6 @@
 -- The headline over the two programs: of what `serve_connection` and `connect` return. Read
 -- `HeadlineOfPrograms` at the end first.
-use Rattle.std.specs.Prelude.{◌≡◌, ℕ, true, Option, Some, List}
+use Rattle.std.specs.Prelude.{◌≡◌, ℕ, IsTrue, Option, Some, List}
 use Rattle.crossbeam_channel.specs.Claims.{view}
 use Rattle.tn_connect.specs.Clients.{RunsClient, window_of}
 use Rattle.tn_connect.specs.Sent.{TookWhatWasWritten}
@@ -50,7 +50,7 @@ pub record AreTheirs {J : Type 0} {facts : JobFacts J} (p : Programs facts) : Ty
   pub client_read : all_read (client_transcript p) ≡ came_by (view p.connected.ports.net).net
   pub client_wrote : Some (all_wrote (client_transcript p)) ≡ put_bytes (view p.connected.queue)
   pub client_sent : IsPrefixOf (logged p.connected.log) (all_wrote (client_transcript p))
-  pub client_sent_all : p.connected.all_sent ≡ true → logged p.connected.log ≡ all_wrote (client_transcript p)
+  pub client_sent_all : IsTrue p.connected.all_sent → logged p.connected.log ≡ all_wrote (client_transcript p)
 
 -- what the job took, and what one local terminal gives for the keys that were read, with the commands between
 -- them

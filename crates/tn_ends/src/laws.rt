@@ -11,7 +11,8 @@ use tn_two_sessions::laws::what_you_type_is_what_the_job_reads;
 /// is a prefix of the entries of the keys that the client read, and all of them where both ran to the end.
 pub fn what_you_type_over_a_connection_is_read<M: Maker>()
     ensures { (maker : M) →
-        HeadlineOfPrograms (job_facts (begins M.Job.fresh M.gives maker) M.Job.reacts M.Job.steps M.Job.refuses) }
+        HeadlineOfPrograms (job_facts (begins M.Job.fresh M.gives maker) M.Job.reacts M.Job.steps
+        M.Job.refuses) }
 {
     what_you_type_is_what_the_job_reads::<M>();
 }

@@ -1,6 +1,6 @@
 //! The jobs that a terminal holds, by their numbers.
 
-ghost use Rattle.std.specs.Prelude.{◌≡◌, ◌≢◌, ◌+◌, ◌<◌, [], Some, None, true, false, IsSome};
+ghost use Rattle.std.specs.Prelude.{◌≡◌, ◌≢◌, ◌+◌, ◌<◌, [], Some, None, IsTrue, IsFalse, IsSome};
 ghost use Rattle.std.specs.Prelude.{IfOk, OnOk, IfErr, OnErr, IsErrOf, MatchOption};
 ghost use Rattle.std.specs.Result.{result_err};
 ghost use Rattle.tn_jobs.specs.Jobs.{state_at, with_state, held_count, IsTable, IsHeldBelow, HasNoGap};
@@ -173,7 +173,7 @@ impl Table {
 
     fn set(&mut self, id: JobId, state: JobState)
         requires held { IsSome (state_at self.old id.0) }
-        requires one_foreground { is_foreground (Some state) ≡ true → has_foreground self.old ≡ false }
+        requires one_foreground { IsTrue (is_foreground (Some state)) → IsFalse (has_foreground self.old) }
         requires not_ended { state ≢ JobState.Ended }
         ensures { self.new ≡ with_state self.old id.0 (Some state) }
     {

@@ -1,6 +1,7 @@
 -- What one triple of a list of local characters says (RFC 1184, section 2.4): a function,
 -- a modifier and a character.
-use Rattle.std.specs.Prelude.{◌≡◌, ℕ, ◌==◌, Bool, true, false, not, Option, Some, None, find, bit_and, bit_or}
+use Rattle.std.specs.Prelude.{◌≡◌, ℕ, ◌==◌, Bool, IsTrue, IsFalse, not, Option, Some, None, find, bit_and}
+use Rattle.std.specs.Prelude.{bit_or}
 use Rattle.std.specs.Prelude.{if◌then◌else◌}
 use Rattle.tn_codes.specs.Codes.{func_code}
 use Rattle.tn_codes.specs.declared.codes.Func.{Func}
@@ -74,5 +75,5 @@ acknowledged_triple t = record t { flags = bit_or t.flags 128 }
 
 -- what a triple can say of a function with a character: 255 is never its character
 pub record IsOffer (f : Func) (value : Option ℕ) : Type 0 where
-  pub settable : is_settable f ≡ true
-  pub no_escape : is_set_to value 255 ≡ false
+  pub settable : IsTrue (is_settable f)
+  pub no_escape : IsFalse (is_set_to value 255)

@@ -1,6 +1,6 @@
 //! Laws of the exchange of local characters, over the definitions alone.
 
-ghost use Rattle.std.specs.Prelude.{◌≡◌, ◌≤◌, ◌<◌, ℕ, true, false, Some, List, [], length, bit_and};
+ghost use Rattle.std.specs.Prelude.{◌≡◌, ◌≤◌, ◌<◌, ℕ, IsTrue, IsFalse, Some, List, [], length, bit_and};
 ghost use Rattle.std.specs.List.{list_all};
 ghost use Rattle.tn_codes.specs.Codes.{level_code};
 ghost use Rattle.tn_codes.specs.declared.triples.Triple.{Triple};
@@ -32,7 +32,7 @@ pub fn answers_bounded()
 pub fn exchanges_end()
     ensures answers { (c s : Characters) (ts : List Triple) → server_answers s (client_answers c ts) ≡ [] }
     ensures table { (c s : Characters) (ts : List Triple) → server_after s (client_answers c ts) ≡ s }
-    ensures asks { (c : Characters) (ts : List Triple) → server_is_asked (client_answers c ts) ≡ false }
+    ensures asks { (c : Characters) (ts : List Triple) → IsFalse (server_is_asked (client_answers c ts)) }
     ensures sent_back { (c d : Characters) (ts : List Triple) → client_answers d (client_answers c ts) ≡ [] }
     ensures repeated { (c : Characters) (ts : List Triple) (n : ℕ) →
         AreAllowed c → length ts < n → repeated n c ts ≡ [] }
@@ -42,9 +42,10 @@ pub fn exchanges_end()
 
 /// At the server acknowledgements change nothing, and are not answered.
 pub fn acknowledgements_end_the_exchange()
-    ensures table { (c : Characters) (ts : List Triple) → list_all has_ack ts ≡ true → server_after c ts ≡ c }
+    ensures table { (c : Characters) (ts : List Triple) → IsTrue (list_all has_ack ts) → server_after c ts
+        ≡ c }
     ensures answers { (c : Characters) (ts : List Triple) →
-        list_all has_ack ts ≡ true → server_answers c ts ≡ [] }
+        IsTrue (list_all has_ack ts) → server_answers c ts ≡ [] }
 {}
 
 /// A client that was sent the server's table has it, whatever it had before; the server keeps it at

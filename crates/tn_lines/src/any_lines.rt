@@ -20,7 +20,8 @@ pub enum AnyLines {
 impl AnyLines {
     /// Takes the next bytes, as lines of their kind do.
     pub fn take(&mut self, bytes: &[u8], output: &mut Output) -> Result<(), AllocError>
-        ensures { OnOk result (Takes self.old bytes.now output.new.said.items output.new.shown.items self.new) }
+        ensures { OnOk result (Takes self.old bytes.now output.new.said.items output.new.shown.items
+            self.new) }
     {
         match self {
             AnyLines::Typed(lines) => lines.take(bytes, output),

@@ -1,6 +1,6 @@
 //! Laws of the definitions alone.
 
-ghost use Rattle.std.specs.Prelude.{◌≡◌, false, ℕ, List, All, [], ◌∷◌, ◌++◌};
+ghost use Rattle.std.specs.Prelude.{◌≡◌, false, IsFalse, ℕ, List, All, [], ◌∷◌, ◌++◌};
 ghost use Rattle.tn_discipline.specs.Canon.{Canon, typed_entries};
 ghost use Rattle.tn_discipline.specs.Keys.{roles_of};
 ghost use Rattle.tn_discipline.specs.declared.keys.Role.{Role};
@@ -14,7 +14,7 @@ ghost use Rattle.tn_lines.specs.declared.line_ends.LineEnd.{LineEnd};
 /// keys.
 pub fn lines_are_those_of_a_local_terminal()
     ensures { (canon : Canon) (line_end : LineEnd) (keys : List ℕ) →
-        All (λ r. interrupts r ≡ false) (roles_of canon.settings keys) →
+        All (λ r. IsFalse (interrupts r)) (roles_of canon.settings keys) →
         said_of canon line_end keys ≡ due line_end (typed_entries canon keys) }
 {}
 

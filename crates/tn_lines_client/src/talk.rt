@@ -132,8 +132,10 @@ impl Talk {
         screen: &mut S,
     ) -> Result<Option<Over>, TalkFault>
         ensures { OnOk result ((keys told : Option (List ℕ)) →
-            GoesOn (streams keys (N.remaining service.old) told (S.contents screen.old) (A.warned ready.old)) self.old
-            (streams keys (N.remaining service.new) told (S.contents screen.new) (A.warned ready.new)) self.new) }
+            GoesOn (streams keys (N.remaining service.old) told (S.contents screen.old)
+            (A.warned ready.old)) self.old
+            (streams keys (N.remaining service.new) told (S.contents screen.new)
+            (A.warned ready.new)) self.new) }
     {
         let mut piece = [0; PIECE_BYTES];
         match service.read_some(&mut piece) {

@@ -1,5 +1,5 @@
 -- The bytes that messages bring, and how many of them were taken.
-use Rattle.std.specs.Prelude.{◌≡◌, ℕ, Bool, false, List, [], ◌++◌}
+use Rattle.std.specs.Prelude.{◌≡◌, ℕ, Bool, IsFalse, List, [], ◌++◌}
 use Rattle.tn_machines.specs.declared.messages.Message.{Message}
 use Rattle.tn_machines.specs.declared.messages.Message.TheVariants.{Piece}
 use Rattle.tn_nvt.specs.Feeding.{DecoderState}
@@ -22,4 +22,4 @@ WantsMemoryWithin stream had piece =
 pub record TakesFront {A : Type 0} (over : Bool) (all taken : List A) : Type 0 where
   pub rest : List A
   pub front : all ≡ taken ++ rest
-  pub whole : over ≡ false → rest ≡ []
+  pub whole : IsFalse over → rest ≡ []

@@ -1,6 +1,6 @@
 //! How a session ends.
 
-ghost use Rattle.std.specs.Prelude.{◌≡◌, true, false};
+ghost use Rattle.std.specs.Prelude.{◌≡◌, true, IsTrue, false, IsFalse};
 ghost use Rattle.tn_machines.specs.Counting.{first_end};
 ghost use Rattle.tn_machines.specs.Ending.{EndsWhole};
 
@@ -53,8 +53,8 @@ impl Ended {
 
     /// Whether it is no fault.
     pub fn is_whole(self) -> bool
-        ensures whole { result ≡ true → EndsWhole self }
-        ensures faulted { result ≡ false → ¬ EndsWhole self }
+        ensures whole { IsTrue result → EndsWhole self }
+        ensures faulted { IsFalse result → ¬ EndsWhole self }
     {
         match self {
             Ended::HangUp | Ended::Done => true,

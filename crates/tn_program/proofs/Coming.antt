@@ -117,7 +117,8 @@ comes_of_nothing : (machine : Machine) (words : List (List ℕ)) (origin : KeySo
 comes_of_nothing machine words origin bytes old new came nothing (inl (a, asks, h)) = absurd (nothing.0 a asks)
 comes_of_nothing machine words origin bytes old new came nothing (inr h) = unrun words old new came nothing h
 
-pub refused : (machine : Machine) (words : List (List ℕ)) (origin : KeySource) (bytes : Option (List ℕ)) (old new : Option (List ℕ)) (came : Outcome) (status : ℕ)
+pub refused : (machine : Machine) (words : List (List ℕ)) (origin : KeySource) (bytes : Option (List ℕ)) (old new : Option (List ℕ)) (came : Outcome)
+    (status : ℕ)
     → status ≡ status_of came → ComesOf machine words origin bytes old new came → AskForNothing words → ((status ≡ 2) ⊎ (status ≡ 1)) × (new ≡ old)
 refused machine words origin bytes old new came status is comes nothing =
     subst (λ (s : ℕ). ((s ≡ 2) ⊎ (s ≡ 1)) × (new ≡ old)) (sym is) (comes_of_nothing machine words origin bytes old new came nothing comes)

@@ -7,7 +7,8 @@ use Rattle.tn_program.specs.Settings.{origin_as}
 use Rattle.tn_words.specs.declared.settings.Characters.{Characters}
 use Rattle.tn_words.specs.declared.settings.Characters.TheVariants.{Own, Standard}
 
-pub foreseen_as : (characters : Characters) (origin : KeySource) (bytes : Option (List ℕ)) → foreseen (origin_as characters origin) bytes ≡ foreseen origin bytes
+pub foreseen_as : (characters : Characters) (origin : KeySource) (bytes : Option (List ℕ)) → foreseen (origin_as characters origin) bytes
+    ≡ foreseen origin bytes
 foreseen_as Own origin bytes = refl
 foreseen_as Standard Reader bytes = refl
 foreseen_as Standard Input bytes = refl

@@ -56,7 +56,8 @@ pub record EndsConnecting (machine : Machine) (connecting : ConnectWords)
   pub unwritten : OnErr ended (ended ≢ Err connect.Session → new ≡ old)
 
 -- What came of a talk with a service that takes lines.
-pub record EndsTalking (machine : Machine) (connecting : ConnectWords) (ended : Result TalkReport ConnectFault)
+pub record EndsTalking (machine : Machine) (connecting : ConnectWords)
+    (ended : Result TalkReport ConnectFault)
     (origin : KeySource)
     (bytes old new : Option (List ℕ)) : Type 0 where
   pub line_end : LineEnd
@@ -126,7 +127,8 @@ ComesOf machine words origin bytes old new came =
     ⊎ ComesOfNoRun words old new came
 
 -- the status of what came of the words, of which this was told
-abbrev pub EndsWith : Machine → List (List ℕ) → KeySource → Option (List ℕ) → Option (List ℕ) → Option (List ℕ)
+abbrev pub EndsWith : Machine → List (List ℕ) → KeySource → Option (List ℕ) → Option (List ℕ) →
+    Option (List ℕ)
     → (Outcome → Type 0) → ℕ → Type 0
 EndsWith machine words origin bytes old new told status =
     (came : Outcome) × ComesOf machine words origin bytes old new came × told came × (status ≡ status_of came)

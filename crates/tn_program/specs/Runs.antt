@@ -38,7 +38,8 @@ talked report = Ok report
 -- Where it served, as many connections were accepted as were asked for, or the file was seen, and nothing was
 -- written; where it connected, a client's session ran with these keys and this screen, and ended in no fault,
 -- or a talk was held.
-abbrev pub RunsAsked : Machine → Asked → KeySource → Option (List ℕ) → Option (List ℕ) → Option (List ℕ) → Type 0
+abbrev pub RunsAsked : Machine → Asked → KeySource → Option (List ℕ) → Option (List ℕ) → Option (List ℕ) →
+    Type 0
 RunsAsked machine Local origin bytes old new = IfSome bytes (λ keys. PrintsKeys keys old new)
 RunsAsked machine Replay origin bytes old new = IfSome bytes (λ stream. Replays stream old new)
 RunsAsked machine Decode origin bytes old new = IfSome bytes (λ stream. Decodes stream old new)

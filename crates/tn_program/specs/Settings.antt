@@ -1,5 +1,6 @@
 -- What was asked for, as sessions over connections take it.
-use Rattle.std.specs.Prelude.{◌≡◌, ℕ, Bool, true, false, Option, None, Some, IsSome, unwrap_or, List, Result}
+use Rattle.std.specs.Prelude.{◌≡◌, ℕ, Bool, true, IsTrue, false, Option, None, Some, IsSome, unwrap_or, List}
+use Rattle.std.specs.Prelude.{Result}
 use Rattle.std.specs.Prelude.{Ok, Err, string_bytes}
 use Rattle.tn_services.specs.declared.answerers.Answerers.{Answerers}
 use Rattle.tn_services.specs.declared.cutting.LineFormat.{LineFormat}
@@ -49,7 +50,7 @@ options_as asked =
 
 -- the jobs are still to be made, and the one in the background ticks so often
 pub record AnswersAsAsked (count : ℕ) (jobs : Answerers) : Type 0 where
-  pub first : jobs.first ≡ true
+  pub first : IsTrue jobs.first
   pub ticks : jobs.ticks ≡ count
 
 -- how lines go to the service

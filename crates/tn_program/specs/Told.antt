@@ -1,5 +1,6 @@
 -- What is told on standard error of what came of the words.
-use Rattle.std.specs.Prelude.{◌≡◌, ◌≢◌, ◌⊎◌, ⊤, ℕ, ◌==◌, ◌||◌, decimal, if◌then◌else◌, not, Bool, true, false}
+use Rattle.std.specs.Prelude.{◌≡◌, ◌≢◌, ◌⊎◌, ⊤, ℕ, ◌==◌, ◌||◌, decimal, if◌then◌else◌, not, Bool, true}
+use Rattle.std.specs.Prelude.{IsTrue, false, IsFalse}
 use Rattle.std.specs.Prelude.{Option, Some, None, List, [], ◌∷◌, ◌++◌, Result, Ok, Err, codes, string_bytes}
 use Rattle.tn_cli.specs.declared.fault.CliFault.{CliFault}
 use Rattle.tn_cli.specs.declared.fault.CliFault.TheVariants as run
@@ -130,8 +131,8 @@ has_unprinted outcome.Memory = false
 -- where all went well, all of a stream was printed and there is no cause to tell, nothing was told
 abbrev pub TellsAll : Outcome → List ℕ → KnownWriting → Type 0
 TellsAll came causes writer =
-    ((status_of came ≡ 0) × (has_unprinted came ≡ false) × (causes ≡ []) × (writer.after ≡ writer.before))
-    ⊎ (((status_of came ≢ 0) ⊎ (has_unprinted came ≡ true) ⊎ (causes ≢ [])) × TellsSome came causes writer)
+    ((status_of came ≡ 0) × IsFalse (has_unprinted came) × (causes ≡ []) × (writer.after ≡ writer.before))
+    ⊎ (((status_of came ≢ 0) ⊎ IsTrue (has_unprinted came) ⊎ (causes ≢ [])) × TellsSome came causes writer)
 
 -- a server tells of its sessions meanwhile, and a client of its connection
 abbrev pub UnlessTelling : Outcome → Type 0 → Type 0

@@ -208,7 +208,9 @@ fn run_asked<
             Outcome::Served(served)
         },
         Asked::Connect(asked) => match asked.plain {
-            Some(line_end) => run_plain(rt, alloc, &asked, line_end, streams, writer, errors, causes),
+            Some(line_end) => run_plain(
+                rt, alloc, &asked, line_end, streams, writer, errors, causes,
+            ),
             None => run_connect(rt, alloc, asked, streams, writer, errors, causes),
         },
     }

@@ -46,7 +46,8 @@ where
     // its own job, as often as was asked for
     ensures answers { asked.now.to ≡ None → IfOk result (λ served. CountsSessions (server_of (facts_of
         ⟦<Answerer as Job>⟧.fresh ⟦<Answerers as Maker>⟧.gives ⟦<Answerer as Job>⟧.reacts
-        ⟦<Answerer as Job>⟧.steps ⟦<Answerer as Job>⟧.refuses) ⟦<Answerers as Maker>⟧.left (options_as asked.now)
+        ⟦<Answerer as Job>⟧.steps ⟦<Answerer as Job>⟧.refuses) ⟦<Answerers as Maker>⟧.left
+        (options_as asked.now)
         (AnswersAsAsked asked.now.ticks) (WasTurnedAway (H.dismisses rt)))
         served.whole served.faulted served.refused) }
 

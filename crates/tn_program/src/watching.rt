@@ -1,6 +1,6 @@
 //! A file that ends a server.
 
-ghost use Rattle.std.specs.Prelude.{◌≡◌, true};
+ghost use Rattle.std.specs.Prelude.{◌≡◌, IsTrue};
 
 use std::fs;
 use std::fs::{File, Files};
@@ -16,7 +16,7 @@ pub trait Lookout {
 
     /// Whether a file is at this path. Where that can't be told, none is.
     fn has_file(&self, path: &str) -> bool
-        ensures { result ≡ true → sees self.now path.now };
+        ensures { IsTrue result → sees self.now path.now };
 }
 
 impl<H: Files<File = File>> Lookout for H {

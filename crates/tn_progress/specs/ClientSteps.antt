@@ -1,5 +1,6 @@
 -- What the threads of a client's session may do next.
-use Rattle.std.specs.Prelude.{◌≡◌, ◌≢◌, ℕ, ◌+◌, ◌-◌, ◌*◌, ◌<◌, ◌≤◌, Bool, true, false, ◌||◌, ◌⊎◌}
+use Rattle.std.specs.Prelude.{◌≡◌, ◌≢◌, ℕ, ◌+◌, ◌-◌, ◌*◌, ◌<◌, ◌≤◌, Bool, true, IsTrue, false, IsFalse, ◌||◌}
+use Rattle.std.specs.Prelude.{◌⊎◌}
 use Rattle.tn_progress.specs.Server.{one, End, nothing_comes, no_memory}
 use Rattle.tn_progress.specs.Client.{reading, net_hands, net_tells, net_leaves, net_gone, held, typing}
 use Rattle.tn_progress.specs.Client.{keys_hands, looking, keys_tells, keys_leaves, keys_gone, Core, receiving}
@@ -111,21 +112,21 @@ MayGo sizes hands_piece s = (s.net ≡ net_hands) × HasRoom sizes s
 MayGo sizes (tells_end e) s = (s.net ≡ net_tells e) × HasRoom sizes s
 MayGo sizes leaves_net s = (s.net ≡ net_leaves) × HasRoom sizes s
 MayGo sizes may_read s = (s.typist ≡ held) × IsLittle sizes s
-MayGo sizes sees_end s = ((s.typist ≡ held) ⊎ (s.typist ≡ typing)) × (s.closed ≡ true)
+MayGo sizes sees_end s = ((s.typist ≡ held) ⊎ (s.typist ≡ typing)) × IsTrue s.closed
 MayGo sizes hands_keys s = (s.typist ≡ keys_hands) × HasRoom sizes s
-MayGo sizes goes_on_reading s = (s.typist ≡ looking) × (s.stop ≡ false)
-MayGo sizes is_stopped s = (s.typist ≡ looking) × (s.stop ≡ true)
+MayGo sizes goes_on_reading s = (s.typist ≡ looking) × IsFalse s.stop
+MayGo sizes is_stopped s = (s.typist ≡ looking) × IsTrue s.stop
 MayGo sizes (tells_keys_end e) s = (s.typist ≡ keys_tells e) × HasRoom sizes s
 MayGo sizes leaves_keys s = (s.typist ≡ keys_leaves) × HasRoom sizes s
 MayGo sizes (handles true refused kind) s =
     (s.core ≡ receiving) × (s.lefts ≢ 2) × (0 < count_of kind s.box) × MayWrite sizes.answers kind
 MayGo sizes (handles false refused kind) s = (s.core ≡ receiving) × (s.lefts ≢ 2) × (0 < count_of kind s.box)
 MayGo sizes puts s = (s.core ≡ putting) × HasPlace sizes s
-MayGo sizes puts_in_vain s = (s.core ≡ putting) × ((s.sending ≡ sent_all) ⊎ (s.is_put ≡ true))
-MayGo sizes puts_end s = (s.core ≡ closing) × HasPlace sizes s × (s.is_put ≡ false)
-MayGo sizes puts_end_in_vain s = (s.core ≡ closing) × (s.sending ≡ sent_all) × (s.is_put ≡ false)
-MayGo sizes closes s = (s.core ≡ receiving) × (s.lefts ≡ 2) × (s.is_put ≡ false)
-MayGo sizes joins s = (s.core ≡ receiving) × (s.lefts ≡ 2) × (s.is_put ≡ true)
+MayGo sizes puts_in_vain s = (s.core ≡ putting) × ((s.sending ≡ sent_all) ⊎ IsTrue s.is_put)
+MayGo sizes puts_end s = (s.core ≡ closing) × HasPlace sizes s × IsFalse s.is_put
+MayGo sizes puts_end_in_vain s = (s.core ≡ closing) × (s.sending ≡ sent_all) × IsFalse s.is_put
+MayGo sizes closes s = (s.core ≡ receiving) × (s.lefts ≡ 2) × IsFalse s.is_put
+MayGo sizes joins s = (s.core ≡ receiving) × (s.lefts ≡ 2) × IsTrue s.is_put
 MayGo sizes finishes s = (s.core ≡ joining) × (s.net ≡ net_gone) × (s.typist ≡ keys_gone)
     × (s.sending ≡ sent_all)
 MayGo sizes takes_write s = (s.sending ≡ taking) × (0 < s.writes)
@@ -201,7 +202,7 @@ pub data Reached (sizes : Sizes) : State → Type 0 where
 -- the network to which it is sent
 pub data WaitsFor (s : State) : Type 0 where
   for_network : s.net ≡ reading → WaitsFor s
-  for_user : s.typist ≡ typing → s.closed ≡ false → WaitsFor s
+  for_user : s.typist ≡ typing → IsFalse s.closed → WaitsFor s
   for_screen : s.core ≡ showing → WaitsFor s
   for_sending : s.sending ≡ sends → WaitsFor s
 
@@ -216,7 +217,7 @@ NeverGetsStuck =
 -- the queue holds three writes more than the mailbox and what may wait while keys are read.
 abbrev pub NeverWaitsToSend : Type 0
 NeverWaitsToSend =
-    (sizes : Sizes) (s : State) → sizes.answers ≡ false → sizes.mark + sizes.mails + 3 ≤ sizes.queue
+    (sizes : Sizes) (s : State) → IsFalse sizes.answers → sizes.mark + sizes.mails + 3 ≤ sizes.queue
     → Reached sizes s
     → (s.core ≡ putting) ⊎ (s.core ≡ closing) → HasPlace sizes s ⊎ (s.sending ≡ sent_all)
 

@@ -1,5 +1,6 @@
 -- What the threads of a server's session may do next.
-use Rattle.std.specs.Prelude.{◌≡◌, ◌≢◌, ℕ, zero, suc, ◌+◌, ◌-◌, ◌*◌, ◌<◌, ◌≤◌, Bool, true, false, ◌||◌, ◌⊎◌}
+use Rattle.std.specs.Prelude.{◌≡◌, ◌≢◌, ℕ, zero, suc, ◌+◌, ◌-◌, ◌*◌, ◌<◌, ◌≤◌, Bool, true, IsTrue, false}
+use Rattle.std.specs.Prelude.{◌||◌, ◌⊎◌}
 use Rattle.tn_progress.specs.Server.{one, End, reading, holding, handing, net_tells, net_leaves, net_gone}
 use Rattle.tn_progress.specs.Server.{Stop, Cause, stops, none_comes, asking, waiting, answering, desk_says}
 use Rattle.tn_progress.specs.Server.{desk_tells, desk_leaves, desk_gone, back_waits, stepping, back_says}
@@ -172,12 +173,12 @@ MayGo sizes (tells_stop c) s = (s.desk ≡ desk_tells c) × HasRoom sizes s
 MayGo sizes (desk_left c) s = (s.desk ≡ desk_leaves c) × HasRoom sizes s
 MayGo sizes takes_step_credit s = (s.back ≡ back_waits) × (0 < s.step_credits)
 MayGo sizes says_step s = (s.back ≡ back_says) × HasRoom sizes s
-MayGo sizes is_stopped s = (s.back ≡ stepping) × (s.stop ≡ true)
+MayGo sizes is_stopped s = (s.back ≡ stepping) × IsTrue s.stop
 MayGo sizes tells_refusal s = (s.back ≡ back_tells) × HasRoom sizes s
 MayGo sizes back_left s = (s.back ≡ back_leaves) × HasRoom sizes s
 MayGo sizes (handles choice kind) s = (s.term ≡ receiving) × (s.lefts ≢ 3) × (0 < count_of kind s.box)
     × (waits_behind kind s.box ≡ 0)
-MayGo sizes (writes_nothing p last) s = (s.term ≡ writing p last) × (s.over ≡ true)
+MayGo sizes (writes_nothing p last) s = (s.term ≡ writing p last) × IsTrue s.over
 MayGo sizes joins s = (s.term ≡ receiving) × (s.lefts ≡ 3)
 MayGo sizes finishes s =
     (s.term ≡ joining) × ((e : End) × (s.net ≡ net_gone e)) × ((c : Cause) × (s.desk ≡ desk_gone c))

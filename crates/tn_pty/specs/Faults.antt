@@ -1,5 +1,5 @@
 -- Why a terminal refuses a key or a command.
-use Rattle.std.specs.Prelude.{◌≡◌, ◌<◌, ℕ, true, false, List, [], ◌∷◌, ◌++◌, length}
+use Rattle.std.specs.Prelude.{◌≡◌, ◌<◌, ℕ, IsTrue, IsFalse, List, [], ◌∷◌, ◌++◌, length}
 use Rattle.tn_discipline.specs.HalfLine.{GivesText}
 use Rattle.tn_discipline.specs.Keys.{gives_entry}
 use Rattle.tn_discipline.specs.declared.keys.Role.{Role}
@@ -11,15 +11,15 @@ use Rattle.tn_pty.specs.declared.pty.PtyFault.TheVariants.{Closed, TooFarAhead, 
 
 -- the terminal takes keys, and has room for the entry that a key of this role makes
 pub record Accepts (old : Terminal) (r : Role) : Type 0 where
-  pub opened : old.closed ≡ false
-  pub room : gives_entry r ≡ true → length old.entries < max_waiting
+  pub opened : IsFalse old.closed
+  pub room : IsTrue (gives_entry r) → length old.entries < max_waiting
 
 -- A key of this role is refused, and has no effect but that the terminal is shut: it was shut already, or
 -- 1,024 entries wait, or no memory was found for a text.
 abbrev pub Refuses : Terminal → Role → PtyFault → Terminal → Type 0
-Refuses old r Closed new = (old.closed ≡ true) × (new ≡ old)
+Refuses old r Closed new = IsTrue old.closed × (new ≡ old)
 Refuses old r TooFarAhead new =
-    (old.closed ≡ false) × (gives_entry r ≡ true) × (length old.entries ≡ max_waiting)
+    IsFalse old.closed × IsTrue (gives_entry r) × (length old.entries ≡ max_waiting)
     × (new ≡ shut_terminal old)
 Refuses old r Memory new = Accepts old r × GivesText old.line r × (new ≡ shut_terminal old)
 

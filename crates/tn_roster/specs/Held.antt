@@ -1,5 +1,6 @@
 -- Which numbers a roster has given to sessions, and how many sessions there may be.
-use Rattle.std.specs.Prelude.{◌≡◌, ◌≢◌, ◌≤◌, ◌+◌, ◌⊎◌, ⊤, ℕ, Bool, true, false, Option, None, List, count_by}
+use Rattle.std.specs.Prelude.{◌≡◌, ◌≢◌, ◌≤◌, ◌+◌, ◌⊎◌, ⊤, ℕ, Bool, IsTrue, IsFalse, Option, None, List}
+use Rattle.std.specs.Prelude.{count_by}
 use Rattle.std.specs.Prelude.{is_some, slice_index_or}
 
 pub record Held : Type 0 where
@@ -20,16 +21,16 @@ IsLimit limit = (1 ≤ limit) × (limit ≤ 64)
 
 -- This number was free and is held; the others are as they were.
 pub record Enters (old new : Held) (number : ℕ) : Type 0 where
-  pub was_free : is_held old number ≡ false
-  pub held : is_held new number ≡ true
+  pub was_free : IsFalse (is_held old number)
+  pub held : IsTrue (is_held new number)
   pub others : (other : ℕ) → other ≢ number → is_held new other ≡ is_held old other
   pub one_more : held_count new ≡ held_count old + 1
   pub same_limit : new.limit ≡ old.limit
 
 -- This number was held and is free; the others are as they were.
 pub record Leaves (old new : Held) (number : ℕ) : Type 0 where
-  pub was_held : is_held old number ≡ true
-  pub free : is_held new number ≡ false
+  pub was_held : IsTrue (is_held old number)
+  pub free : IsFalse (is_held new number)
   pub others : (other : ℕ) → other ≢ number → is_held new other ≡ is_held old other
   pub one_less : held_count new + 1 ≡ held_count old
   pub same_limit : new.limit ≡ old.limit

@@ -9,7 +9,8 @@
 //! It starts no session and stops none, and holds no lock: who shares it keeps it under one.
 #![tactic(auto)]
 
-ghost use Rattle.std.specs.Prelude.{◌≡◌, ◌<◌, ◌≤◌, [], true, false, IfOk, OnOk, IfErr, OnErr, IsErrOf};
+ghost use Rattle.std.specs.Prelude.{◌≡◌, ◌<◌, ◌≤◌, [], IsTrue, false, IsFalse, IfOk, OnOk, IfErr, OnErr};
+ghost use Rattle.std.specs.Prelude.{IsErrOf};
 ghost use Rattle.tn_roster.specs.Held.{is_held, held_count, IsLimit, Enters, Leaves};
 
 pub use notes::note;
@@ -99,8 +100,8 @@ impl Roster {
     /// Lets a session go, and frees its number; false where no session has it.
     pub fn leave(&mut self, number: usize) -> bool
         ensures held { result ≡ is_held self.old number }
-        ensures leaves { result ≡ true → Leaves self.old self.new number }
-        ensures unchanged { result ≡ false → self.new ≡ self.old }
+        ensures leaves { IsTrue result → Leaves self.old self.new number }
+        ensures unchanged { IsFalse result → self.new ≡ self.old }
     {
         self.sessions.try_remove(number).is_some()
     }

@@ -1,5 +1,6 @@
 -- How the sessions of a server ended.
-use Rattle.std.specs.Prelude.{◌≡◌, ◌≤◌, ◌⊎◌, ℕ, true, false, Option, Some, None, Result, Ok, Err, IfOk, IsOk}
+use Rattle.std.specs.Prelude.{◌≡◌, ◌≤◌, ◌⊎◌, ℕ, IsTrue, false, Option, Some, None, Result, Ok, Err, IfOk}
+use Rattle.std.specs.Prelude.{IsOk}
 use Rattle.std.specs.declared.io.Error.{Error}
 use Rattle.std.specs.declared.net.socket_addr.SocketAddr.{SocketAddr}
 use Rattle.std.specs.declared.net.tcp.TcpStream.{TcpStream}
@@ -64,8 +65,8 @@ IfAny P (Some x) = P x
 pub record AcceptsUntil (accepts : ℕ → Result (TcpStream × SocketAddr) Error → Type 0) (ended : Type 0)
     (accepted : Accepted) : Type 0 where
   pub all : AcceptsAll accepts accepted.count
-  pub told : accepted.is_told ≡ true → ended
+  pub told : IsTrue accepted.is_told → ended
 
 -- as many were accepted as were asked for, or no more, where it was told so
 abbrev pub AreEnough : ℕ → Accepted → Type 0
-AreEnough count accepted = (accepted.count ≡ count) ⊎ ((accepted.count ≤ count) × (accepted.is_told ≡ true))
+AreEnough count accepted = (accepted.count ≡ count) ⊎ ((accepted.count ≤ count) × IsTrue accepted.is_told)

@@ -1,6 +1,6 @@
 //! Connections are accepted in a thread of their own.
 
-ghost use Rattle.std.specs.Prelude.{◌≡◌, true, false, Ok, IfNone, IfOk, IfSome};
+ghost use Rattle.std.specs.Prelude.{◌≡◌, true, IsTrue, false, IsFalse, Ok, IfNone, IfOk, IfSome};
 ghost use Rattle.tn_serve.specs.Ends.{AcceptsUntil, AreEnough};
 
 use crate::events::Event;
@@ -48,7 +48,7 @@ impl Accepted {
     // So many, and it was not told so.
     fn untold(count: u64) -> Accepted
         ensures count { result.count ≡ count }
-        ensures untold { result.is_told ≡ false }
+        ensures untold { IsFalse result.is_told }
     {
         Accepted {
             count,
@@ -58,7 +58,7 @@ impl Accepted {
 
     /// Whether these are all of so many that were asked for, or no more are to come.
     pub(crate) fn are_enough(self, count: u64) -> bool
-        ensures { result ≡ true → AreEnough count self }
+        ensures { IsTrue result → AreEnough count self }
     {
         if self.is_told {
             return self.count <= count;

@@ -1,6 +1,6 @@
 //! How a session over a connection ended.
 
-ghost use Rattle.std.specs.Prelude.{◌≡◌, true, false};
+ghost use Rattle.std.specs.Prelude.{◌≡◌, IsTrue, false, IsFalse};
 ghost use Rattle.tn_serve.specs.Ends.{IsWhole};
 
 use tn_session::{Report, SessionFault};
@@ -19,8 +19,8 @@ pub struct Finished {
 impl Finished {
     /// Whether it ended without a fault.
     pub fn is_whole(&self) -> bool
-        ensures whole { result ≡ true → IsWhole self.now }
-        ensures faulted { result ≡ false → ¬ IsWhole self.now }
+        ensures whole { IsTrue result → IsWhole self.now }
+        ensures faulted { IsFalse result → ¬ IsWhole self.now }
     {
         match &self.report {
             Ok(report) => report.ended.is_whole(),

@@ -1,7 +1,7 @@
 //! The sessions that are started and not yet joined, and how the earlier ones ended.
 
 ghost use Rattle.std.specs.Net.Socket.{socket_ip};
-ghost use Rattle.std.specs.Prelude.{◌≡◌, ◌<◌, ◌≤◌, ◌+◌, ◌-◌, ◌^◌, ◌++◌, ◌∷◌, [], true, false, IfSome};
+ghost use Rattle.std.specs.Prelude.{◌≡◌, ◌<◌, ◌≤◌, ◌+◌, ◌-◌, ◌^◌, ◌++◌, ◌∷◌, [], IsTrue, IsFalse, IfSome};
 ghost use Rattle.std.specs.Prelude.{IfNone, vec_items, vec_len, vec_capacity};
 ghost use Rattle.tn_serve.specs.Counted.{HasEnded, StillCounts, facts_of, server_of};
 ghost use Rattle.tn_serve.specs.Places.{HasNoPlace, count_at, count_from, is_same};
@@ -109,8 +109,8 @@ impl<J: Job, M: Maker<Job = J>, O: Asked<M>> Running<J, M, O> {
     }
 
     pub(crate) fn is_empty(&self) -> bool
-        ensures none { result ≡ true → vec_len self.now.started ≡ 0 }
-        ensures some { result ≡ false → 0 < vec_len self.now.started }
+        ensures none { IsTrue result → vec_len self.now.started ≡ 0 }
+        ensures some { IsFalse result → 0 < vec_len self.now.started }
     {
         self.started.is_empty()
     }
@@ -121,7 +121,7 @@ impl<J: Job, M: Maker<Job = J>, O: Asked<M>> Running<J, M, O> {
         ensures counts { (self.new.whole ≡ self.old.whole) × (self.new.faulted ≡ self.old.faulted)
             × (self.new.refused ≡ self.old.refused) }
         ensures same { vec_items self.new.started ≡ vec_items self.old.started }
-        ensures room { result ≡ true → vec_len self.new.started < vec_capacity self.new.started }
+        ensures room { IsTrue result → vec_len self.new.started < vec_capacity self.new.started }
     {
         self.started.reserve(1).is_ok()
     }
@@ -181,8 +181,10 @@ impl<J: Job, M: Maker<Job = J>, O: Asked<M>> Running<J, M, O> {
         ensures accepted { self.new.accepted ≡ self.old.accepted }
         ensures joined { vec_len self.new.started + 1 ≡ vec_len self.old.started }
         ensures ended { HasEnded
-            (server_of (facts_of J.fresh M.gives J.reacts J.steps J.refuses) M.left O.options O.made O.turned) result.finished }
-        ensures end { IsOneEnd result.finished self.old.whole self.old.faulted self.new.whole self.new.faulted }
+            (server_of (facts_of J.fresh M.gives J.reacts J.steps J.refuses) M.left O.options O.made
+            O.turned) result.finished }
+        ensures end { IsOneEnd result.finished self.old.whole self.old.faulted self.new.whole
+            self.new.faulted }
         ensures closed { IsOneMore result.caller.number
             (live_of (vec_items self.new.started) (λ s. s.caller.number))
             (live_of (vec_items self.old.started) (λ s. s.caller.number)) }

@@ -1,6 +1,7 @@
 //! Each connection has a session in threads of its own.
 
-ghost use Rattle.std.specs.Prelude.{◌≡◌, ◌⊎◌, ◌<◌, ◌≤◌, ◌+◌, ◌^◌, ◌-◌, true, IfOk, IfSome, IfNone, IsErrOf};
+ghost use Rattle.std.specs.Prelude.{◌≡◌, ◌⊎◌, ◌<◌, ◌≤◌, ◌+◌, ◌^◌, ◌-◌, true, IsTrue, IfOk, IfSome, IfNone};
+ghost use Rattle.std.specs.Prelude.{IsErrOf};
 ghost use Rattle.std.specs.Prelude.{vec_items, vec_len};
 ghost use Rattle.tn_serve.specs.Causes.{IsCaused};
 ghost use Rattle.tn_serve.specs.Counted.{CountsSessions, HasEnded, StillCounts, facts_of, server_of};
@@ -130,10 +131,12 @@ fn serve_as<
     requires turns { TurnsAway (H.dismisses rt) O.turned }
     ensures all { IfOk result (ServesUntil serving.count (U.ends until)) }
     ensures each { IfOk result (λ served. CountsSessions (server_of
-        (facts_of V.Job.fresh V.Jobs.gives V.Job.reacts V.Job.steps V.Job.refuses) V.Jobs.left O.options O.made O.turned)
+        (facts_of V.Job.fresh V.Jobs.gives V.Job.reacts V.Job.steps V.Job.refuses) V.Jobs.left O.options
+        O.made O.turned)
         served.whole served.faulted served.refused) }
     ensures heard { IfOk result (λ served. HearsAll V.turns (HasEnded (server_of
-        (facts_of V.Job.fresh V.Jobs.gives V.Job.reacts V.Job.steps V.Job.refuses) V.Jobs.left O.options O.made O.turned))
+        (facts_of V.Job.fresh V.Jobs.gives V.Job.reacts V.Job.steps V.Job.refuses) V.Jobs.left O.options
+        O.made O.turned))
         service served.whole served.faulted) }
     ensures accepted { IfOk result (λ served.
         Accepts (H.shares rt listener.now) (H.accepts rt) served.accepted) }
@@ -218,11 +221,13 @@ impl<H: Host + Network, V: Service, O: Asked<V::Jobs>> Open<H, V, O> {
         requires makes { MakesOnly V.makes self.old.service O.made }
         requires turns { TurnsAway (H.dismisses self.old.rt) O.turned }
         ensures each { StillCounts (server_of
-            (facts_of V.Job.fresh V.Jobs.gives V.Job.reacts V.Job.steps V.Job.refuses) V.Jobs.left O.options O.made O.turned)
+            (facts_of V.Job.fresh V.Jobs.gives V.Job.reacts V.Job.steps V.Job.refuses) V.Jobs.left O.options
+            O.made O.turned)
             self.old.running.whole self.old.running.faulted self.old.running.refused
             self.new.running.whole self.new.running.faulted self.new.running.refused }
         ensures heard { StillHears V.turns (HasEnded (server_of
-            (facts_of V.Job.fresh V.Jobs.gives V.Job.reacts V.Job.steps V.Job.refuses) V.Jobs.left O.options O.made O.turned))
+            (facts_of V.Job.fresh V.Jobs.gives V.Job.reacts V.Job.steps V.Job.refuses) V.Jobs.left O.options
+            O.made O.turned))
             self.old.running.whole self.old.running.faulted self.old.service
             (live_of (vec_items self.old.running.started) (λ s. s.caller.number))
             self.new.running.whole self.new.running.faulted self.new.service
@@ -243,7 +248,7 @@ impl<H: Host + Network, V: Service, O: Asked<V::Jobs>> Open<H, V, O> {
 
     // Whether no more connections are to come, and each session has ended and is joined.
     fn is_done(&self) -> bool
-        ensures { result ≡ true → vec_len self.now.running.started ≡ 0 }
+        ensures { IsTrue result → vec_len self.now.running.started ≡ 0 }
     {
         (self.is_closed || self.running.accepted >= self.serving.count) && self.running.is_empty()
     }
@@ -252,11 +257,13 @@ impl<H: Host + Network, V: Service, O: Asked<V::Jobs>> Open<H, V, O> {
         requires makes { MakesOnly V.makes self.old.service O.made }
         requires turns { TurnsAway (H.dismisses self.old.rt) O.turned }
         ensures each { StillCounts (server_of
-            (facts_of V.Job.fresh V.Jobs.gives V.Job.reacts V.Job.steps V.Job.refuses) V.Jobs.left O.options O.made O.turned)
+            (facts_of V.Job.fresh V.Jobs.gives V.Job.reacts V.Job.steps V.Job.refuses) V.Jobs.left O.options
+            O.made O.turned)
             self.old.running.whole self.old.running.faulted self.old.running.refused
             self.new.running.whole self.new.running.faulted self.new.running.refused }
         ensures heard { StillHears V.turns (HasEnded (server_of
-            (facts_of V.Job.fresh V.Jobs.gives V.Job.reacts V.Job.steps V.Job.refuses) V.Jobs.left O.options O.made O.turned))
+            (facts_of V.Job.fresh V.Jobs.gives V.Job.reacts V.Job.steps V.Job.refuses) V.Jobs.left O.options
+            O.made O.turned))
             self.old.running.whole self.old.running.faulted self.old.service
             (live_of (vec_items self.old.running.started) (λ s. s.caller.number))
             self.new.running.whole self.new.running.faulted self.new.service
@@ -283,11 +290,13 @@ impl<H: Host + Network, V: Service, O: Asked<V::Jobs>> Open<H, V, O> {
         requires makes { MakesOnly V.makes self.old.service O.made }
         requires turns { TurnsAway (H.dismisses self.old.rt) O.turned }
         ensures each { StillCounts (server_of
-            (facts_of V.Job.fresh V.Jobs.gives V.Job.reacts V.Job.steps V.Job.refuses) V.Jobs.left O.options O.made O.turned)
+            (facts_of V.Job.fresh V.Jobs.gives V.Job.reacts V.Job.steps V.Job.refuses) V.Jobs.left O.options
+            O.made O.turned)
             self.old.running.whole self.old.running.faulted self.old.running.refused
             self.new.running.whole self.new.running.faulted self.new.running.refused }
         ensures heard { StillHears V.turns (HasEnded (server_of
-            (facts_of V.Job.fresh V.Jobs.gives V.Job.reacts V.Job.steps V.Job.refuses) V.Jobs.left O.options O.made O.turned))
+            (facts_of V.Job.fresh V.Jobs.gives V.Job.reacts V.Job.steps V.Job.refuses) V.Jobs.left O.options
+            O.made O.turned))
             self.old.running.whole self.old.running.faulted self.old.service
             (live_of (vec_items self.old.running.started) (λ s. s.caller.number))
             self.new.running.whole self.new.running.faulted self.new.service
@@ -355,7 +364,8 @@ impl<H: Host + Network, V: Service, O: Asked<V::Jobs>> Open<H, V, O> {
             (vec_items self.old.running.started)) }
         requires more { self.old.running.accepted < 2 ^ 64 - 1 }
         ensures each { StillCounts (server_of
-            (facts_of V.Job.fresh V.Jobs.gives V.Job.reacts V.Job.steps V.Job.refuses) V.Jobs.left O.options O.made O.turned)
+            (facts_of V.Job.fresh V.Jobs.gives V.Job.reacts V.Job.steps V.Job.refuses) V.Jobs.left O.options
+            O.made O.turned)
             self.old.running.whole self.old.running.faulted self.old.running.refused
             self.new.running.whole self.new.running.faulted self.new.running.refused }
         ensures started { self.new.running.started ≡ self.old.running.started }
@@ -378,11 +388,13 @@ impl<H: Host + Network, V: Service, O: Asked<V::Jobs>> Open<H, V, O> {
             (vec_items self.old.running.started) < self.old.serving.per_host }
         requires more { self.old.running.accepted < 2 ^ 64 - 1 }
         ensures each { StillCounts (server_of
-            (facts_of V.Job.fresh V.Jobs.gives V.Job.reacts V.Job.steps V.Job.refuses) V.Jobs.left O.options O.made O.turned)
+            (facts_of V.Job.fresh V.Jobs.gives V.Job.reacts V.Job.steps V.Job.refuses) V.Jobs.left O.options
+            O.made O.turned)
             self.old.running.whole self.old.running.faulted self.old.running.refused
             self.new.running.whole self.new.running.faulted self.new.running.refused }
         ensures heard { StillHears V.turns (HasEnded (server_of
-            (facts_of V.Job.fresh V.Jobs.gives V.Job.reacts V.Job.steps V.Job.refuses) V.Jobs.left O.options O.made O.turned))
+            (facts_of V.Job.fresh V.Jobs.gives V.Job.reacts V.Job.steps V.Job.refuses) V.Jobs.left O.options
+            O.made O.turned))
             self.old.running.whole self.old.running.faulted self.old.service
             (live_of (vec_items self.old.running.started) (λ s. s.caller.number))
             self.new.running.whole self.new.running.faulted self.new.service
@@ -407,7 +419,8 @@ impl<H: Host + Network, V: Service, O: Asked<V::Jobs>> Open<H, V, O> {
         requires held { vec_len self.old.running.started < held_count self.old.roster }
         requires more { self.old.running.accepted < 2 ^ 64 - 1 }
         ensures each { StillCounts (server_of
-            (facts_of V.Job.fresh V.Jobs.gives V.Job.reacts V.Job.steps V.Job.refuses) V.Jobs.left O.options O.made O.turned)
+            (facts_of V.Job.fresh V.Jobs.gives V.Job.reacts V.Job.steps V.Job.refuses) V.Jobs.left O.options
+            O.made O.turned)
             self.old.running.whole self.old.running.faulted self.old.running.refused
             self.new.running.whole self.new.running.faulted self.new.running.refused }
         ensures started { self.new.running.started ≡ self.old.running.started }
@@ -435,10 +448,12 @@ impl<H: Host + Network, V: Service, O: Asked<V::Jobs>> Open<H, V, O> {
         ensures roster { self.new.roster ≡ self.old.roster }
         ensures makes { StillMakes V.makes self.old.service self.new.service }
         ensures jobs { IfSome result (λ started. HearsOfJobs V.turns (HasEnded (server_of
-            (facts_of V.Job.fresh V.Jobs.gives V.Job.reacts V.Job.steps V.Job.refuses) V.Jobs.left O.options O.made O.turned))
+            (facts_of V.Job.fresh V.Jobs.gives V.Job.reacts V.Job.steps V.Job.refuses) V.Jobs.left O.options
+            O.made O.turned))
             started.caller.number self.old.service self.new.service) }
         ensures none { IfNone result (HearsOfNone V.turns (HasEnded (server_of
-            (facts_of V.Job.fresh V.Jobs.gives V.Job.reacts V.Job.steps V.Job.refuses) V.Jobs.left O.options O.made O.turned))
+            (facts_of V.Job.fresh V.Jobs.gives V.Job.reacts V.Job.steps V.Job.refuses) V.Jobs.left O.options
+            O.made O.turned))
             self.old.service self.new.service) }
         ensures over { IfSome result (λ started. started.session.promise.stream.value ≡ stream) }
         ensures rt { self.new.rt ≡ self.old.rt }
@@ -508,11 +523,13 @@ impl<H: Host + Network, V: Service, O: Asked<V::Jobs>> Open<H, V, O> {
     // The session with this number has ended.
     fn end<E: Write>(&mut self, number: usize, errors: &mut E)
         ensures each { StillCounts (server_of
-            (facts_of V.Job.fresh V.Jobs.gives V.Job.reacts V.Job.steps V.Job.refuses) V.Jobs.left O.options O.made O.turned)
+            (facts_of V.Job.fresh V.Jobs.gives V.Job.reacts V.Job.steps V.Job.refuses) V.Jobs.left O.options
+            O.made O.turned)
             self.old.running.whole self.old.running.faulted self.old.running.refused
             self.new.running.whole self.new.running.faulted self.new.running.refused }
         ensures heard { StillHears V.turns (HasEnded (server_of
-            (facts_of V.Job.fresh V.Jobs.gives V.Job.reacts V.Job.steps V.Job.refuses) V.Jobs.left O.options O.made O.turned))
+            (facts_of V.Job.fresh V.Jobs.gives V.Job.reacts V.Job.steps V.Job.refuses) V.Jobs.left O.options
+            O.made O.turned))
             self.old.running.whole self.old.running.faulted self.old.service
             (live_of (vec_items self.old.running.started) (λ s. s.caller.number))
             self.new.running.whole self.new.running.faulted self.new.service
@@ -530,11 +547,13 @@ impl<H: Host + Network, V: Service, O: Asked<V::Jobs>> Open<H, V, O> {
     fn end_at<E: Write>(&mut self, place: usize, errors: &mut E)
         requires { place < vec_len self.old.running.started }
         ensures each { StillCounts (server_of
-            (facts_of V.Job.fresh V.Jobs.gives V.Job.reacts V.Job.steps V.Job.refuses) V.Jobs.left O.options O.made O.turned)
+            (facts_of V.Job.fresh V.Jobs.gives V.Job.reacts V.Job.steps V.Job.refuses) V.Jobs.left O.options
+            O.made O.turned)
             self.old.running.whole self.old.running.faulted self.old.running.refused
             self.new.running.whole self.new.running.faulted self.new.running.refused }
         ensures heard { StillHears V.turns (HasEnded (server_of
-            (facts_of V.Job.fresh V.Jobs.gives V.Job.reacts V.Job.steps V.Job.refuses) V.Jobs.left O.options O.made O.turned))
+            (facts_of V.Job.fresh V.Jobs.gives V.Job.reacts V.Job.steps V.Job.refuses) V.Jobs.left O.options
+            O.made O.turned))
             self.old.running.whole self.old.running.faulted self.old.service
             (live_of (vec_items self.old.running.started) (λ s. s.caller.number))
             self.new.running.whole self.new.running.faulted self.new.service
@@ -587,11 +606,13 @@ impl<H: Host + Network, V: Service, O: Asked<V::Jobs>> Open<H, V, O> {
     // Joins all sessions that still run.
     fn join_all<E: Write>(&mut self, errors: &mut E)
         ensures each { StillCounts (server_of
-            (facts_of V.Job.fresh V.Jobs.gives V.Job.reacts V.Job.steps V.Job.refuses) V.Jobs.left O.options O.made O.turned)
+            (facts_of V.Job.fresh V.Jobs.gives V.Job.reacts V.Job.steps V.Job.refuses) V.Jobs.left O.options
+            O.made O.turned)
             self.old.running.whole self.old.running.faulted self.old.running.refused
             self.new.running.whole self.new.running.faulted self.new.running.refused }
         ensures heard { StillHears V.turns (HasEnded (server_of
-            (facts_of V.Job.fresh V.Jobs.gives V.Job.reacts V.Job.steps V.Job.refuses) V.Jobs.left O.options O.made O.turned))
+            (facts_of V.Job.fresh V.Jobs.gives V.Job.reacts V.Job.steps V.Job.refuses) V.Jobs.left O.options
+            O.made O.turned))
             self.old.running.whole self.old.running.faulted self.old.service
             (live_of (vec_items self.old.running.started) (λ s. s.caller.number))
             self.new.running.whole self.new.running.faulted self.new.service

@@ -89,7 +89,8 @@ impl<M: Maker> Promise<Ran> for SessionSays<M> {
     ghost use Rattle.tn_session.specs.Makers.{begins};
 
     ghost kept_by = { λ p ran.
-        IsPromised (job_facts (begins M.Job.fresh M.gives p.jobs.value) M.Job.reacts M.Job.steps M.Job.refuses)
+        IsPromised (job_facts (begins M.Job.fresh M.gives p.jobs.value) M.Job.reacts M.Job.steps
+        M.Job.refuses)
         (M.left p.jobs.value) p.options p.stream.value ran };
 }
 
@@ -238,7 +239,8 @@ where
     M::Job: Send + 'static,
     ensures fault { IfErr result IsRefusal }
     ensures ran { IfOk result (RunsServer
-        (job_facts (begins M.Job.fresh M.gives jobs) M.Job.reacts M.Job.steps M.Job.refuses) (M.left jobs) options) }
+        (job_facts (begins M.Job.fresh M.gives jobs) M.Job.reacts M.Job.steps M.Job.refuses)
+        (M.left jobs) options) }
     ensures in_reach { IfOk result (λ conversed. conversed.report.ended ≢ too_far_ahead) }
     ensures over { IfOk result (λ conversed. connection_of conversed ≡ stream) }
 {

@@ -1,6 +1,6 @@
 //! How to serve.
 
-ghost use Rattle.std.specs.Prelude.{◌≡◌, false};
+ghost use Rattle.std.specs.Prelude.{◌≡◌, false, IsFalse};
 ghost use Rattle.tn_discipline.specs.Limits.{standard_limit};
 
 use tn_discipline::Limit;
@@ -67,7 +67,7 @@ impl Serving {
         ensures editing { result.options.editing ≡ Editing.Remote }
         ensures idle { result.options.idle ≡ 0 }
         ensures longest { result.options.longest ≡ 0 }
-        ensures verbose { result.verbose ≡ false }
+        ensures verbose { IsFalse result.verbose }
     {
         Serving {
             sessions: SESSIONS,

@@ -1,6 +1,6 @@
 //! What ends a server before its count.
 
-ghost use Rattle.std.specs.Prelude.{◌≡◌, true};
+ghost use Rattle.std.specs.Prelude.{◌≡◌, IsTrue};
 
 /// Who is asked whether a server is to accept no more connections: before each of them, and about once a
 /// second. It is asked in the thread that accepts. Of what it tells nothing else gives the relation.
@@ -10,7 +10,7 @@ pub trait Until {
 
     /// Whether no more connections are to come.
     fn is_over(&self) -> bool
-        ensures { result ≡ true → ends self.now };
+        ensures { IsTrue result → ends self.now };
 }
 
 /// Nothing ends a server before its count.

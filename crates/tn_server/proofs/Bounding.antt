@@ -38,7 +38,8 @@ use Rattle.tn_pty.specs.Terminal.{queue_with, output_symbol, output_symbols, fit
 use Rattle.tn_pty.specs.Typing.{symbols_in, echo_symbols, command_shows}
 use Rattle.tn_linemode.specs.Prefixes.{IsRead}
 use Rattle.tn_linemode.specs.Words.{word_items, payload_items, mode_items, list_items}
-use Rattle.tn_linemode.proofs.lemmas.Sizes.{size, size-append, size-one, size-word, size-mode, size-list, size-plain_triple, size-table, octets_size, answers-size}
+use Rattle.tn_linemode.proofs.lemmas.Sizes.{size, size-append, size-one, size-word, size-mode, size-list, size-plain_triple, size-table, octets_size}
+use Rattle.tn_linemode.proofs.lemmas.Sizes.{answers-size}
 use Rattle.tn_linemode.proofs.lemmas.Sizes.{says_under, size-came, size-least, size-sub, size-params, doubled_most}
 use Rattle.tn_server.specs.Bounds.{max_said, HasAllowedCharacters, max_of_calls, bytes_due}
 use Rattle.tn_server.specs.Events.{History, Event, begun, next, got, took, wrote, pulled, wished, char_set, echo_set, mask_set, items}

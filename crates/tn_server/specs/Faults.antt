@@ -1,5 +1,5 @@
 -- Why calls are refused.
-use Rattle.std.specs.Prelude.{◌≡◌, ◌≢◌, ◌<◌, ◌⊎◌, true, Option, Some, None, [], length}
+use Rattle.std.specs.Prelude.{◌≡◌, ◌≢◌, ◌<◌, ◌⊎◌, IsTrue, Option, Some, None, [], length}
 use Rattle.tn_discipline.specs.HalfLine.{GivesText}
 use Rattle.tn_discipline.specs.Keys.{gives_entry}
 use Rattle.tn_nvt.specs.declared.items.Item.{Item}
@@ -21,7 +21,7 @@ SaysSomething h e = replies h e ≢ []
 -- runs out for the text of its line; or it runs out for what is to be sent, or for a list
 abbrev pub IsCause : History → Item → ServerFault → Type 0
 IsCause h item (Pty pty.TooFarAhead) =
-    (gives_entry (role_of_item h item) ≡ true) × (length (waiting h) ≡ max_waiting)
+    IsTrue (gives_entry (role_of_item h item)) × (length (waiting h) ≡ max_waiting)
 IsCause h item (Pty pty.Memory) =
     GivesText (line h) (role_of_item h item) × (length (waiting h) < max_waiting)
 IsCause h item (Pty pty.Closed) = Unit {0}

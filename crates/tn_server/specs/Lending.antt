@@ -1,5 +1,5 @@
 -- What a server end takes while it is lent to its decoder.
-use Rattle.std.specs.Prelude.{◌≡◌, true, List}
+use Rattle.std.specs.Prelude.{◌≡◌, IsTrue, List}
 use Rattle.tn_nvt.specs.declared.items.Item.{Item}
 use Rattle.tn_pty.specs.declared.pty.PtyFault.TheVariants.{Closed}
 use Rattle.tn_server.specs.Faults.{IsOfItem}
@@ -24,4 +24,4 @@ pub record RefusesItems (old : Lent) (items : List Item) (new : Lent) : Type 0 w
   pub same : IsSameLoan old new
   pub stops : StopsWithinItems old.end.now items new.cause old.out.now.items new.out.now.items new.end.now
   pub is_of_item : IsOfItem new.cause
-  pub shut : new.cause ≡ Pty Closed → old.end.now.terminal.closed ≡ true
+  pub shut : new.cause ≡ Pty Closed → IsTrue old.end.now.terminal.closed

@@ -1,6 +1,6 @@
 -- What a server makes of clients of other makers: of one that edits nothing, as PuTTY, busybox and libtelnet,
 -- and of a line that was edited before and is sent whole.
-use Rattle.std.specs.Prelude.{◌≡◌, ℕ, true, false, Option, Some, List, [], ◌∷◌, ◌++◌, map}
+use Rattle.std.specs.Prelude.{◌≡◌, ℕ, IsTrue, false, IsFalse, Option, Some, List, [], ◌∷◌, ◌++◌, map}
 use Rattle.std.specs.List.{flat_map}
 use Rattle.tn_codes.specs.PayloadOf.{payload_of}
 use Rattle.tn_codes.specs.declared.payloads.Payload.{Payload}
@@ -22,7 +22,7 @@ use Rattle.tn_server.specs.Lines.{role_at}
 
 -- RFC 1184, section 2.2: no mask with EDIT is acknowledged
 abbrev pub AcknowledgesNoEdit : Option Payload → Type 0
-AcknowledgesNoEdit (Some (Mode mask)) = is_acknowledged mask ≡ true → edits mask ≡ false
+AcknowledgesNoEdit (Some (Mode mask)) = IsTrue (is_acknowledged mask) → IsFalse (edits mask)
 AcknowledgesNoEdit _ = Unit {0}
 
 -- RFC 1184, section 2.4: a list of local characters changes none of these

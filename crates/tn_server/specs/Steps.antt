@@ -1,5 +1,6 @@
 -- One event at a server end, as a step from what the end knows now. `Calls` ties these steps to histories.
-use Rattle.std.specs.Prelude.{◌≡◌, ◌<◌, ◌≢◌, ◌⊎◌, ℕ, Bool, true, false, ◌||◌, Option, Some, None, is_some}
+use Rattle.std.specs.Prelude.{◌≡◌, ◌<◌, ◌≢◌, ◌⊎◌, ℕ, Bool, true, IsTrue, false, ◌||◌, Option, Some, None}
+use Rattle.std.specs.Prelude.{is_some}
 use Rattle.std.specs.Prelude.{List, [], ◌++◌, length}
 use Rattle.tn_codes.specs.declared.codes.Command.{Command}
 use Rattle.tn_codes.specs.declared.codes.Verb.{Verb}
@@ -163,9 +164,9 @@ IsShut old new = (new ≡ old) ⊎ (new ≡ record old { terminal = shut_termina
 
 -- why the terminal refuses a key or command of this role
 abbrev pub IsKeyCause : Terminal → Role → PtyFault → Type 0
-IsKeyCause t r pty.TooFarAhead = (gives_entry r ≡ true) × (length t.entries ≡ max_waiting)
+IsKeyCause t r pty.TooFarAhead = IsTrue (gives_entry r) × (length t.entries ≡ max_waiting)
 IsKeyCause t r pty.Memory = GivesText t.line r × (length t.entries < max_waiting)
-IsKeyCause t r pty.Closed = t.closed ≡ true
+IsKeyCause t r pty.Closed = IsTrue t.closed
 
 -- memory may be wanted for a payload
 abbrev pub MayWantMemory : End → Option Payload → Type 0

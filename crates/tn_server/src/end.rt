@@ -1,6 +1,7 @@
 //! The server end: the calls that its owner makes.
 
-ghost use Rattle.std.specs.Prelude.{◌≡◌, ◌≢◌, ◌↔◌, ◌⊎◌, ◌&&◌, not, ℕ, List, true, false, Some, None, Err, []};
+ghost use Rattle.std.specs.Prelude.{◌≡◌, ◌≢◌, ◌↔◌, ◌⊎◌, ◌&&◌, not, ℕ, List, true, IsTrue, false, IsFalse};
+ghost use Rattle.std.specs.Prelude.{Some, None, Err, []};
 ghost use Rattle.std.specs.Prelude.{◌++◌, ◌∷◌, ◌*◌, length, min, IfOk, IfErr, OnOk, OnErr, IsErrOf};
 ghost use Rattle.std.specs.Prelude.{MatchOption, option_copied, slice_get};
 ghost use Rattle.tn_codes.specs.OptionCodes as option_code;
@@ -105,8 +106,8 @@ impl ServerEnd {
         ensures leads { IfOk result (λ end.
             LeadsTo (begun (record { settings = settings; limit = limit })) end) }
         ensures reads { IfOk result (λ end. nvt.LeadsTo [] [] end.decoder) }
-        ensures runs { IfOk result (λ end. end.failed ≡ false) }
-        ensures opens { IfOk result (λ end. end.terminal.closed ≡ false) }
+        ensures runs { IfOk result (λ end. IsFalse end.failed) }
+        ensures opens { IfOk result (λ end. IsFalse end.terminal.closed) }
         ensures out { OnOk result (out.new.items ≡ out.old.items ++ spells opening) }
         ensures err { OnErr result (out.new.items ≡ out.old.items) }
         ensures fault { IfErr result (λ fault. fault ≡ ServerFault.Memory) }
@@ -132,14 +133,14 @@ impl ServerEnd {
     pub fn feed(&mut self, piece: &[u8], out: &mut Vec<u8>) -> Result<(), ServerFault>
         ensures ok { OnOk result (Feeds self.old piece.now out.old.items out.new.items self.new) }
         ensures accepted { OnOk result (call_fault self.old ≡ None) }
-        ensures failed { IsErrOf result ServerFault.Failed ↔ (self.old.failed ≡ true) }
+        ensures failed { IsErrOf result ServerFault.Failed ↔ IsTrue self.old.failed }
         ensures failed_stays { IsErrOf result ServerFault.Failed → self.new ≡ self.old }
         ensures failed_appends { IsErrOf result ServerFault.Failed → out.new.items ≡ out.old.items }
         ensures halts { IfErr result (λ fault. IsOfItem fault →
             StopsWithin self.old piece.now fault out.old.items out.new.items self.new) }
-        ensures err { OnErr result (self.new.failed ≡ true) }
+        ensures err { OnErr result (IsTrue self.new.failed) }
         ensures of_piece { IfErr result IsOfPiece }
-        ensures shut { IsErrOf result (ServerFault.Pty Closed) → self.old.terminal.closed ≡ true }
+        ensures shut { IsErrOf result (ServerFault.Pty Closed) → IsTrue self.old.terminal.closed }
     {
         if self.failed {
             return Err(ServerFault::Failed);

@@ -1,6 +1,7 @@
 //! What a server end does with an item that came.
 
-ghost use Rattle.std.specs.Prelude.{◌≡◌, ◌≢◌, ◌≤◌, ◌++◌, ℕ, List, true, Some, [], length, map, IfOk, IfErr};
+ghost use Rattle.std.specs.Prelude.{◌≡◌, ◌≢◌, ◌≤◌, ◌++◌, ℕ, List, true, IsTrue, Some, [], length, map, IfOk};
+ghost use Rattle.std.specs.Prelude.{IfErr};
 ghost use Rattle.std.specs.Prelude.{OnOk, OnErr, IsErrOf};
 ghost use Rattle.tn_codes.specs.Payloads.{max_triples};
 ghost use Rattle.tn_codes.specs.declared.payloads.Payload.TheVariants as payload;
@@ -40,7 +41,7 @@ impl ServerEnd {
             StopsWithinItems self.old
             (map item.Byte bytes.now) (ServerFault.Pty fault) before before self.new) }
         ensures failed { self.new.failed ≡ self.old.failed }
-        ensures shut { IsErrOf result PtyFault.Closed → self.old.terminal.closed ≡ true }
+        ensures shut { IsErrOf result PtyFault.Closed → IsTrue self.old.terminal.closed }
     {
         let mode = self.terms.modes.current();
         if mode.edit() {
@@ -57,7 +58,7 @@ impl ServerEnd {
             RefusesItem self.old item fault out.old.items out.new.items self.new) }
         ensures fault { IfErr result IsOfItem }
         ensures failed { self.new.failed ≡ self.old.failed }
-        ensures shut { IsErrOf result (ServerFault.Pty PtyFault.Closed) → self.old.terminal.closed ≡ true }
+        ensures shut { IsErrOf result (ServerFault.Pty PtyFault.Closed) → IsTrue self.old.terminal.closed }
     {
         match item {
             Item::Byte(byte) => match self.byte(byte) {

@@ -1,6 +1,6 @@
 //! Laws of the definitions alone.
 
-ghost use Rattle.std.specs.Prelude.{◌≡◌, ◌≢◌, ◌↔◌, ◌<◌, ◌≤◌, ◌+◌, ◌*◌, ◌∷◌, ◌++◌, ℕ, true, List, All, []};
+ghost use Rattle.std.specs.Prelude.{◌≡◌, ◌≢◌, ◌↔◌, ◌<◌, ◌≤◌, ◌+◌, ◌*◌, ◌∷◌, ◌++◌, ℕ, IsTrue, List, All, []};
 ghost use Rattle.std.specs.Prelude.{length, map};
 ghost use Rattle.std.specs.List.{flat_map};
 ghost use Rattle.tn_discipline.specs.Canon.{Canon, typed_entries, typed_half};
@@ -119,8 +119,8 @@ pub fn entries_are_bounded(end: &ServerEnd)
 
 /// No text that a history made has more bytes than a line of its end has at most.
 pub fn texts_fit()
-    ensures entries { (h : History) → is_limit (limit h) ≡ true → All (HasAtMost (limit h)) (entries h) }
-    ensures waiting { (h : History) → is_limit (limit h) ≡ true → All (HasAtMost (limit h)) (waiting h) }
+    ensures entries { (h : History) → IsTrue (is_limit (limit h)) → All (HasAtMost (limit h)) (entries h) }
+    ensures waiting { (h : History) → IsTrue (is_limit (limit h)) → All (HasAtMost (limit h)) (waiting h) }
 {}
 
 /// A piece of n bytes makes at most n + 1 entries, since its first byte may complete two items. So one of at
@@ -197,10 +197,10 @@ pub fn remote_clients()
 /// A client that edits, whoever made it: a line of ordinary bytes that fits, sent whole with a new line
 /// behind it where none was begun, is read as that line.
 pub fn whole_lines()
-    ensures entries { (h : History) (bytes : List ℕ) → edits (mode h) ≡ true → half h ≡ [] →
+    ensures entries { (h : History) (bytes : List ℕ) → IsTrue (edits (mode h)) → half h ≡ [] →
         AreOrdinary (chars h) bytes → length bytes ≤ max_counted (limit h) →
         entries (gets h (line_items bytes)) ≡ entries h ++ Text (bytes ++ 10 ∷ []) ∷ [] }
-    ensures half { (h : History) (bytes : List ℕ) → edits (mode h) ≡ true → half h ≡ [] →
+    ensures half { (h : History) (bytes : List ℕ) → IsTrue (edits (mode h)) → half h ≡ [] →
         AreOrdinary (chars h) bytes → length bytes ≤ max_counted (limit h) →
         half (gets h (line_items bytes)) ≡ [] }
 {}

@@ -1,6 +1,6 @@
 //! What a server end says of its special characters and forward masks.
 
-ghost use Rattle.std.specs.Prelude.{◌≡◌, ◌++◌, true, length, OnOk, OnErr};
+ghost use Rattle.std.specs.Prelude.{◌≡◌, ◌++◌, IsTrue, length, OnOk, OnErr};
 ghost use Rattle.tn_nvt.specs.Room.{LacksRoom};
 ghost use Rattle.tn_nvt.specs.Spelling.{spells};
 ghost use Rattle.tn_server.specs.Replies.{triple_items, forward_payload};
@@ -19,7 +19,7 @@ pub(crate) fn put_char(
 ) -> Result<(), AllocError>
     ensures ok { OnOk result (out.new.items ≡ out.old.items ++ spells (triple_items is_told func value)) }
     ensures err { OnErr result (out.new.items ≡ out.old.items) }
-    ensures some { OnErr result (is_told ≡ true) }
+    ensures some { OnErr result (IsTrue is_told) }
     ensures full { OnErr result (LacksRoom out.old (length (spells (triple_items is_told func value)))) }
 {
     if !is_told {

@@ -138,7 +138,8 @@ open_line lines true line more before writer entries way new after (nothing, is)
 open_line lines false line more before writer entries way new after goes rest others =
     line_due lines line more before writer entries way new after goes.whole goes.wrote goes.tells goes.leaves rest others
 
-pub all_due : (lines : LineFormat) (before : KnownWriter) (entries : List Entry) (new : Way) (after : KnownWriter) → GoThrough lines Open before entries new after
+pub all_due : (lines : LineFormat) (before : KnownWriter) (entries : List Entry) (new : Way) (after : KnownWriter) →
+    GoThrough lines Open before entries new after
     → Sent (due lines entries) before after new
 all_due lines before [] new after (way_is, writer_is) =
     let P : KnownWriter → Type 0 = λ w. WritesNothing (between before w) in
@@ -171,11 +172,13 @@ module _ {R W : Type 0} (contents : W → Option (List ℕ)) (told : W → Optio
       → Goes first.lines first.way entry (known_writing contents told first.writer mid.writer) mid.way → mid.lines ≡ first.lines → Through mid entries last
       → Through first (entry ∷ entries) last
   one_more first mid entry entries (side.Sends last) goes same rest =
-      let P : LineFormat → Type 0 = λ e. GoThrough e mid.way (known_writer contents told mid.writer) entries last.way (known_writer contents told last.writer) in
+      let P : LineFormat → Type 0 = λ e. GoThrough e mid.way (known_writer contents told mid.writer) entries last.way
+      (known_writer contents told last.writer) in
       (mid.way, known_writer contents told mid.writer, goes, subst P same rest)
   one_more first mid entry entries (side.Shows last) goes same rest = absurd rest
 
-  through : (first : SendingLines W) (turns : List (Entry × Reaction)) (last : Gateway R W) → Answers (Reacts {R = R} contents told) (side.Sends first) turns last
+  through : (first : SendingLines W) (turns : List (Entry × Reaction)) (last : Gateway R W) →
+      Answers (Reacts {R = R} contents told) (side.Sends first) turns last
       → Through first (map (λ turn. turn.0) turns) last
   through first [] last is =
       let P : Gateway R W → Type 0 = λ g. Through first [] g in subst P is (refl, refl)

@@ -1,5 +1,5 @@
 -- The jobs of a session: how many are still to be made, and which one comes next.
-use Rattle.std.specs.Prelude.{◌≡◌, ℕ, zero, suc, Bool, true, false, if◌then◌else◌}
+use Rattle.std.specs.Prelude.{◌≡◌, ℕ, zero, suc, Bool, true, false, IsFalse, if◌then◌else◌}
 use Rattle.tn_services.specs.declared.answerers.Answerers.{Answerers}
 use Rattle.tn_services.specs.declared.answering.Answerer.{Answerer}
 
@@ -17,5 +17,5 @@ background (suc ticks) = 1
 -- asked for, of which none are asked for again.
 pub record GivesJob (old : Answerers) (job : Answerer) (new : Answerers) : Type 0 where
   pub made_for : job.ticks ≡ (if old.first then 0 else old.ticks)
-  pub came : new.first ≡ false
+  pub came : IsFalse new.first
   pub asked : new.ticks ≡ (if old.first then old.ticks else 0)

@@ -1,5 +1,5 @@
 -- What the job of a served session answers, and what the one in the background writes.
-use Rattle.std.specs.Prelude.{◌≡◌, ◌-◌, ℕ, nat_le, zero, suc, true, Option, Some, List, [], ◌∷◌, codes}
+use Rattle.std.specs.Prelude.{◌≡◌, ◌-◌, ℕ, nat_le, zero, suc, IsTrue, Option, Some, List, [], ◌∷◌, codes}
 use Rattle.std.specs.Prelude.{if◌then◌else◌}
 use Rattle.std.specs.Str.{bytes_eq}
 use Rattle.tn_discipline.specs.declared.reads.Sig.TheVariants.{Int, Quit, Tstp}
@@ -26,7 +26,7 @@ answer (Signal Tstp) = say (codes "tstp\n") Stop
 
 -- Memory may run out for words of its own, which each tick has; a line comes back in the memory that it has.
 abbrev pub MayRefuse : Option Entry → Type 0
-MayRefuse (Some (Text line)) = bytes_eq line (codes "exit\n") ≡ true
+MayRefuse (Some (Text line)) = IsTrue (bytes_eq line (codes "exit\n"))
 MayRefuse _ = Unit {0}
 
 -- a tick, of which so many are left with it, and the last one ends the job

@@ -1,5 +1,5 @@
 -- The jobs of a session that is joined to a service.
-use Rattle.std.specs.Prelude.{◌≡◌, ℕ, ◌+◌, false, Option, Some, None, List}
+use Rattle.std.specs.Prelude.{◌≡◌, ℕ, ◌+◌, IsFalse, Option, Some, None, List}
 use Rattle.tn_discipline.specs.declared.reads.Entry.{Entry}
 use Rattle.tn_services.specs.Sending.{SendsEntry, WantsMemory, silent}
 use Rattle.tn_services.specs.Showing.{Shows}
@@ -46,7 +46,7 @@ GivesReached reached lines None job = Unit {0}
 
 abbrev pub IsFresh : {R W : Type 0} → Gateway R W → Type 0
 IsFresh (side.Sends sending) = sending.way ≡ Open
-IsFresh (side.Shows showing) = showing.waits ≡ false
+IsFresh (side.Shows showing) = IsFalse showing.waits
 
 -- an entry goes to the job in the foreground; the other one is never asked
 abbrev pub Reacts : {R W : Type 0} → (W → Option (List ℕ)) → (W → Option Calls)

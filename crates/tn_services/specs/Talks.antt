@@ -1,5 +1,6 @@
 -- What went to the service in a whole talk, and what of its words was shown.
-use Rattle.std.specs.Prelude.{◌≡◌, ◌⊎◌, ℕ, Bool, true, false, Option, List, [], ◌∷◌, ◌++◌, length, map}
+use Rattle.std.specs.Prelude.{◌≡◌, ◌⊎◌, ℕ, Bool, true, false, IsFalse, Option, List, [], ◌∷◌, ◌++◌, length}
+use Rattle.std.specs.Prelude.{map}
 use Rattle.std.specs.List.{concat}
 use Rattle.std.specs.Io.KnownBytes.{Consumes, IsAtEnd}
 use Rattle.tn_discipline.specs.declared.reads.Entry.{Entry}
@@ -76,7 +77,7 @@ pub record ShowsAll (waited : Bool) (reactions : List Reaction) (waits : Bool)
   pub each : length reads ≡ length reactions
   pub came : Consumes first.bytes last.bytes (concat reads)
   pub shown : texts_of reactions ++ waiting waits ≡ shown_of (waiting waited) reads
-  pub none_waits : EndsAtLast reactions → waits ≡ false
+  pub none_waits : EndsAtLast reactions → IsFalse waits
   pub all : EndsAtLast reactions → IsAtEnd last.bytes ⊎ IsToFail first.failures
 
 -- these steps led the job in the background here

@@ -1,6 +1,6 @@
 //! The jobs of one session of `tn serve`.
 
-ghost use Rattle.std.specs.Prelude.{◌≡◌, true};
+ghost use Rattle.std.specs.Prelude.{◌≡◌, true, IsTrue};
 
 use crate::answering::Answerer;
 use std::alloc::{AllocError, Global};
@@ -19,7 +19,7 @@ pub struct Answerers {
 impl Answerers {
     /// Jobs of which the one in the background ticks so many times; there is none where that is 0.
     pub fn new(ticks: u16) -> Answerers
-        ensures first { result.first ≡ true }
+        ensures first { IsTrue result.first }
         ensures ticks { result.ticks ≡ ticks }
     {
         Answerers { first: true, ticks }

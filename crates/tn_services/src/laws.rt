@@ -21,7 +21,8 @@ use tn_streams::Source;
 /// The service gets each line of the entries that were answered, once and in order, with the line end that
 /// was chosen, and nothing else; where a write failed, the first bytes of that.
 pub fn lines_go_in_order<R: Source, W: Finish>()
-    ensures { (first : SendingLines W) (turns : List (Entry × Reaction)) (last : Gateway R W) → first.way ≡ Open
+    ensures { (first : SendingLines W) (turns : List (Entry × Reaction)) (last : Gateway R W) → first.way
+        ≡ Open
         → Answers (Reacts W.contents W.told) (side.Sends first) turns last
         → SendsTalk W.contents W.told first (map (λ turn. turn.0) turns) last }
 {}

@@ -1,6 +1,7 @@
 //! The job in the background: what the service says goes to the user.
 
-ghost use Rattle.std.specs.Prelude.{◌≡◌, ◌+◌, ◌≤◌, ◌<◌, ◌++◌, [], ◌∷◌, false, IfOk, length, vec_capacity};
+ghost use Rattle.std.specs.Prelude.{◌≡◌, ◌+◌, ◌≤◌, ◌<◌, ◌++◌, [], ◌∷◌, false, IsFalse, IfOk, length};
+ghost use Rattle.std.specs.Prelude.{vec_capacity};
 ghost use Rattle.std.specs.Prelude.{vec_len};
 ghost use Rattle.tn_services.specs.NewLines.{ends_by_return, settled, waiting};
 ghost use Rattle.tn_services.specs.Showing.{Shows};
@@ -65,7 +66,7 @@ impl<R: Source> Showing<R> {
         requires room { 0 < vec_capacity text }
         ensures text { result.text ≡ waiting self.old.waits }
         ensures after { result.after ≡ after }
-        ensures waits { self.new.waits ≡ false }
+        ensures waits { IsFalse self.new.waits }
         ensures reader { self.new.reader ≡ self.old.reader }
     {
         if self.waits {

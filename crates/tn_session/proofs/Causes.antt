@@ -77,7 +77,8 @@ never_and true b e = e
 never_and false b e = refl
 
 -- one of these messages was not written
-pub write_failed : (marked before : List (Message × ServerMark)) (last : Message × ServerMark) (after : List (Message × ServerMark)) → marked ≡ before ++ last ∷ after
+pub write_failed : (marked before : List (Message × ServerMark)) (last : Message × ServerMark) (after : List (Message × ServerMark)) → marked
+    ≡ before ++ last ∷ after
     → last.1 ≡ mark.WriteFailed → no_writes_failed marked ≡ false
 write_failed marked before last after whole e = ap no_writes_failed whole ∙ at before
   where

@@ -30,13 +30,15 @@ messages_told [] = refl
 messages_told (x ∷ xs) = ap (λ (ms : List Message). x.message ∷ ms) (messages_told xs)
 
 -- the message in which the run ended, of those that were handled
-failure_told : (marked before : List (Told × ClientMark)) (last : Told × ClientMark) (after : List (Told × ClientMark)) (mails : List Mail) → marked ≡ before ++ last ∷ after
+failure_told : (marked before : List (Told × ClientMark)) (last : Told × ClientMark) (after : List (Told × ClientMark)) (mails : List Mail) → marked
+    ≡ before ++ last ∷ after
     → map (λ m. m.0) marked ≡ all_told mails → last.0.message ≡ ReadFailed → HasFailure (messages_of mails)
 failure_told marked before last after mails whole is e =
     let told = has_split (λ (m : Told × ClientMark). m.0.message) before last after e in
     let all : HasFailure (map (λ (m : Told × ClientMark). m.0.message) marked) =
     subst (λ (ms : List (Told × ClientMark)). HasFailure (map (λ (m : Told × ClientMark). m.0.message) ms)) (sym whole) told in
-    let same : map (λ (m : Told × ClientMark). m.0.message) marked ≡ messages_of mails = twice marked ∙ ap (map (λ (t : Told). t.message)) is ∙ messages_told mails in
+    let same : map (λ (m : Told × ClientMark). m.0.message) marked ≡ messages_of mails = twice marked ∙ ap (map (λ (t : Told). t.message)) is
+    ∙ messages_told mails in
     subst HasFailure same all
   where
     twice : (ms : List (Told × ClientMark)) → map (λ (m : Told × ClientMark). m.0.message) ms ≡ map (λ (t : Told). t.message) (map (λ m. m.0) ms)
@@ -77,7 +79,8 @@ read_cause stopped keys_reader net_reader from_keys from_net handled keys net ma
     by Back h = absurd (none Back (woven Back) h)
 
 -- a mark that says otherwise
-by_false : (is : ClientMark → Bool) (marked before : List (Told × ClientMark)) (last : Told × ClientMark) (after : List (Told × ClientMark)) → marked ≡ before ++ last ∷ after
+by_false : (is : ClientMark → Bool) (marked before : List (Told × ClientMark)) (last : Told × ClientMark) (after : List (Told × ClientMark)) → marked
+    ≡ before ++ last ∷ after
     → is last.1 ≡ false → all_by is marked ≡ false
 by_false is marked before last after whole e = ap (all_by is) whole ∙ at before
   where
@@ -85,7 +88,8 @@ by_false is marked before last after whole e = ap (all_by is) whole ∙ at befor
     at [] = ap (λ (b : Bool). b && all_by is after) e
     at ((m, k) ∷ ms) = never_and (is k) (all_by is (ms ++ last ∷ after)) (at ms)
 
-pub write_cause : (p q r t : Option Calls) (marked : List (Told × ClientMark)) → Tells (all_by no_write_failed marked) p q → Tells (all_by no_show_failed marked) r t
+pub write_cause : (p q r t : Option Calls) (marked : List (Told × ClientMark)) → Tells (all_by no_write_failed marked) p q →
+    Tells (all_by no_show_failed marked) r t
     → (c : Run) → IsEndedAt c marked (ended.Fault fault.Write) → SomeFailed max_writes p q ⊎ SomeFailed max_writes r t
 write_cause p q r t marked tells shows c at =
     ⊎_elim

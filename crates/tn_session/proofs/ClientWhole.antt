@@ -77,7 +77,8 @@ all_out marked rest all never = by (all_written marked) refl
     by false e = absurd (false_true (never (unwritten marked e)))
 
 -- the transcript, as it was noted
-client_noted : (begin last : Run) (steps : List ((Told × ClientMark) × List ℕ)) (marked : List (Told × ClientMark)) (handled : List Mail) (bytes : List ℕ) (noted : Noted)
+client_noted : (begin last : Run) (steps : List ((Told × ClientMark) × List ℕ)) (marked : List (Told × ClientMark)) (handled : List Mail) (bytes : List ℕ)
+    (noted : Noted)
     → FoldsTo (IsStep Turns says is_over is_marked_written) begin steps last → map (λ s. s.0) steps ≡ marked → map (λ m. m.0) marked ≡ all_told handled
     → bytes ≡ total steps → says begin ≡ [] → (all : NotesAll handled (map (λ s. s.1) steps) no_notes noted)
     → (transcript : List Exchange) × (transcript ≡ map (exchange_of brought_by) all.more) × Transcribes Turns brings says begin marked last bytes transcript

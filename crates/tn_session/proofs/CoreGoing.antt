@@ -243,7 +243,8 @@ whole_written mark.ShowFailed e = refl
 whole_written (mark.Refused f) e = e
 
 -- what goes on by one message more: it, its mark, and what was written after it
-abbrev pub MovesOn : {a b d : Core} {ms ns : List Told} {w s w₁ s₁ : KnownWriting} → ToldAll a ms w s b → ToldAll a ns w₁ s₁ d → Told × ClientMark → List ℕ → Type 0
+abbrev pub MovesOn : {a b d : Core} {ms ns : List Told} {w s w₁ s₁ : KnownWriting} → ToldAll a ms w s b → ToldAll a ns w₁ s₁ d → Told × ClientMark → List ℕ →
+    Type 0
 MovesOn one next m bytes = (next.marked ≡ one.marked ++ m ∷ []) × (next.steps ≡ one.steps ++ (m, bytes) ∷ [])
 
 unwritten_one : (m : ClientMark) → is_written m ≡ false → is_whole m ≡ false
@@ -382,7 +383,8 @@ core_told a b d xs x w s w₁ s₁ w₂ s₂ o r told due now gone one t next ma
     is_due ∙ ap (λ (n : ClientProgress). core_stops n && not gone) q.2.progress ∙ ap (λ (n : Bool). core_stops q.0.progress && not n) left in
     let after = stands_more Keys all_told (Runs c) (λ r. core_stops r.progress) xs x one.marked (told_of x, t.mark) p.0 q.0 told due now before one.whole p.1
     (core_stays p.0 q.0 (told_of x) t.mark q.1) due_now tells in
-    let M : List (Told × ClientMark) → Type 0 = λ ms. StandsTold Keys all_told (Runs c) (λ r. core_stops r.progress) (xs ++ x ∷ []) ms (core_stops q.0.progress) now
+    let M : List (Told × ClientMark) → Type 0 = λ ms. StandsTold Keys all_told (Runs c) (λ r. core_stops r.progress) (xs ++ x ∷ []) ms
+    (core_stops q.0.progress) now
     in
     let N : Bool → Type 0 = λ n. StandsTold Keys all_told (Runs c) (λ r. core_stops r.progress) (xs ++ x ∷ []) next.marked n now in
     subst N (sym (ap core_stops q.2.progress)) (subst M (sym marks) after)

@@ -199,7 +199,8 @@ whole_mark mark.WriteFailed e = absurd (false_true e)
 whole_mark (mark.Refused f put) e = absurd (false_true e)
 
 -- a write failed
-pub turned_off : (written : Bool) (m : ServerMark) (old mid new : Term) (message : Message) (bytes : List ℕ) (writer : KnownWriting) (t u : Noted) (v w : EntryHand)
+pub turned_off : (written : Bool) (m : ServerMark) (old mid new : Term) (message : Message) (bytes : List ℕ) (writer : KnownWriting) (t u : Noted)
+    (v w : EntryHand)
     (put other last : Put) → (written || not (is_whole m)) ≡ false → NotesWrite written writer.before.bytes writer.after.bytes bytes t u
     → Tells written writer.before.calls writer.after.calls → (bytes ≡ [] → written ≡ true) → IsTurn m old message bytes put other mid
     → (is_whole m ≡ true → other ≡ Nothing) → ((c : Run) → LeadsTo c mid → LeadsTo (fail fault.Write c) new)
@@ -231,7 +232,8 @@ whole-push ((n, mark.Whole) ∷ ms) m k = whole-push ms m k
 whole-push ((n, mark.WriteFailed) ∷ ms) m k = refl
 whole-push ((n, mark.Refused f put) ∷ ms) m k = refl
 
-map-push : (ms : List (Message × ServerMark)) (m : Message × ServerMark) (xs : List Message) → map (λ u. u.0) ms ≡ xs → map (λ u. u.0) (ms ++ m ∷ []) ≡ xs ++ m.0 ∷ []
+map-push : (ms : List (Message × ServerMark)) (m : Message × ServerMark) (xs : List Message) → map (λ u. u.0) ms ≡ xs → map (λ u. u.0) (ms ++ m ∷ [])
+    ≡ xs ++ m.0 ∷ []
 map-push [] m xs e = ap (λ (ys : List Message). ys ++ m.0 ∷ []) e
 map-push (n ∷ ms) m xs e = ap (λ (ys : List Message). n.0 ∷ ys) (map-push ms m (map (λ u. u.0) ms) refl) ∙ ap (λ (ys : List Message). ys ++ m.0 ∷ []) e
 
@@ -252,7 +254,8 @@ left_over false b s₀ s₁ s₂ b₁ b₂ r₁ r₂ e₁ e₂ w₁ w₂ q =
       λ e. absurd (false_true e),
     )
 
-well-push : (ms : List (Message × ServerMark)) (m : Message) (k : ServerMark) → no_writes_failed (ms ++ (m, k) ∷ []) ≡ (no_writes_failed ms && no_write_failed k)
+well-push : (ms : List (Message × ServerMark)) (m : Message) (k : ServerMark) → no_writes_failed (ms ++ (m, k) ∷ [])
+    ≡ (no_writes_failed ms && no_write_failed k)
 well-push [] m mark.Whole = refl
 well-push [] m mark.WriteFailed = refl
 well-push [] m (mark.Refused f put) = refl

@@ -1,5 +1,6 @@
 -- The running client session, of what its ports give back, for every schedule.
-use Rattle.std.specs.Prelude.{◌≡◌, ◌⊎◌, ℕ, Bool, true, false, Some, None, List, [], ◌++◌, length, map}
+use Rattle.std.specs.Prelude.{◌≡◌, ◌⊎◌, ℕ, Bool, IsTrue, false, IsFalse, Some, None, List, [], ◌++◌, length}
+use Rattle.std.specs.Prelude.{map}
 use Rattle.std.specs.Io.KnownBytes.{Appends}
 use Rattle.crossbeam_channel.specs.Claims.{view, IsSeatAt}
 use Rattle.crossbeam_channel.specs.Ends.{sends_on, receives_on, ruled_capacity}
@@ -108,7 +109,7 @@ pub record RunningClient (window : Window) (keys : KnownTyping) (net : KnownRead
   -- more came from the network, and else not; and only then it left after a piece
   pub keys_left : LeavesAt Keys all_told (Runs (start window.width window.height window.limit)) handled marked
   pub told : IsTold (core_stops keys_left.by_then.progress) result.told
-  pub stopped_for : stopped ≡ true → core_stops keys_left.by_then.progress ≡ true
+  pub stopped_for : IsTrue stopped → IsTrue (core_stops keys_left.by_then.progress)
   -- what was typed, keys and commands, and the bytes from the network whose items came, are the first of what
   -- these messages bring
   pub in_order : TakesInOrder (all_told handled) run
@@ -118,8 +119,8 @@ pub record RunningClient (window : Window) (keys : KnownTyping) (net : KnownRead
   pub appended : Appends writer.before.bytes writer.after.bytes written
   pub tells : Tells (all_by no_write_failed marked) writer.before.calls writer.after.calls
   pub sends : spells (items_said run.sent) ≡ written ++ unwritten
-  pub all_sent : all_written marked ≡ true → unwritten ≡ []
-  pub sent_whole : run.progress.over ≡ false → unwritten ≡ []
+  pub all_sent : IsTrue (all_written marked) → unwritten ≡ []
+  pub sent_whole : IsFalse run.progress.over → unwritten ≡ []
   -- ITS TRANSCRIPT: what it read is what the reader gave and Net sent on, and what it wrote is all that was
   -- written
   pub transcript : List Exchange
@@ -150,7 +151,7 @@ pub record RunningClient (window : Window) (keys : KnownTyping) (net : KnownRead
   pub displayed : Appends screen.before.bytes screen.after.bytes shown
   pub tells_shown : Tells (all_by no_show_failed marked) screen.before.calls screen.after.calls
   pub shows : text_shown run.history ≡ shown ++ unshown
-  pub all_shown : all_whole marked ≡ true → unshown ≡ []
+  pub all_shown : IsTrue (all_whole marked) → unshown ≡ []
   -- the report
   pub report_is : result.report ≡ client_report run.progress
   -- a fault is told only where its cause was there

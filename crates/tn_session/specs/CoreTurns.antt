@@ -1,5 +1,5 @@
 -- The messages that the core of a client's session handled, and what was written and shown.
-use Rattle.std.specs.Prelude.{◌≡◌, ℕ, ◌≤◌, Bool, true, false, List, map}
+use Rattle.std.specs.Prelude.{◌≡◌, ℕ, ◌≤◌, Bool, IsTrue, IsFalse, List, map}
 use Rattle.std.specs.List.{FoldsTo}
 use Rattle.std.specs.Io.KnownBytes.{Appends}
 use Rattle.tn_client.specs.Replies.{items_said}
@@ -80,8 +80,8 @@ pub record ToldAll (old : Core) (messages : List Told) (writer screen : KnownWri
       (next : Run) × Runs c marked next × LeadsTo next new
       × SendsPrefix c next bytes (all_written marked) × ShowsPrefix c next text (all_whole marked)
       × FoldsTo (IsStep Turns says is_over is_marked_written) c steps next
-  pub over : all_whole marked ≡ false → new.progress.over ≡ true
-  pub stays : old.progress.over ≡ true → new.progress.over ≡ true
+  pub over : IsFalse (all_whole marked) → IsTrue new.progress.over
+  pub stays : IsTrue old.progress.over → IsTrue new.progress.over
 
 -- what the core did: of the views before and after, of the writer to the network and of the screen, of what
 -- it noted from its beginning, and of the word to stop

@@ -1,6 +1,6 @@
 -- What the core of a session did, in the order in which it did it: which mail it took, and which bytes it
 -- wrote to the network before it took the next.
-use Rattle.std.specs.Prelude.{◌≡◌, ℕ, Bool, true, Option, Some, None, List, [], ◌∷◌, ◌++◌, map}
+use Rattle.std.specs.Prelude.{◌≡◌, ℕ, Bool, IsTrue, Option, Some, None, List, [], ◌∷◌, ◌++◌, map}
 use Rattle.std.specs.Io.KnownBytes.{Appends}
 use Rattle.tn_session.specs.declared.mail.Mail.{Mail}
 use Rattle.tn_session.specs.declared.transcript.Transcript.{Transcript, Begun, Took', Wrote'}
@@ -35,7 +35,7 @@ pub record NotesWrite (well : Bool) (old new : Option (List ℕ)) (bytes : List 
   pub front : List ℕ
   pub back : List ℕ
   pub whole : bytes ≡ front ++ back
-  pub all : well ≡ true → back ≡ []
+  pub all : IsTrue well → back ≡ []
   pub wrote : Appends old new front
   pub noted : after ≡ writes before front
 

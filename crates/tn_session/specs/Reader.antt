@@ -1,5 +1,5 @@
 -- What a thread that reads sends, whichever it is.
-use Rattle.std.specs.Prelude.{◌≡◌, ◌≢◌, ℕ, Bool, true, List, Option, [], ◌∷◌, ◌++◌, ◌⊎◌, length, map}
+use Rattle.std.specs.Prelude.{◌≡◌, ◌≢◌, ℕ, Bool, IsTrue, List, Option, [], ◌∷◌, ◌++◌, ◌⊎◌, length, map}
 use Rattle.std.specs.Prelude.{option_to_list, All}
 use Rattle.std.specs.Io.KnownBytes.{Consumes}
 use Rattle.std.specs.List.{concat}
@@ -23,7 +23,7 @@ abbrev pub Closes : Bool → List (List ℕ) → Option (List ℕ) → Option Fa
 Closes may_stop pieces left foretold close =
     ((last : Message) × (IsEnding last left × IsReadCause foretold (length pieces) last)
     × (close ≡ last ∷ Left ∷ []))
-    ⊎ ((may_stop ≡ true) × (pieces ≢ []) × (close ≡ Left ∷ []))
+    ⊎ (IsTrue may_stop × (pieces ≢ []) × (close ≡ Left ∷ []))
 
 abbrev pub sends : Sender → List Message → View
 sends who messages = sender who (map (mail who) messages)

@@ -1,5 +1,6 @@
 -- The running session, of what its ports give back, for every schedule.
-use Rattle.std.specs.Prelude.{◌≡◌, ◌⊎◌, ℕ, Bool, true, false, ◌&&◌, Option, Some, None, List, [], ◌∷◌, ◌++◌, length, map}
+use Rattle.std.specs.Prelude.{◌≡◌, ◌⊎◌, ℕ, Bool, IsTrue, false, IsFalse, ◌&&◌, Option, Some, None, List, []}
+use Rattle.std.specs.Prelude.{◌∷◌, ◌++◌, length, map}
 use Rattle.std.specs.Io.KnownBytes.{Appends, Consumes, IsAtEnd}
 use Rattle.tn_discipline.specs.declared.reads.Entry.{Entry}
 use Rattle.tn_jobs.specs.Jobs.{Jobs}
@@ -77,7 +78,7 @@ pub record IsOpening (old : Term) (words : List ℕ) (writer : KnownWriting) (be
   pub wrote : NotesWrite written writer.before.bytes writer.after.bytes words before after
   pub tells : Tells written writer.before.calls writer.after.calls
   pub leads : (c : Run) → LeadsTo c old → LeadsTo (run_after_opening written c) new
-  pub over : written ≡ false → new.progress.over ≡ true
+  pub over : IsFalse written → IsTrue new.progress.over
 
 -- One, two, three, four and six of what is said of a session: of what the three threads sent, in the order
 -- that these passes know, of what the terminal handled, put and wrote, and of what the foreground job took.
@@ -106,7 +107,7 @@ pub record Schedule {J : Type 0} (acts : JobActs J) (jobs : SessionJobs J) (sett
   pub unwritten : List ℕ
   pub appended : Appends writer.before.bytes writer.after.bytes written
   pub sends : spells (items_said run.history) ≡ written ++ unwritten
-  pub all_written : (wrote_opening && all_whole marked) ≡ true → unwritten ≡ []
+  pub all_written : IsTrue (wrote_opening && all_whole marked) → unwritten ≡ []
   pub tells : Tells (wrote_opening && no_writes_failed marked) writer.before.calls writer.after.calls
   pub put_is : result.views.put ≡ putter run.puts
   -- four: what was taken begins what was put, and what the jobs said is theirs, from where they began
@@ -121,7 +122,7 @@ pub record Schedule {J : Type 0} (acts : JobActs J) (jobs : SessionJobs J) (sett
   pub back_left : LeavesAt Back messages_of
       (Runs (run_after_opening wrote_opening (start settings.canon settings.editing table))) handled marked
   pub told : IsTold (term_stops back_left.by_then.progress) result.views.told
-  pub stopped_for : stopped ≡ true → term_stops back_left.by_then.progress ≡ true
+  pub stopped_for : IsTrue stopped → IsTrue (term_stops back_left.by_then.progress)
   -- six: the report
   pub report_is : result.report ≡ report_of run.progress
 

@@ -1,5 +1,6 @@
 -- What the thread of the background jobs sends.
-use Rattle.std.specs.Prelude.{◌≡◌, ℕ, ◌==◌, Bool, true, false, Option, Some, None, List, [], ◌∷◌, ◌++◌, ◌⊎◌, map, if◌then◌else◌}
+use Rattle.std.specs.Prelude.{◌≡◌, ℕ, ◌==◌, Bool, true, IsTrue, false, Option, Some, None, List, [], ◌∷◌}
+use Rattle.std.specs.Prelude.{◌++◌, ◌⊎◌, map, if◌then◌else◌}
 use Rattle.std.specs.List.{FoldsTo}
 use Rattle.tn_jobs.specs.Judging.{judged}
 use Rattle.tn_jobs.specs.declared.held_jobs.JobId.{JobId}
@@ -57,7 +58,7 @@ stays tostop r = leaves_in_background (judged job.Background (has_text r.text) r
 abbrev pub LeavesLast : Bool → List Reaction → Type 0
 LeavesLast tostop [] = Unit {0}
 LeavesLast tostop (r ∷ []) = Unit {0}
-LeavesLast tostop (r ∷ next ∷ rs) = (stays tostop r ≡ true) × LeavesLast tostop (next ∷ rs)
+LeavesLast tostop (r ∷ next ∷ rs) = IsTrue (stays tostop r) × LeavesLast tostop (next ∷ rs)
 
 -- the background jobs by their numbers, and whether a text stops one (the flag TOSTOP of the terminal)
 pub record BackJobs : Type 0 where
@@ -89,7 +90,7 @@ abbrev pub LeavesFor : {J : Type 0} → (ℕ → J → Type 0) → JobActs J →
     → List ℕ → Type 0
 LeavesFor began acts stopped said close [] = close ≡ Left ∷ []
 LeavesFor {J} began acts stopped said close (id ∷ ids) =
-    ((close ≡ Left ∷ []) × (stopped ≡ true))
+    ((close ≡ Left ∷ []) × IsTrue stopped)
     ⊎ ((close ≡ Refused ∷ Left ∷ []) × IsRefused {J = J} began acts said id)
 
 -- of these jobs: each step is one of theirs, those of each go through its states, no job makes one after it

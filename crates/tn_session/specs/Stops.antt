@@ -1,6 +1,7 @@
 -- Why a thread stops that has more to do: it was told. It is told after the first message by which nothing
 -- has any effect any more, or nothing more comes from the network, unless it has left by then.
-use Rattle.std.specs.Prelude.{◌≡◌, Bool, true, false, ◌||◌, ◌&&◌, Option, Some, None, List, [], ◌∷◌, ◌++◌, map, ⊤}
+use Rattle.std.specs.Prelude.{◌≡◌, Bool, true, IsTrue, false, IsFalse, ◌||◌, ◌&&◌, Option, Some, None, List}
+use Rattle.std.specs.Prelude.{[], ◌∷◌, ◌++◌, map, ⊤}
 use Rattle.crossbeam_channel.specs.Claims.{view, IsSeatAt}
 use Rattle.crossbeam_channel.specs.Ends.{sends_on, receives_on}
 use Rattle.tn_machines.specs.declared.client.progress.ClientProgress.{ClientProgress}
@@ -40,7 +41,7 @@ has_stopped None = false
 abbrev pub TakesStop : Bool → StopHand → StopHand → Type 0
 TakesStop took v w =
     (l : List Stop) → v ≡ taker l → (k : List Stop) × (w ≡ taker k)
-    × (took ≡ true → took_some (Some k) ≡ true)
+    × (IsTrue took → IsTrue (took_some (Some k)))
 
 -- the seat stays at its channel
 abbrev pub StopsStay : Option StopSeat → Option StopSeat → Type 0
@@ -81,7 +82,7 @@ pub record LeavesAt {Said Mark Run : Type 0} (who : Sender) (said : List Mail �
   pub before : List Mail
   pub after : List Mail
   pub whole : handled ≡ before ++ mail who Left ∷ after
-  pub here : has_left who before ≡ false
+  pub here : IsFalse (has_left who before)
   pub first : List (Said × Mark)
   pub later : List (Said × Mark)
   pub marks : marked ≡ first ++ later
@@ -93,6 +94,6 @@ pub record LeavesAt {Said Mark Run : Type 0} (who : Sender) (said : List Mail �
 pub record StandsTold {Said Mark Run : Type 0} (who : Sender) (said : List Mail → List Said)
     (runs : List (Said × Mark) → Run → Type 0) (stops : Run → Bool) (handled : List Mail)
     (marked : List (Said × Mark)) (now told : Bool) : Type 0 where
-  pub here : has_left who handled ≡ false → told ≡ now
-  pub gone : has_left who handled ≡ true
+  pub here : IsFalse (has_left who handled) → told ≡ now
+  pub gone : IsTrue (has_left who handled)
       → (at : LeavesAt who said runs handled marked) × (told ≡ stops at.by_then)

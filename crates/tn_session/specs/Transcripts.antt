@@ -1,6 +1,7 @@
 -- What can be seen of a session on its connection: step by step, which bytes it read and which it wrote. Read
 -- `Exchange`, `all_read`, `all_wrote` and `came_by`; what follows ties them to a run.
-use Rattle.std.specs.Prelude.{◌≡◌, ◌⊎◌, ℕ, Bool, true, false, Option, Some, None, List, [], ◌∷◌, ◌++◌, map}
+use Rattle.std.specs.Prelude.{◌≡◌, ◌⊎◌, ℕ, Bool, IsTrue, IsFalse, Option, Some, None, List, [], ◌∷◌, ◌++◌}
+use Rattle.std.specs.Prelude.{map}
 use Rattle.std.specs.Io.KnownBytes.{Consumes}
 use Rattle.std.specs.List.{FoldsTo}
 use Rattle.tn_machines.specs.Pieces.{bytes_in}
@@ -58,10 +59,10 @@ pub record IsStep {R M : Type 0} (turns : R → M → R → Type 0) (says : R �
   pub turn : turns old step.0 new
   pub rest : List ℕ
   pub said : says new ≡ says old ++ (step.1 ++ rest)
-  pub all : is_whole step.0 ≡ true → rest ≡ []
-  pub over : is_whole step.0 ≡ false → is_over new ≡ true
-  pub stays : is_over old ≡ true → is_over new ≡ true
-  pub idle : is_over old ≡ true → step.1 ≡ []
+  pub all : IsTrue (is_whole step.0) → rest ≡ []
+  pub over : IsFalse (is_whole step.0) → IsTrue (is_over new)
+  pub stays : IsTrue (is_over old) → IsTrue (is_over new)
+  pub idle : IsTrue (is_over old) → step.1 ≡ []
 
 -- all that was written in these steps
 abbrev pub total : {M : Type 0} → List (M × List ℕ) → List ℕ

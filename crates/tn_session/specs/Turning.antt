@@ -1,5 +1,5 @@
 -- The background jobs that run, in a queue.
-use Rattle.std.specs.Prelude.{◌≡◌, ℕ, Bool, true, false, None, List, [], ◌∷◌, ◌++◌, ◌⊎◌}
+use Rattle.std.specs.Prelude.{◌≡◌, ℕ, Bool, true, IsTrue, false, None, List, [], ◌∷◌, ◌++◌, ◌⊎◌}
 use Rattle.std.specs.List.{FoldsTo}
 use Rattle.tn_jobs.specs.declared.held_jobs.JobId.{JobId}
 use Rattle.tn_session.specs.Acts.{JobActs}
@@ -58,7 +58,7 @@ EachRuns began steps ids said (r ∷ rs) =
 -- all of them left the job in the background
 abbrev pub AllStay : Bool → List Reaction → Type 0
 AllStay tostop [] = Unit {0}
-AllStay tostop (r ∷ rs) = (stays tostop r ≡ true) × AllStay tostop rs
+AllStay tostop (r ∷ rs) = IsTrue (stays tostop r) × AllStay tostop rs
 
 -- and so of each job that is still in the queue
 abbrev pub EachStays : {J : Type 0} → Bool → List (JobId × Reaction) → List (Runner J) → Type 0

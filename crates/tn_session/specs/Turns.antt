@@ -1,5 +1,6 @@
 -- The messages that were handled, and what was put and written.
-use Rattle.std.specs.Prelude.{◌≡◌, ℕ, ◌+◌, ◌≤◌, Bool, true, false, Option, List, [], ◌∷◌, ◌++◌, map}
+use Rattle.std.specs.Prelude.{◌≡◌, ℕ, ◌+◌, ◌≤◌, Bool, true, IsTrue, false, IsFalse, Option, List, [], ◌∷◌}
+use Rattle.std.specs.Prelude.{◌++◌, map}
 use Rattle.std.specs.List.{FoldsTo}
 use Rattle.std.specs.Io.KnownBytes.{Appends}
 use Rattle.tn_discipline.specs.declared.reads.Entry.{Entry}
@@ -83,11 +84,11 @@ pub record GoesOn (old : Term) (messages : List Message) (writer : KnownWriting)
       (next : Run) × Runs c marked next × LeadsTo next new × (next.puts ≡ c.puts ++ puts)
       × (rest : List ℕ)
       × (spells (items_said next.history) ≡ spells (items_said c.history) ++ (bytes ++ rest))
-      × (all_whole marked ≡ true → rest ≡ [])
+      × (IsTrue (all_whole marked) → rest ≡ [])
       × FoldsTo (IsStep Turns says is_over is_marked_whole) c steps next
-  pub over : all_whole marked ≡ false → new.progress.over ≡ true
-  pub stays : old.progress.over ≡ true → new.progress.over ≡ true
-  pub idle : old.progress.over ≡ true → bytes ≡ []
+  pub over : IsFalse (all_whole marked) → IsTrue new.progress.over
+  pub stays : IsTrue old.progress.over → IsTrue new.progress.over
+  pub idle : IsTrue old.progress.over → bytes ≡ []
 
 abbrev pub left_one : Message → ℕ
 left_one Left = 1

@@ -99,7 +99,8 @@ pub(crate) fn run_back<R: Wait, J: Job, G: Gate>(
     requires credits { IsSeatAt (receives_on credits.old.seat.from) credits.old.seat.pass }
     ensures seat { IfSome result (λ p. IsSeatAt (sends_on seat.to) p) }
     ensures stepped { IfSome result (λ p. AreSteps (Holds queue.items)
-        (job_acts J.reacts J.steps J.refuses) (queue_of tostop queue.items) (has_stopped stops.new) (view p)) }
+        (job_acts J.reacts J.steps J.refuses) (queue_of tostop queue.items) (has_stopped stops.new)
+        (view p)) }
     ensures stays { StopsStay stops.old stops.new }
     ensures credited { IfSome result (λ p. (mails : List MailT) → view p ≡ sender Back mails →
         HaveUsed (steps_among mails) credits.old credits.new) }

@@ -180,7 +180,8 @@ where
         (view watched.stops.pass ≡ putter []) }
     ensures fault { IfErr result (λ fault. fault ≡ SessionFault.Channel) }
     ensures ran { IfOk result (λ r.
-        IsClientRun core.old (known_typing K.remaining K.foretold K.sizes K.controls started.keys.promise.reader.value)
+        IsClientRun core.old (known_typing K.remaining K.foretold K.sizes K.controls
+        started.keys.promise.reader.value)
         (known_reader N.remaining N.foretold N.sizes started.net.promise.reader.value)
         (known_writing W.contents W.told writer.old writer.new)
         (known_writing S.contents S.told screen.old screen.new) (client_result r.0 r.1)) }

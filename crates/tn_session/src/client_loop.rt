@@ -1,6 +1,6 @@
 //! The core of a client's session: mails are handled until both senders have left.
 
-ghost use Rattle.std.specs.Prelude.{◌≡◌, ◌&&◌, ◌||◌, not, true, Some, [], IfSome};
+ghost use Rattle.std.specs.Prelude.{◌≡◌, ◌&&◌, ◌||◌, not, true, IsTrue, Some, [], IfSome};
 ghost use Rattle.crossbeam_channel.specs.Claims.{view, IsSeatAt};
 ghost use Rattle.crossbeam_channel.specs.Ends.{receives_on, sends_on};
 ghost use Rattle.tn_machines.specs.client.Marks.{is_whole};
@@ -85,9 +85,9 @@ fn turn<W: Finish, S: Drain, G: Gate>(
         (known_writing S.contents S.told screen.old screen.new) (noted_of output.old.transcript)
         (noted_of output.new.transcript) core.new }
     ensures going { StaysOpen (W.sending writer.old) (W.sending writer.new) }
-    ensures silent { (core.old.progress.over || core.old.progress.closed) ≡ true →
+    ensures silent { IsTrue (core.old.progress.over || core.old.progress.closed) →
         W.sending writer.new ≡ W.sending writer.old }
-    ensures closed { core.old.progress.closed ≡ true → core.new.progress.closed ≡ true }
+    ensures closed { IsTrue core.old.progress.closed → IsTrue core.new.progress.closed }
 {
     let mark = core.handle(told, &mut output.out, text);
     tell(gate, core);
@@ -150,7 +150,8 @@ pub(crate) fn run_core<R: Wait, W: Finish, S: Drain, G: Gate>(
     ensures mailbox { IfSome result (λ r. IsSeatAt (receives_on from.now) r.0) }
     ensures acted { IfSome result (λ r.
         CoreHandles core.old (view pass) (view r.0) (known_writing W.contents W.told writer.old writer.new)
-        (known_writing S.contents S.told screen.old screen.new) (noted_of r.1) (view watched.new.stops.pass) core.new) }
+        (known_writing S.contents S.told screen.old screen.new) (noted_of r.1)
+        (view watched.new.stops.pass) core.new) }
     ensures finished { IfSome result (λ p. IsFinished (W.sending writer.old) (W.sending writer.new)) }
     ensures stops { IfSome result (λ p. (watched.new.stops.to ≡ watched.old.stops.to) ×
         IsSeatAt (sends_on watched.new.stops.to) watched.new.stops.pass) }

@@ -3,7 +3,7 @@
 //! for the terminal: their thread takes a credit for each step, and the terminal gives one back for each that
 //! it takes. So a key is passed by few messages, however fast these jobs are.
 
-ghost use Rattle.std.specs.Prelude.{◌≡◌, ◌≤◌, ◌<◌, ◌+◌, true, false, length, IfOk, IfSome};
+ghost use Rattle.std.specs.Prelude.{◌≡◌, ◌≤◌, ◌<◌, ◌+◌, true, IsTrue, false, IsFalse, length, IfOk, IfSome};
 ghost use Rattle.crossbeam_channel.specs.Claims.{view, IsSeatAt};
 ghost use Rattle.crossbeam_channel.specs.Ends.{sends_on, receives_on};
 ghost use Rattle.tn_server.specs.Lines.{waiting};
@@ -216,11 +216,11 @@ pub(crate) fn give_credit<R: Wait>(
 ) -> bool
     requires seat { IsSeatAt (sends_on credits.now) pass.old }
     ensures seat { IsSeatAt (sends_on credits.now) pass.new }
-    ensures given { (c : Run) → LeadsTo c term.now → owed ≡ true → result ≡ false →
-        term.now.progress.over ≡ false → length (waiting c.history) ≤ 511 }
-    ensures kept { (c : Run) → LeadsTo c term.now → result ≡ true → 511 < length (waiting c.history) }
-    ensures over { term.now.progress.over ≡ true → result ≡ false }
-    ensures none { owed ≡ false → result ≡ false }
+    ensures given { (c : Run) → LeadsTo c term.now → IsTrue owed → IsFalse result →
+        IsFalse term.now.progress.over → length (waiting c.history) ≤ 511 }
+    ensures kept { (c : Run) → LeadsTo c term.now → IsTrue result → 511 < length (waiting c.history) }
+    ensures over { IsTrue term.now.progress.over → IsFalse result }
+    ensures none { IsFalse owed → IsFalse result }
     ensures counted { length (view pass.new).given + owed_one result ≤
         length (view pass.old).given + owed_one owed }
 {

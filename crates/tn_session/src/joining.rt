@@ -1,6 +1,6 @@
 //! The passes of a session are joined, compared, and split again.
 
-ghost use Rattle.std.specs.Prelude.{◌≡◌, ◌≢◌, List, [], true, IfSome};
+ghost use Rattle.std.specs.Prelude.{◌≡◌, ◌≢◌, List, [], IsTrue, IfSome};
 ghost use Rattle.crossbeam_channel.specs.Claims.{view, IsSeatAt};
 ghost use Rattle.crossbeam_channel.specs.Ends.{sends_on};
 ghost use Rattle.tn_session.specs.Facts.{views_of};
@@ -44,7 +44,7 @@ pub(crate) fn settle(
     })
         (views_of result) }
     ensures transcript { result.transcript ≡ transcript }
-    ensures stopped { has_stopped returned.back.stops ≡ true → view teller.pass ≢ putter [] }
+    ensures stopped { IsTrue (has_stopped returned.back.stops) → view teller.pass ≢ putter [] }
 {
     let Passes {
         mut mails,

@@ -455,7 +455,8 @@ where
     ensures fault { IfErr result IsRefusal }
     ensures none { M.left maker ≡ Some 0 → IsErrOf result SessionFault.Start }
     ensures ran { IfOk result (λ r.
-        RunningSession (job_facts (begins M.Job.fresh M.gives maker) M.Job.reacts M.Job.steps M.Job.refuses) (M.left maker)
+        RunningSession (job_facts (begins M.Job.fresh M.gives maker) M.Job.reacts M.Job.steps M.Job.refuses)
+        (M.left maker)
         (record { canon = record { settings = settings; limit = limit }; editing = editing })
         (known_reader Rd.remaining Rd.foretold Rd.sizes reader)
         (known_writing W.contents W.told writer.old writer.new) (session_result r.0 r.1)) }

@@ -1,7 +1,7 @@
 //! A thread is told once to stop: the one that reads the keys after its next piece, and the one of the
 //! background jobs before its next step.
 
-ghost use Rattle.std.specs.Prelude.{◌≡◌, ◌≢◌, ◌||◌, List, [], true, IfOk, IfSome};
+ghost use Rattle.std.specs.Prelude.{◌≡◌, ◌≢◌, ◌||◌, List, [], true, IsTrue, IfOk, IfSome};
 ghost use Rattle.crossbeam_channel.specs.Claims.{view, IsSeatAt};
 ghost use Rattle.crossbeam_channel.specs.Ends.{sends_on, receives_on};
 ghost use Rattle.tn_queue.specs.Queue.{putter, taker};
@@ -71,7 +71,7 @@ impl StopSeat {
 pub(crate) fn is_stopped<R: Wait>(rt: &R, stops: &mut Option<StopSeat>) -> bool
     requires seat { StopsStay stops.old stops.old }
     ensures stays { StopsStay stops.old stops.new }
-    ensures told { result ≡ true → has_stopped stops.new ≡ true }
+    ensures told { IsTrue result → IsTrue (has_stopped stops.new) }
 {
     match stops {
         Some(seat) => seat.take(rt),
@@ -108,7 +108,7 @@ impl StopTeller {
         requires told { (l : List StopT) × (view self.pass ≡ putter l) }
         requires seat { IfSome stops (λ s. IsSeatAt (sends_on self.to) s.pass) }
         ensures same { view result ≡ view self.pass }
-        ensures told { has_stopped stops ≡ true → view self.pass ≢ putter [] }
+        ensures told { IsTrue (has_stopped stops) → view self.pass ≢ putter [] }
     {
         let StopTeller { to, pass: mut put } = self;
         let Some(StopSeat { from: _, pass }) = stops else {

@@ -1,6 +1,7 @@
 //! The thread of the terminal: mails are handled until all senders have left.
 
-ghost use Rattle.std.specs.Prelude.{◌≡◌, ◌≤◌, ◌&&◌, ◌||◌, not, ◌++◌, ◌∷◌, List, Option, Some, [], true, false, IfOk, IfSome};
+ghost use Rattle.std.specs.Prelude.{◌≡◌, ◌≤◌, ◌&&◌, ◌||◌, not, ◌++◌, ◌∷◌, List, Option, Some, [], true};
+ghost use Rattle.std.specs.Prelude.{IsTrue, false, IfOk, IfSome};
 ghost use Rattle.std.specs.Io.KnownBytes.{Keeps};
 ghost use Rattle.crossbeam_channel.specs.Claims.{view, IsSeatAt};
 ghost use Rattle.crossbeam_channel.specs.Ends.{sends_on, receives_on};
@@ -155,7 +156,7 @@ fn turn<R: Wait, W: Finish>(
         TurnsMessage term.old message (known_writing W.contents W.told writer.old writer.new)
         (noted_of output.old.transcript) (noted_of output.new.transcript) (view hand) (view h) term.new) }
     ensures going { StaysOpen (W.sending writer.old) (W.sending writer.new) }
-    ensures silent { term.old.progress.over ≡ true → W.sending writer.new ≡ W.sending writer.old }
+    ensures silent { IsTrue term.old.progress.over → W.sending writer.new ≡ W.sending writer.old }
 {
     let MessageOutcome { put, last, mark } = term.handle(message, &mut output.out);
     let hand = put_if(rt, entries, hand, put);

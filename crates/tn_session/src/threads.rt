@@ -107,7 +107,8 @@ impl<J: Job> Promise<Option<ThreadLeft>> for BackSays<J> {
 
     ghost kept_by = { λ p r.
         IfSome r (λ left. IsSeatAt (sends_on p.to.value) left.pass ×
-        AreSteps (Holds p.queue.value.items) (job_acts J.reacts J.steps J.refuses) (queue_of p.tostop p.queue.value.items)
+        AreSteps (Holds p.queue.value.items) (job_acts J.reacts J.steps J.refuses)
+        (queue_of p.tostop p.queue.value.items)
         (has_stopped left.stops) (view left.pass) ×
         StopsStay p.stops.value left.stops) };
 }
@@ -143,7 +144,8 @@ pub(crate) fn start_reader<
         requires { IsSeatAt (sends_on seat.to) seat.pass × (view seat.pass ≡ sender part.who []) ×
             IsSeated credits × StopsStay stops stops }
         ensures { IfSome result (λ left. IsSeatAt (sends_on seat.to) left.pass ×
-            TypingSends part.who (has_stopped left.stops) (known_typing Rd.remaining Rd.foretold Rd.sizes Rd.controls reader)
+            TypingSends part.who (has_stopped left.stops)
+            (known_typing Rd.remaining Rd.foretold Rd.sizes Rd.controls reader)
             (view left.pass) × StopsStay stops left.stops) }
     {
         let mut credits = credits;
@@ -292,10 +294,12 @@ impl<Rd: Source, J: Job> Started<Rd, J> {
     pub(crate) fn join<R: Threads + Wait>(self, rt: &R) -> Option<Returned>
         ensures net { IfSome result (λ r. IsSeatAt (sends_on self.net.promise.to.value) r.net ×
             (self.net.promise.stops.value ≡ None → TypingSends self.net.promise.who false
-            (known_typing Rd.remaining Rd.foretold Rd.sizes Rd.controls self.net.promise.reader.value) (view r.net))) }
+            (known_typing Rd.remaining Rd.foretold Rd.sizes Rd.controls self.net.promise.reader.value)
+            (view r.net))) }
         ensures desk { IfSome result (λ r. IsSeatAt (sends_on self.desk.promise.to.value) r.desk ×
             IsSeatAt (receives_on self.desk.promise.from.value) r.took ×
-            IsTalk self.desk.promise.id (IsJob self.desk.promise.job.value) (job_acts J.reacts J.steps J.refuses)
+            IsTalk self.desk.promise.id (IsJob self.desk.promise.job.value)
+            (job_acts J.reacts J.steps J.refuses)
             (view r.desk) (view r.took)) }
         ensures back { IfSome result (λ r. IsSeatAt (sends_on self.back.promise.to.value) r.back.pass ×
             AreSteps (Holds self.back.promise.queue.value.items) (job_acts J.reacts J.steps J.refuses)
@@ -340,10 +344,12 @@ impl<N: Source, K: Source> ClientStarted<N, K> {
     pub(crate) fn join<R: Threads + Wait>(self, rt: &R) -> Option<ClientReturned>
         ensures net { IfSome result (λ r. IsSeatAt (sends_on self.net.promise.to.value) r.net ×
             (self.net.promise.stops.value ≡ None → TypingSends self.net.promise.who false
-            (known_typing N.remaining N.foretold N.sizes N.controls self.net.promise.reader.value) (view r.net))) }
+            (known_typing N.remaining N.foretold N.sizes N.controls self.net.promise.reader.value)
+            (view r.net))) }
         ensures keys { IfSome result (λ r. IsSeatAt (sends_on self.keys.promise.to.value) r.keys.pass ×
             TypingSends self.keys.promise.who (has_stopped r.keys.stops)
-            (known_typing K.remaining K.foretold K.sizes K.controls self.keys.promise.reader.value) (view r.keys.pass)) }
+            (known_typing K.remaining K.foretold K.sizes K.controls self.keys.promise.reader.value)
+            (view r.keys.pass)) }
         ensures stays { IfSome result (λ r. StopsStay self.keys.promise.stops.value r.keys.stops) }
     {
         let ClientStarted { net, keys } = self;

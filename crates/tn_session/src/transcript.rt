@@ -1,6 +1,6 @@
 //! What the core of a session does, noted as it does it.
 
-ghost use Rattle.std.specs.Prelude.{◌≡◌, ◌∷◌, [], List, Some, IfSome, true};
+ghost use Rattle.std.specs.Prelude.{◌≡◌, ◌∷◌, [], List, Some, IfSome, IsTrue};
 ghost use Rattle.crossbeam_channel.specs.Claims.{view, IsSeatAt};
 ghost use Rattle.crossbeam_channel.specs.Ends.{receives_on};
 ghost use Rattle.tn_session.specs.Mailbox.{handed};
@@ -94,7 +94,7 @@ impl Transcript {
         ensures writes { NotesWrite result (W.contents writer.old) (W.contents writer.new) bytes.now
             (noted_of self.old) (noted_of self.new) }
         ensures tells { Tells result (W.told writer.old) (W.told writer.new) }
-        ensures none { bytes.now ≡ [] → result ≡ true }
+        ensures none { bytes.now ≡ [] → IsTrue result }
         ensures going { StaysOpen (W.sending writer.old) (W.sending writer.new) }
         ensures silent { bytes.now ≡ [] → W.sending writer.new ≡ W.sending writer.old }
     {
@@ -129,7 +129,7 @@ impl Output {
         ensures writes { NotesWrite result (W.contents writer.old) (W.contents writer.new) self.old.out.items
             (noted_of self.old.transcript) (noted_of self.new.transcript) }
         ensures tells { Tells result (W.told writer.old) (W.told writer.new) }
-        ensures none { self.old.out.items ≡ [] → result ≡ true }
+        ensures none { self.old.out.items ≡ [] → IsTrue result }
         ensures going { StaysOpen (W.sending writer.old) (W.sending writer.new) }
         ensures silent { self.old.out.items ≡ [] → W.sending writer.new ≡ W.sending writer.old }
     {

@@ -1,6 +1,6 @@
 //! What the terminal appends is written out, as far as the writer takes it.
 
-ghost use Rattle.std.specs.Prelude.{◌≡◌, ◌≤◌, ◌==◌, [], take, length, true};
+ghost use Rattle.std.specs.Prelude.{◌≡◌, ◌≤◌, ◌==◌, [], take, length, IsTrue};
 ghost use Rattle.std.specs.Io.KnownBytes.{Appends};
 ghost use Rattle.tn_session.specs.Turns.{Tells, Writes};
 ghost use Rattle.tn_streams.specs.Sending.{StaysOpen};
@@ -36,7 +36,7 @@ pub(crate) fn write_front<W: Drain>(writer: &mut W, bytes: &[u8]) -> usize
 pub(crate) fn write_out<W: Drain>(writer: &mut W, bytes: &[u8]) -> bool
     ensures writes { Writes result (W.contents writer.old) (W.contents writer.new) bytes.now }
     ensures tells { Tells result (W.told writer.old) (W.told writer.new) }
-    ensures none { bytes.now ≡ [] → result ≡ true }
+    ensures none { bytes.now ≡ [] → IsTrue result }
 {
     write_front(writer, bytes) == bytes.len()
 }

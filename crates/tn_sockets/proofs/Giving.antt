@@ -8,7 +8,8 @@ use Rattle.tn_sockets.specs.Passing.{GivesInputs, handed_on}
 use Rattle.tn_streams.specs.declared.control.Control.{Control}
 
 -- nothing was read: what was kept is given or kept
-pub kept_only : (old new : Option (List ℕ)) (escaping : Escaping) (asked telling : Option Control) (kept left : List SessionInput) (given : List ℕ) → Keeps old new
+pub kept_only : (old new : Option (List ℕ)) (escaping : Escaping) (asked telling : Option Control) (kept left : List SessionInput) (given : List ℕ) →
+    Keeps old new
     → handed_on given telling ++ left ≡ handed_on [] asked ++ kept → GivesInputs old new escaping escaping asked kept given telling left
 kept_only old new escaping asked telling kept left given same gives = record {
   bytes = [];

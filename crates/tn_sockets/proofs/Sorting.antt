@@ -123,14 +123,16 @@ obeys_more (Some l) b c xs ys one two = subst (λ (o : Option (List EscapeComman
 
 -- THE LOOP: what these first bytes gave is kept and obeyed
 module _ (keyboard : Keyboard) (waits : Bool) (given : List ℕ) where
-  pub record IsSorted (first : List SessionInput) (place : ℕ) (kept : List SessionInput) (before now : Option (List EscapeCommand)) (escaping : Escaping) : Type 0 where
+  pub record IsSorted (first : List SessionInput) (place : ℕ) (kept : List SessionInput) (before now : Option (List EscapeCommand))
+      (escaping : Escaping) : Type 0 where
     pub kept_are : kept ≡ first ++ inputs keyboard waits (take place given)
     pub obeyed : Obeys before (commands keyboard waits (take place given)) now
     pub keyboard_is : escaping.keyboard ≡ keyboard
     pub waits_are : escaping.waits ≡ waits_behind keyboard waits (take place given)
 
   -- one byte more was taken
-  pub one_more : (first : List SessionInput) (place d : ℕ) (kept more : List SessionInput) (before now later : Option (List EscapeCommand)) (escaping new : Escaping)
+  pub one_more : (first : List SessionInput) (place d : ℕ) (kept more : List SessionInput) (before now later : Option (List EscapeCommand))
+      (escaping new : Escaping)
       (typed : Typed) → IsSorted first place kept before now escaping → place < length given
       → typed ≡ typed_after escaping.keyboard escaping.waits (get_or given place d) → new.keyboard ≡ escaping.keyboard
       → new.waits ≡ waits_after escaping.keyboard escaping.waits (get_or given place d)
@@ -169,7 +171,8 @@ module _ (keyboard : Keyboard) (waits : Bool) (given : List ℕ) where
       ∙ ap (λ (t : Typed). commands keyboard waits done ++ command_in t) (sym read)
 
   -- at first nothing was
-  pub none_yet : (first : List SessionInput) (before : Option (List EscapeCommand)) (escaping : Escaping) → escaping.keyboard ≡ keyboard → escaping.waits ≡ waits
+  pub none_yet : (first : List SessionInput) (before : Option (List EscapeCommand)) (escaping : Escaping) → escaping.keyboard ≡ keyboard → escaping.waits
+      ≡ waits
       → IsSorted first 0 first before before escaping
   none_yet first before escaping keyboard_is waits_is = record {
     kept_are = sym (append-nil first);

@@ -3,7 +3,8 @@
 use Rattle.std.specs.Prelude.{◌≡◌, ◌≤◌, ◌⊎◌, ℕ, nat_eq, Bool, true, false, Option, None, Some, List, [], ◌∷◌}
 use Rattle.std.specs.Prelude.{◌++◌, length, take, if◌then◌else◌}
 use Rattle.tn_sockets.specs.declared.escaping.EscapeCommand.{EscapeCommand}
-use Rattle.tn_sockets.specs.declared.escaping.EscapeCommand.TheVariants.{Close, Help, Status, Suspend, Unknown}
+use Rattle.tn_sockets.specs.declared.escaping.EscapeCommand.TheVariants.{Close, Help, Status, Suspend}
+use Rattle.tn_sockets.specs.declared.escaping.EscapeCommand.TheVariants.{Unknown}
 use Rattle.tn_sockets.specs.Mapping.{mapped, none_own}
 use Rattle.tn_sockets.specs.declared.escaping.Escaping.{Escaping}
 use Rattle.tn_sockets.specs.declared.escaping.SessionInput.{SessionInput}

@@ -1,7 +1,7 @@
 //! What was typed and is still to be given to a session: a queue of keys, with the control functions that are
 //! asked for between them.
 
-ghost use Rattle.std.specs.Prelude.{◌≡◌, ◌≤◌, ◌+◌, ◌++◌, true, length, map, option_to_list, take};
+ghost use Rattle.std.specs.Prelude.{◌≡◌, ◌≤◌, ◌+◌, ◌++◌, IsTrue, length, map, option_to_list, take};
 ghost use Rattle.std.specs.VecDeque.{deque_capacity, deque_len};
 ghost use Rattle.tn_sockets.specs.declared.escaping.SessionInput.TheVariants as input;
 
@@ -15,7 +15,7 @@ const MAX_KEPT: usize = 16_777_216;
 /// Whether so many more can be kept.
 pub(crate) fn makes_room(kept: &mut VecDeque<SessionInput>, count: usize) -> bool
     ensures kept { kept.new.items ≡ kept.old.items }
-    ensures room { result ≡ true → deque_len kept.new + count ≤ deque_capacity kept.new }
+    ensures room { IsTrue result → deque_len kept.new + count ≤ deque_capacity kept.new }
 {
     kept.len() < MAX_KEPT && kept.reserve(count).is_ok()
 }

@@ -1,6 +1,6 @@
 //! Laws of what is typed, over the definitions alone.
 
-ghost use Rattle.std.specs.Prelude.{◌≡◌, ℕ, Bool, None, Some, List, [], ◌∷◌, ◌++◌, false, map};
+ghost use Rattle.std.specs.Prelude.{◌≡◌, ℕ, Bool, None, Some, List, [], ◌∷◌, ◌++◌, false, IsFalse, map};
 ghost use Rattle.tn_codes.specs.declared.codes.Func.{Func};
 ghost use Rattle.std.specs.List.{All};
 ghost use Rattle.tn_discipline.specs.Canon.{typed_entries};
@@ -29,7 +29,7 @@ pub fn one_by_one()
 /// A character of the user's own becomes the standard one of its function, whatever it is as a standard
 /// character.
 pub fn own_characters_win()
-    ensures { (own : OwnCharacters) (byte standard : ℕ) (f : Func) → is_reserved byte ≡ false →
+    ensures { (own : OwnCharacters) (byte standard : ℕ) (f : Func) → IsFalse (is_reserved byte) →
         own_function own byte ≡ Some f → slot standard_characters f ≡ Some standard →
         mapped own byte ≡ standard }
 {}

@@ -1,6 +1,6 @@
 //! What a client sends goes out in a thread of its own, so that it reads on while the server does not.
 
-ghost use Rattle.std.specs.Prelude.{◌≡◌, IfOk, None, OnErr, OnOk, Some, false, option_map, []};
+ghost use Rattle.std.specs.Prelude.{◌≡◌, IfOk, None, OnErr, OnOk, Some, false, IsFalse, option_map, []};
 ghost use Rattle.crossbeam_channel.specs.Claims.{view, IsSeatAt};
 ghost use Rattle.crossbeam_channel.specs.Ends.{sends_on};
 ghost use Rattle.tn_queue.specs.Queue.{put_more, putter, taker};
@@ -199,7 +199,7 @@ impl<H: Copy + Wait, Q: Queue> Outgoing<H, Q> {
 
     // Puts this, where the other side is there to take it.
     fn put(&mut self, piece: Piece) -> io::Result<()>
-        requires open { self.old.finished ≡ false }
+        requires open { IsFalse self.old.finished }
         ensures put { OnOk result (view self.new.pass ≡ put_more (view self.old.pass) piece) }
         ensures kept { OnErr result (view self.new.pass ≡ view self.old.pass) }
     {

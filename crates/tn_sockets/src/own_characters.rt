@@ -1,11 +1,11 @@
 //! The special characters of the user's own terminal.
 
 ghost use Rattle.std.specs.Prelude.{◌≡◌};
-ghost use Rattle.tn_discipline.specs.Characters.{is_reserved, is_set_to};
+ghost use Rattle.tn_discipline.specs.Characters.{is_set_to};
 ghost use Rattle.tn_sockets.specs.Mapping.{mapped, none_own, own_function, standard_for};
 
 use tn_codes::Func;
-use tn_discipline::Chars;
+use tn_discipline::{Chars, is_reserved};
 
 /// The special characters of the user's own terminal (POSIX.1-2017, XBD 11.1.9), each a byte, or none where
 /// it is disabled. Two may be the same byte.
@@ -75,13 +75,6 @@ fn is_set_to(character: Option<u8>, byte: u8) -> bool
     ensures { result ≡ is_set_to character byte }
 {
     character == Some(byte)
-}
-
-// No special character is one of these.
-fn is_reserved(byte: u8) -> bool
-    ensures { result ≡ is_reserved byte }
-{
-    byte == b'\n' || byte == b'\r' || byte == 255
 }
 
 // The standard character of this function, or the byte itself where there is none.

@@ -59,7 +59,8 @@ impl<H: Copy + Wait, W: Drop + Finish, Q: Queue> Sending<H, W, Q> {
         ensures whole { IfOk result (λ sent. sent ≡ Sent.Whole →
             WritesToTheEnd (view self.old.pass) (view self.new.pass)
             (W.contents self.old.writer) (W.contents self.new.writer)) }
-        ensures finished { IfOk result (λ _. IsFinished (W.sending self.old.writer) (W.sending self.new.writer)) }
+        ensures finished { IfOk result (λ _. IsFinished (W.sending self.old.writer)
+            (W.sending self.new.writer)) }
     {
         let rt = self.rt;
         for _ in rt.forever() {

@@ -1,5 +1,5 @@
 -- What a reader or a writer tells of its calls.
-use Rattle.std.specs.Prelude.{◌≡◌, ◌≢◌, ℕ, ◌+◌, ◌<◌, ◌≤◌, Bool, false, List, length, Option, Some, None}
+use Rattle.std.specs.Prelude.{◌≡◌, ◌≢◌, ℕ, ◌+◌, ◌<◌, ◌≤◌, Bool, IsFalse, List, length, Option, Some, None}
 use Rattle.std.specs.Prelude.{Result, Ok, Err, ⊤, ◌⊎◌}
 use Rattle.std.specs.IoError.{error_kind}
 use Rattle.std.specs.declared.io.Error.{Error}
@@ -48,7 +48,7 @@ AccountsFor most well None new = new ≡ None
 AccountsFor most well (Some old) None = ⊤
 AccountsFor most well (Some old) (Some new) =
     (old.made ≤ new.made) × (old.failed ≤ new.failed)
-    × (well ≡ false → (old.failed < new.failed) ⊎ (old.made + most ≤ new.made))
+    × (IsFalse well → (old.failed < new.failed) ⊎ (old.made + most ≤ new.made))
 
 -- if it is told: some of the calls failed, or so many were made
 abbrev pub SomeFailed : ℕ → Option Calls → Option Calls → Type 0

@@ -17,7 +17,7 @@
 //! back, and calls nothing again: `is_interrupted` says when to.
 #![tactic(auto)]
 
-ghost use Rattle.std.specs.Prelude.{◌≡◌, ◌≢◌, ℕ, List, [], None, Some, Option, true, false};
+ghost use Rattle.std.specs.Prelude.{◌≡◌, ◌≢◌, ℕ, List, [], None, Some, Option, true, IsTrue, false, IsFalse};
 ghost use Rattle.std.specs.IoError.{error_kind};
 ghost use Rattle.std.specs.Io.{ReadsAtMost, WritesAtMost};
 ghost use Rattle.std.specs.Io.KnownBytes.{ReadConsumes, WriteAppends, Keeps};
@@ -140,8 +140,8 @@ impl<W: Write> Drain for W {
 
 /// Whether a signal interrupted the call, so that it is to be made again.
 pub fn is_interrupted(error: &Error) -> bool
-    ensures again { result ≡ true → error_kind error.now ≡ ErrorKind.Interrupted }
-    ensures failed { result ≡ false → error_kind error.now ≢ ErrorKind.Interrupted }
+    ensures again { IsTrue result → error_kind error.now ≡ ErrorKind.Interrupted }
+    ensures failed { IsFalse result → error_kind error.now ≢ ErrorKind.Interrupted }
 {
     match error.kind() {
         ErrorKind::Interrupted => true,

@@ -210,7 +210,8 @@ first_of_keys Keys Left ms l = last l
 first_of_keys Keys (Resized size) ms l = more tt l
 first_of_keys Keys (Asked control) ms l = more tt l
 
-pub run_typed : (marked : List (Told × ClientMark)) (c new : Run) → Runs c marked new → c.progress.closed ≡ false → LeftLast (keys_messages (tolds marked)) → Typed c
+pub run_typed : (marked : List (Told × ClientMark)) (c new : Run) → Runs c marked new → c.progress.closed ≡ false → LeftLast (keys_messages (tolds marked)) →
+    Typed c
     → Typed new
 run_typed [] c new r open_now l t = typed_as c new r t
 run_typed ((x, k) ∷ marked) c new r open_now l t = go (first_of_keys x.from x.message (keys_messages (tolds marked)) l)

@@ -157,7 +157,8 @@ module _ (canon : Canon) (editing : Editing) (width height : ℕ) (opens : Bool)
       }
 
   -- a message at the terminal
-  served_on : (steps : List Step) (s new : Point term_run.Run) (c : Point core_run.Run) (written : List ℕ) (m : Message) (k : term_mark.ServerMark) (x : Exchange)
+  served_on : (steps : List Step) (s new : Point term_run.Run) (c : Point core_run.Run) (written : List ℕ) (m : Message) (k : term_mark.ServerMark)
+      (x : Exchange)
       → IsExchange of_server.OpensOrTurns of_server.brings of_server.says written s (Some (m, k), x) new
       → IsInTime (server_steps (steps ++ served x ∷ [])) (client_steps (steps ++ served x ∷ [])) → Here steps s c → Here (steps ++ served x ∷ []) new c
   served_on steps s new c written m k x step i here =

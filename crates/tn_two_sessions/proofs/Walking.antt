@@ -96,7 +96,8 @@ module _ (canon : Canon) (editing : Editing) (width height : ℕ) (opens : Bool)
       }) now.client mid x k t (client_heard (done ++ told (x, k) ∷ []) (record { server = now.server; client = mid }) r i) at
 
   -- the steps so far, and one more
-  pub more_served : (done : List Step) (now : Both) (m : Message × term_mark.ServerMark) (mid : term_run.Run) → Runs first done now → term.Turns now.server m mid
+  pub more_served : (done : List Step) (now : Both) (m : Message × term_mark.ServerMark) (mid : term_run.Run) → Runs first done now →
+      term.Turns now.server m mid
       → Runs first (done ++ served m ∷ []) (record { server = mid; client = now.client })
   more_served done now m mid r t = (
     subst (λ (l : List (Message × term_mark.ServerMark)). FoldsTo term.Turns first.server l mid) (sym (server-append done (served m ∷ [])))

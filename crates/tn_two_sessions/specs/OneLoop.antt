@@ -1,6 +1,6 @@
 -- The machines of two sessions, run by one loop: no socket, no thread and no pipe is between them but two
 -- lists of bytes. Read `Happens`, and `ReadsAll` at the end.
-use Rattle.std.specs.Prelude.{◌≡◌, ◌<◌, ◌⊎◌, ℕ, false, All, List, [], ◌∷◌, ◌++◌, flat_map, length, min}
+use Rattle.std.specs.Prelude.{◌≡◌, ◌<◌, ◌⊎◌, ℕ, IsFalse, All, List, [], ◌∷◌, ◌++◌, flat_map, length, min}
 use Rattle.std.specs.List.{FoldsTo}
 use Rattle.tn_machines.specs.client.Reaching as core
 use Rattle.tn_machines.specs.client.Run as core_run
@@ -14,7 +14,8 @@ use Rattle.tn_jobs.specs.Jobs.{Jobs}
 use Rattle.tn_machines.specs.client.Bringing.{Input, inputs_in}
 use Rattle.tn_two_sessions.specs.Transcripts.{HasKey, IsCarried, keys_of}
 use Rattle.tn_two_sessions.specs.declared.one_loop.LoopEvent.{LoopEvent}
-use Rattle.tn_two_sessions.specs.declared.one_loop.LoopEvent.TheVariants.{Typed, Asked, ToServer, ToClient, Take}
+use Rattle.tn_two_sessions.specs.declared.one_loop.LoopEvent.TheVariants.{Typed, Asked, ToServer, ToClient}
+use Rattle.tn_two_sessions.specs.declared.one_loop.LoopEvent.TheVariants.{Take}
 use Rattle.tn_two_sessions.specs.declared.one_loop.LoopEvent.TheVariants.{Said}
 use Rattle.tn_two_sessions.specs.declared.one_loop.Joined.{Joined}
 use Rattle.tn_machines.specs.declared.messages.Message.{Message}
@@ -162,7 +163,7 @@ inputs_of events = flat_map inputs_by events
 -- that and what waits for the job is all of it. That the bytes are carried is a part of it, and no premise.
 pub record ReadsAll (canon : Canon) (typed : List Input) (j : Joined) : Type 0 where
   pub prefix : IsPrefixOf (entries_put j.puts.items) (typed_entries canon (keys_of canon.settings typed))
-  pub all : j.to_server.items ≡ [] → j.term.progress.over ≡ false → j.core.progress.over ≡ false
+  pub all : j.to_server.items ≡ [] → IsFalse j.term.progress.over → IsFalse j.core.progress.over
       → (c : term_run.Run) × term.LeadsTo c j.term
       × (entries_put j.puts.items ++ waiting c.history ≡ typed_entries canon (keys_of canon.settings typed))
   pub server : List Exchange

@@ -1,7 +1,7 @@
 -- The headline over two running sessions, of what can be seen of them: what each read from its connection and
 -- wrote to it. Read `Headline` at the end first, and what `RunningSession` and `RunningClient` say of a
 -- transcript.
-use Rattle.std.specs.Prelude.{◌≡◌, ℕ, true, ⊤, All, Option, Some, List, [], ◌∷◌, ◌++◌, flat_map}
+use Rattle.std.specs.Prelude.{◌≡◌, ℕ, IsTrue, ⊤, All, Option, Some, List, [], ◌∷◌, ◌++◌, flat_map}
 use Rattle.std.specs.Prelude.{option_to_list}
 use Rattle.tn_client.specs.declared.commands.UserCommand.TheVariants.{Brk, Ip}
 use Rattle.tn_machines.specs.client.Bringing.{Input, key_typed, command_sent}
@@ -52,8 +52,8 @@ keys_of s inputs = flat_map (key_of s) inputs
 
 -- the key INTR interrupts there, where it counts
 abbrev pub HasKey : Settings → Input → Type 0
-HasKey s (command_sent Brk) = s.flags.isig ≡ true
-HasKey s (command_sent Ip) = s.flags.isig ≡ true
+HasKey s (command_sent Brk) = IsTrue s.flags.isig
+HasKey s (command_sent Ip) = IsTrue s.flags.isig
 HasKey s _ = ⊤
 
 -- A STEP of two sessions: one of the server's, or one of the client's

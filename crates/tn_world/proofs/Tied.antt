@@ -25,7 +25,9 @@ use Rattle.tn_world.proofs.Reading.{read_all-append}
 use Rattle.tn_world.proofs.Changing as was
 use Rattle.tn_world.proofs.Changing.{key-agrees, interrupt-agrees, message-agrees}
 use Rattle.tn_world.proofs.Prefixes.{take-agrees, agreed}
-use Rattle.tn_world.specs.relation.Ends.{ServerEnd, ClientEnd, server_items, client_messages, AreReplies, ServerFeeds, with_waiting, TakesFirst, SaysItems, ClientKeys, ClientInterrupts, client_after_messages, ClientFeeds, ClientSays, World, Event, key, interrupt, to_server, to_client, take_entry, server_call, client_call, Happens, made}
+use Rattle.tn_world.specs.relation.Ends.{ServerEnd, ClientEnd, server_items, client_messages, AreReplies, ServerFeeds, with_waiting, TakesFirst, SaysItems}
+use Rattle.tn_world.specs.relation.Ends.{ClientKeys, ClientInterrupts, client_after_messages, ClientFeeds, ClientSays, World, Event, key, interrupt, to_server}
+use Rattle.tn_world.specs.relation.Ends.{to_client, take_entry, server_call, client_call, Happens, made}
 use Rattle.tn_world.specs.relation.Relation.{Agrees, IsTied, server_at}
 
 -- both parts

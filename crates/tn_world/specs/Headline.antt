@@ -3,7 +3,7 @@
 -- are a prefix of the entries that the typed keys give at a local terminal. They are all of them once nothing
 -- is in flight to the server, if no end has failed, and the line that is not finished is the local
 -- terminal's, too. Read `Headline` at the end first, and then the words that it is made of.
-use Rattle.std.specs.Prelude.{◌≡◌, ◌⊎◌, ℕ, Bool, true, false, List, [], ◌∷◌, ◌++◌}
+use Rattle.std.specs.Prelude.{◌≡◌, ◌⊎◌, ℕ, Bool, true, IsTrue, false, IsFalse, List, [], ◌∷◌, ◌++◌}
 use Rattle.tn_codes.specs.OptionCodes as option_code
 use Rattle.tn_discipline.specs.Canon.{Canon, typed_entries, typed_half}
 use Rattle.tn_discipline.specs.Characters.{standard_characters}
@@ -35,7 +35,7 @@ is_in_order WantNoEmpty = true
 is_in_order WantYesEmpty = true
 
 abbrev pub IsSteady : Options → Type 0
-IsSteady o = (side : Side) (option : ℕ) → is_in_order (state_of o side option) ≡ true
+IsSteady o = (side : Side) (option : ℕ) → IsTrue (is_in_order (state_of o side option))
 
 -- LINEMODE is on at both ends, or off at both
 abbrev pub AgreeOnLinemode : Options → Options → Type 0
@@ -47,10 +47,10 @@ AgreeOnLinemode server client =
 pub record IsIdle (w : World) : Type 0 where
   pub to_server : w.to_server ≡ []
   pub to_client : w.to_client ≡ []
-  pub server_stopped : w.server_stopped ≡ false
-  pub server_failed : w.server.failed ≡ false
-  pub client_stopped : w.client_stopped ≡ false
-  pub client_failed : w.client.failed ≡ false
+  pub server_stopped : IsFalse w.server_stopped
+  pub server_failed : IsFalse w.server.failed
+  pub client_stopped : IsFalse w.client_stopped
+  pub client_failed : IsFalse w.client.failed
 
 -- the mask that was asked for is in force at the server, and at the client
 abbrev pub AgreeOnMask : World → Type 0
@@ -143,7 +143,7 @@ pub record Follows (canon : Canon) (w : World) : Type 0 where
 -- THE SENTENCE
 
 abbrev pub NoneFailed : World → Type 0
-NoneFailed w = (w.server.failed ≡ false) × (w.client.failed ≡ false)
+NoneFailed w = IsFalse w.server.failed × IsFalse w.client.failed
 
 abbrev pub NothingInFlight : World → Type 0
 NothingInFlight w = (w.to_server ≡ []) × (w.to_client ≡ [])

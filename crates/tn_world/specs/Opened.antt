@@ -1,5 +1,5 @@
 -- A world that was just opened, and a world whose lists are reset.
-use Rattle.std.specs.Prelude.{◌≡◌, ◌⊎◌, ℕ, false, []}
+use Rattle.std.specs.Prelude.{◌≡◌, ◌⊎◌, ℕ, false, IsFalse, []}
 use Rattle.tn_discipline.specs.Canon.{Canon}
 use Rattle.tn_nvt.specs.Spelling.{spells}
 use Rattle.tn_server.specs.Course as server_courses
@@ -16,9 +16,9 @@ use Rattle.tn_world.specs.declared.faults.WorldFault.{WorldFault}
 pub record IsOpened (canon : Canon) (width height : ℕ) (w : World) : Type 0 where
   pub server : server_courses.CourseLeadsTo (server_courses.started canon) w.server
   pub client : client_courses.CourseLeadsTo (client_courses.started width height canon.limit) w.client
-  pub takes_keys : w.server.terminal.closed ≡ false
-  pub server_runs : w.server.failed ≡ false
-  pub client_runs : w.client.failed ≡ false
+  pub takes_keys : IsFalse w.server.terminal.closed
+  pub server_runs : IsFalse w.server.failed
+  pub client_runs : IsFalse w.client.failed
   pub rest : w ≡ record {
     server = w.server;
     client = w.client;

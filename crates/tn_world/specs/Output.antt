@@ -1,6 +1,6 @@
 -- Output: all that the client's screen will have shown once the terminal's queue was sent
 -- and all in flight arrived.
-use Rattle.std.specs.Prelude.{◌≡◌, ℕ, false, List, [], ◌∷◌, ◌++◌}
+use Rattle.std.specs.Prelude.{◌≡◌, ℕ, IsFalse, List, [], ◌∷◌, ◌++◌}
 use Rattle.std.specs.List.{flat_map}
 use Rattle.tn_discipline.specs.declared.echo.Symbol.{Symbol}
 use Rattle.tn_nvt.specs.declared.items.Item.{Item}
@@ -65,7 +65,7 @@ pub record OutputStopsSettling (old : World) (cause : Cause) (new : World) (text
   pub before : OutputSettles old mid text
   pub delivery : Event
   pub refuses : Refuses mid delivery cause new
-  pub refused : new.client.failed ≡ false → OutputSettles old new text
+  pub refused : IsFalse new.client.failed → OutputSettles old new text
 
 -- The event at this place is refused, and each of those before it does so; and so does this one,
 -- unless the client fails.
@@ -74,4 +74,4 @@ pub record OutputGrowsBefore (old : World) (events : List Event) (at : ℕ) (cau
   pub ends : StopsWithin old events at cause new
   pub last : List ℕ
   pub grows : OutputGrowsTo old ends.done ends.mid text last
-  pub refused : new.client.failed ≡ false → OutputGrows ends.mid ends.event new last
+  pub refused : IsFalse new.client.failed → OutputGrows ends.mid ends.event new last

@@ -1,5 +1,5 @@
 -- What holds of every world from its opening on.
-use Rattle.std.specs.Prelude.{◌≡◌, true, false, List, [], Option, Some, All}
+use Rattle.std.specs.Prelude.{◌≡◌, IsTrue, IsFalse, List, [], Option, Some, All}
 use Rattle.tn_codes.specs.PayloadOf.{payload_of}
 use Rattle.tn_codes.specs.declared.payloads.Payload.{Payload}
 use Rattle.tn_codes.specs.declared.payloads.Payload.TheVariants.{Mode}
@@ -41,7 +41,7 @@ opening_pair =
 
 -- RFC 1184, section 2.2: no MODE but one that acknowledges
 abbrev pub IsNoWish : Option Payload → Type 0
-IsNoWish (Some (Mode mask)) = is_acknowledged mask ≡ true
+IsNoWish (Some (Mode mask)) = IsTrue (is_acknowledged mask)
 IsNoWish _ = Unit {0}
 
 abbrev pub WishesNothing : Item → Type 0
@@ -56,14 +56,14 @@ WishesNothing _ = Unit {0}
 pub record HasPast (w : World) : Type 0 where
   pub history : server_calls.History
   pub server : server.LeadsTo history w.server
-  pub server_course : w.server.failed ≡ false
+  pub server_course : IsFalse w.server.failed
       → (course : server_courses.Course) × server_courses.CourseLeadsTo course w.server
-  pub client_course : w.client.failed ≡ false
+  pub client_course : IsFalse w.client.failed
       → (course : client_courses.Course) × client_courses.CourseLeadsTo course w.client
-  pub limit : w.client.failed ≡ false → w.client.line.limit ≡ w.server.terminal.line.limit
-  pub takes_keys : w.server.failed ≡ false → w.server.terminal.closed ≡ false
-  pub to_server : w.server.failed ≡ false → (items : List Item) × InFlight w.server.decoder w.to_server items
-  pub to_client : w.client.failed ≡ false → (items : List Item) × InFlight w.client.decoder w.to_client items
-  pub words : (a : w.server.failed ≡ false) (b : w.client.failed ≡ false)
+  pub limit : IsFalse w.client.failed → w.client.line.limit ≡ w.server.terminal.line.limit
+  pub takes_keys : IsFalse w.server.failed → IsFalse w.server.terminal.closed
+  pub to_server : IsFalse w.server.failed → (items : List Item) × InFlight w.server.decoder w.to_server items
+  pub to_client : IsFalse w.client.failed → (items : List Item) × InFlight w.client.decoder w.to_client items
+  pub words : (a : IsFalse w.server.failed) (b : IsFalse w.client.failed)
       → TalkTo opening_pair (engines w (to_server a).0 (to_client b).0)
-  pub unwished : (a : w.server.failed ≡ false) → w.client.failed ≡ false → All WishesNothing (to_server a).0
+  pub unwished : (a : IsFalse w.server.failed) → IsFalse w.client.failed → All WishesNothing (to_server a).0

@@ -1,5 +1,5 @@
 -- How a world comes to rest: rounds of deliveries, and what is in flight after them.
-use Rattle.std.specs.Prelude.{◌≡◌, ◌⊎◌, ℕ, zero, suc, ◌+◌, ◌*◌, ◌≤◌, false, [], length}
+use Rattle.std.specs.Prelude.{◌≡◌, ◌⊎◌, ℕ, zero, suc, ◌+◌, ◌*◌, ◌≤◌, IsFalse, [], length}
 use Rattle.tn_discipline.specs.Canon.{Canon}
 use Rattle.tn_world.specs.Headline.{Follows, NoneFailed, NothingInFlight}
 use Rattle.tn_world.specs.Worlds.{World, RunsEvent, Refuses}
@@ -44,15 +44,15 @@ pub record StopsSettling (old : World) (at : ℕ) (cause : Cause) (new : World) 
 
 -- Nothing is in flight to an end, unless it was stopped before.
 pub record IsAtRest (old new : World) : Type 0 where
-  pub to_server : old.server_stopped ≡ false → new.to_server ≡ []
-  pub to_client : old.client_stopped ≡ false → new.to_client ≡ []
+  pub to_server : IsFalse old.server_stopped → new.to_server ≡ []
+  pub to_client : IsFalse old.client_stopped → new.to_client ≡ []
 
 -- THE USER'S CASE: quiet events after a beginning, and then a world that settled, no end having stopped or
 -- failed.
 pub record HasSettled (canon : Canon) (w : World) : Type 0 where
   pub before : World
   pub follows : Follows canon before
-  pub server_goes_on : before.server_stopped ≡ false
-  pub client_goes_on : before.client_stopped ≡ false
+  pub server_goes_on : IsFalse before.server_stopped
+  pub client_goes_on : IsFalse before.client_stopped
   pub settles : Settles before w
   pub none_failed : NoneFailed w

@@ -1,5 +1,6 @@
 -- Both ends and the two streams between them, and what an event does to them.
-use Rattle.std.specs.Prelude.{◌≡◌, ◌≢◌, ℕ, ◌<◌, Bool, true, false, min, Option, None, List, [], ◌∷◌, ◌++◌}
+use Rattle.std.specs.Prelude.{◌≡◌, ◌≢◌, ℕ, ◌<◌, Bool, true, IsTrue, false, IsFalse, min, Option, None, List}
+use Rattle.std.specs.Prelude.{[], ◌∷◌, ◌++◌}
 use Rattle.std.specs.Prelude.{length, take, drop, MatchOption, option_to_list}
 use Rattle.tn_discipline.specs.Canon.{Canon}
 use Rattle.tn_discipline.specs.declared.reads.Entry.{Entry}
@@ -179,26 +180,26 @@ RunsEvent old ClientStops new = new ≡ record old { client_stopped = true }
 -- A delivery that the server refused: its bytes have left the flight.
 -- An end that failed before did nothing more.
 pub record ServerRefusesDelivery (old : World) (n : ℕ) (fault : ServerFault) (new : World) : Type 0 where
-  pub goes_on : old.server_stopped ≡ false
-  pub first : (old.server.failed ≡ true) → fault ≡ server_faults.Failed
+  pub goes_on : IsFalse old.server_stopped
+  pub first : (IsTrue old.server.failed) → fault ≡ server_faults.Failed
   pub is_fault : IsOfPiece fault
   pub again : (fault ≡ server_faults.Failed)
-      → (old.server.failed ≡ true) × (new ≡ record old { to_server = drop n old.to_server })
+      → IsTrue old.server.failed × (new ≡ record old { to_server = drop n old.to_server })
   pub halts : IsOfItem fault
       → server.StopsWithin old.server (take n old.to_server) fault old.to_client new.to_client new.server
-  pub shut : (fault ≡ server_faults.Pty Closed) → old.server.terminal.closed ≡ true
-  pub failed : new.server.failed ≡ true
+  pub shut : (fault ≡ server_faults.Pty Closed) → IsTrue old.server.terminal.closed
+  pub failed : IsTrue new.server.failed
   pub rest : new
       ≡ record old { server = new.server; to_server = drop n old.to_server; to_client = new.to_client }
 
 -- The same at the client.
 pub record ClientRefusesDelivery (old : World) (n : ℕ) (fault : ClientFault) (new : World) : Type 0 where
-  pub goes_on : old.client_stopped ≡ false
+  pub goes_on : IsFalse old.client_stopped
   pub is_fault : client.IsFault (client.call_fault old.client) fault
   pub again : (fault ≡ client_faults.Failed) → new ≡ record old { to_client = drop n old.to_client }
   pub breaks : (fault ≡ client_faults.Memory)
       → client.StopsWithin old.client (take n old.to_client) old.to_server new.to_server old.shown new.shown
-  pub failed : new.client.failed ≡ true
+  pub failed : IsTrue new.client.failed
   pub rest : new
       ≡ record old {
         client = new.client;
@@ -223,36 +224,36 @@ pub record ClientRefusesCall (end : client.End) (e : client_calls.Event) (fault 
 -- from a server that was stopped, too
 abbrev pub ServerRefusesEvent : World → Event → ServerFault → Type 0
 ServerRefusesEvent w (Pull n) fault =
-    (w.server_stopped ≡ false) × ServerRefusesCall w.server (server_calls.pulled n) fault
+    IsFalse w.server_stopped × ServerRefusesCall w.server (server_calls.pulled n) fault
 ServerRefusesEvent w Take fault = ServerRefusesCall w.server server_calls.took fault
 ServerRefusesEvent w (Wish editing) fault =
-    (w.server_stopped ≡ false) × ServerRefusesCall w.server (server_calls.wished editing) fault
+    IsFalse w.server_stopped × ServerRefusesCall w.server (server_calls.wished editing) fault
 ServerRefusesEvent w (SetChar func value) fault =
-    (w.server_stopped ≡ false) × ServerRefusesCall w.server (server_calls.char_set func value) fault
+    IsFalse w.server_stopped × ServerRefusesCall w.server (server_calls.char_set func value) fault
 ServerRefusesEvent w (Echo on) fault =
-    (w.server_stopped ≡ false) × ServerRefusesCall w.server (server_calls.echo_set on) fault
+    IsFalse w.server_stopped × ServerRefusesCall w.server (server_calls.echo_set on) fault
 ServerRefusesEvent w (Mask mask) fault =
-    (w.server_stopped ≡ false) × ServerRefusesCall w.server (server_calls.mask_set mask) fault
+    IsFalse w.server_stopped × ServerRefusesCall w.server (server_calls.mask_set mask) fault
 ServerRefusesEvent w e fault = ⊥
 
 abbrev pub ClientRefusesEvent : World → Event → ClientFault → Type 0
 ClientRefusesEvent w (Key key) fault =
-    (w.client_stopped ≡ false) × ClientRefusesCall w.client (client_calls.typed key) fault
+    IsFalse w.client_stopped × ClientRefusesCall w.client (client_calls.typed key) fault
 ClientRefusesEvent w (Send command) fault =
-    (w.client_stopped ≡ false) × ClientRefusesCall w.client (client_calls.sent command) fault
+    IsFalse w.client_stopped × ClientRefusesCall w.client (client_calls.sent command) fault
 ClientRefusesEvent w (Resize width height) fault =
-    (w.client_stopped ≡ false) × ClientRefusesCall w.client (client_calls.resized width height) fault
+    IsFalse w.client_stopped × ClientRefusesCall w.client (client_calls.resized width height) fault
 ClientRefusesEvent w (Propose func value) fault =
-    (w.client_stopped ≡ false) × ClientRefusesCall w.client (client_calls.proposed func value) fault
+    IsFalse w.client_stopped × ClientRefusesCall w.client (client_calls.proposed func value) fault
 ClientRefusesEvent w e fault = ⊥
 
 -- the world needs memory of its own: for a typed key and one that is counted, for the rest of a flight that
 -- is cut, for an entry that waits to be taken
 abbrev pub WantsMemory : World → Event → Type 0
-WantsMemory w (Key key) = w.client_stopped ≡ false
-WantsMemory w (Send command) = (w.client_stopped ≡ false) × (key_sent w command ≢ None)
-WantsMemory w (ToServer n) = (w.server_stopped ≡ false) × (n < length w.to_server)
-WantsMemory w (ToClient n) = (w.client_stopped ≡ false) × (n < length w.to_client)
+WantsMemory w (Key key) = IsFalse w.client_stopped
+WantsMemory w (Send command) = IsFalse w.client_stopped × (key_sent w command ≢ None)
+WantsMemory w (ToServer n) = IsFalse w.server_stopped × (n < length w.to_server)
+WantsMemory w (ToClient n) = IsFalse w.client_stopped × (n < length w.to_client)
 WantsMemory w Take = w.server.terminal.entries ≢ []
 WantsMemory w e = ⊥
 

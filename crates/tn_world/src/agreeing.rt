@@ -1,6 +1,6 @@
 //! Whether the options of both ends agree.
 
-ghost use Rattle.std.specs.Prelude.{◌≡◌, ◌↔◌, true};
+ghost use Rattle.std.specs.Prelude.{◌≡◌, ◌↔◌, IsTrue};
 ghost use Rattle.tn_option.specs.EnginePair.{facing};
 ghost use Rattle.tn_option.specs.declared.q_method.Side.TheVariants.{Us, Them};
 ghost use Rattle.tn_world.specs.Agreement.{IsSameState, AgreeOn, OptionsAgree};
@@ -13,8 +13,8 @@ impl World {
     /// Whether each option, in each direction, is on at both ends or off at both (RFC 1143). It is so
     /// after any events, quiet or not, where nothing is in flight and no end has failed.
     pub fn options_agree(&self) -> bool
-        ensures agree { result ≡ true ↔ OptionsAgree self.now }
-        ensures at_rest { NoneFailed self.now → NothingInFlight self.now → result ≡ true }
+        ensures agree { IsTrue result ↔ OptionsAgree self.now }
+        ensures at_rest { NoneFailed self.now → NothingInFlight self.now → IsTrue result }
     {
         // Nothing is done here; the proof begins with what every world keeps.
         let _ = &self.server;
@@ -22,7 +22,7 @@ impl World {
     }
 
     fn agree_on_each(&self) -> bool
-        ensures { result ≡ true ↔ OptionsAgree self.now }
+        ensures { IsTrue result ↔ OptionsAgree self.now }
     {
         self.agree_on(ECHO)
             && self.agree_on(SUPPRESS_GO_AHEAD)
@@ -32,9 +32,9 @@ impl World {
 
     // In both directions.
     fn agree_on(&self, option: u8) -> bool
-        ensures us { result ≡ true → AgreeOn self.now Us option }
-        ensures them { result ≡ true → AgreeOn self.now Them option }
-        ensures both { AgreeOn self.now Us option → AgreeOn self.now Them option → result ≡ true }
+        ensures us { IsTrue result → AgreeOn self.now Us option }
+        ensures them { IsTrue result → AgreeOn self.now Them option }
+        ensures both { AgreeOn self.now Us option → AgreeOn self.now Them option → IsTrue result }
     {
         is_same(
             self.server.option(Side::Us, option),
@@ -48,7 +48,7 @@ impl World {
 
 // On at both ends, or off at both.
 fn is_same(here: QState, there: QState) -> bool
-    ensures { result ≡ true ↔ IsSameState here there }
+    ensures { IsTrue result ↔ IsSameState here there }
 {
     match here {
         QState::Yes => there == QState::Yes,

@@ -2,7 +2,7 @@
 //! moment or the opening, goes through events, some of them refused, and then the entries that jobs took and
 //! those that wait are compared with those of the typed keys at a local terminal.
 
-ghost use Rattle.std.specs.Prelude.{◌≡◌, ℕ, false, List, []};
+ghost use Rattle.std.specs.Prelude.{◌≡◌, ℕ, IsFalse, List, []};
 ghost use Rattle.tn_discipline.specs.Canon.{Canon};
 ghost use Rattle.tn_world.specs.Past.{HasPast};
 ghost use Rattle.tn_world.specs.Headline.{local_entries, local_half, IsBeginning, IsQuiet, AreQuietEvents};
@@ -55,7 +55,7 @@ pub fn relation_kept()
 /// What the server says to what the client answers to what the server says is answered by nothing: whatever
 /// happened before, two rounds leave nothing in flight, where neither end was stopped.
 pub fn two_rounds_to_rest()
-    ensures { (old mid new : World) → HasPast old → old.server_stopped ≡ false → old.client_stopped ≡ false →
+    ensures { (old mid new : World) → HasPast old → IsFalse old.server_stopped → IsFalse old.client_stopped →
         IsRound old mid → IsRound mid new → NothingInFlight new }
 {
     exchanges_end();
@@ -70,7 +70,7 @@ pub fn quiet_lists()
 /// While the client has not failed, an event adds to Output the symbols that the terminal's queue took in
 /// it, and nothing else; when they are sent or shown nothing is added.
 pub fn output()
-    ensures { (old new : World) (e : Event) (text : List ℕ) → HasPast old → old.client.failed ≡ false →
+    ensures { (old new : World) (e : Event) (text : List ℕ) → HasPast old → IsFalse old.client.failed →
         RunsEvent old e new → IsOutput old text → OutputGrows old e new text }
 {}
 

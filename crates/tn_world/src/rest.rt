@@ -1,6 +1,6 @@
 //! Whether a world is at rest.
 
-ghost use Rattle.std.specs.Prelude.{◌≡◌, ◌↔◌, true, []};
+ghost use Rattle.std.specs.Prelude.{◌≡◌, ◌↔◌, true, IsTrue, []};
 ghost use Rattle.std.specs.List.{list_all};
 ghost use Rattle.tn_world.specs.Headline.{IsSettled, IsSteady, is_in_order, AgreeOnLinemode, AgreeOnMask};
 ghost use Rattle.tn_world.specs.Headline.{IsIdle, IsAgreed, IsUncounted, IsEmpty};
@@ -26,14 +26,14 @@ macro_rules! states {
 
 impl World {
     pub(crate) fn is_settled(&self) -> bool
-        ensures { result ≡ true ↔ IsSettled self.now }
+        ensures { IsTrue result ↔ IsSettled self.now }
     {
         self.is_idle() && self.is_agreed() && self.is_empty()
     }
 
     // Nothing is in flight, and nobody has stopped or failed.
     fn is_idle(&self) -> bool
-        ensures { result ≡ true ↔ IsIdle self.now }
+        ensures { IsTrue result ↔ IsIdle self.now }
     {
         self.to_server.is_empty()
             && self.to_client.is_empty()
@@ -45,7 +45,7 @@ impl World {
 
     // The ends agree on options, masks and special characters.
     fn is_agreed(&self) -> bool
-        ensures { result ≡ true ↔ IsAgreed self.now }
+        ensures { IsTrue result ↔ IsAgreed self.now }
     {
         if !self.is_linemode_agreed() || !self.are_masks_agreed() {
             return false;
@@ -58,14 +58,14 @@ impl World {
 
     // The mask that was asked for is in force at both ends.
     fn are_masks_agreed(&self) -> bool
-        ensures { result ≡ true ↔ AgreeOnMask self.now }
+        ensures { IsTrue result ↔ AgreeOnMask self.now }
     {
         let mode = self.server.mode();
         self.server.asked() == mode && mode == self.client.mode()
     }
 
     fn is_linemode_agreed(&self) -> bool
-        ensures { result ≡ true ↔ AgreeOnLinemode self.now.server.terms.options self.now.client.options }
+        ensures { IsTrue result ↔ AgreeOnLinemode self.now.server.terms.options self.now.client.options }
     {
         match self.server.option(Side::Them, LINEMODE) {
             QState::Yes => self.client.option(Side::Us, LINEMODE) == QState::Yes,
@@ -75,20 +75,20 @@ impl World {
     }
 
     fn is_server_steady(&self) -> bool
-        ensures { result ≡ true ↔ IsSteady self.now.server.terms.options }
+        ensures { IsTrue result ↔ IsSteady self.now.server.terms.options }
     {
         are_in_order(&states!(self.server))
     }
 
     fn is_client_steady(&self) -> bool
-        ensures { result ≡ true ↔ IsSteady self.now.client.options }
+        ensures { IsTrue result ↔ IsSteady self.now.client.options }
     {
         are_in_order(&states!(self.client))
     }
 
     // No line is half typed, and no entry waits.
     fn is_empty(&self) -> bool
-        ensures { result ≡ true ↔ IsEmpty self.now }
+        ensures { IsTrue result ↔ IsEmpty self.now }
     {
         if !self.server.half().is_empty() || !self.client.half().is_empty() {
             return false;
@@ -104,14 +104,14 @@ impl World {
 
     // No entry waits for a job.
     pub(crate) fn none_waits(&self) -> bool
-        ensures { result ≡ true ↔ (self.now.server.terminal.entries ≡ []) }
+        ensures { IsTrue result ↔ (self.now.server.terminal.entries ≡ []) }
     {
         self.server.waiting(0).is_none()
     }
 
     // The client counts no half line that the server edits.
     fn is_uncounted(&self) -> bool
-        ensures { result ≡ true ↔ IsUncounted self.now }
+        ensures { IsTrue result ↔ IsUncounted self.now }
     {
         let (trapped, plain) = self.client.counts();
         trapped == 0 && plain == 0

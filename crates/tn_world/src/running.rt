@@ -1,6 +1,6 @@
 //! What each event does.
 
-ghost use Rattle.std.specs.Prelude.{◌≡◌, ◌<◌, ℕ, false, List, length, take, drop, IfOk, IfErr, OnOk, OnErr};
+ghost use Rattle.std.specs.Prelude.{◌≡◌, ◌<◌, ℕ, IsFalse, List, length, take, drop, IfOk, IfErr, OnOk, OnErr};
 ghost use Rattle.tn_discipline.specs.Canon.{Canon};
 ghost use Rattle.tn_world.specs.Headline.{Headline, Follows, IsQuiet};
 ghost use Rattle.tn_world.specs.Output.{IsOutput, OutputGrowsAll, OutputGrowsBefore};
@@ -31,9 +31,9 @@ impl World {
         ensures headline { (canon : Canon) → Follows canon self.old → IsQuiet self.old events.now →
             Headline canon self.new }
         ensures output { OnOk result ((text : List ℕ) → IsOutput self.old text →
-            self.old.client.failed ≡ false → OutputGrowsAll self.old events.now self.new text) }
+            IsFalse self.old.client.failed → OutputGrowsAll self.old events.now self.new text) }
         ensures output_before { IfErr result (λ fault. (text : List ℕ) → IsOutput self.old text →
-            self.old.client.failed ≡ false →
+            IsFalse self.old.client.failed →
             OutputGrowsBefore self.old events.now fault.at fault.cause self.new text) }
     {
         // Nothing is done here; the proof of Output begins with what every world keeps.
@@ -131,7 +131,7 @@ impl World {
     }
 
     fn part_reaches_server(&mut self, count: usize) -> Result<(), Cause>
-        requires { self.old.server_stopped ≡ false }
+        requires { IsFalse self.old.server_stopped }
         ensures ok { OnOk result (RunsEvent self.old (event.ToServer count) self.new) }
         ensures err { IfErr result (λ cause. Refuses self.old (event.ToServer count) cause self.new) }
     {
@@ -163,7 +163,7 @@ impl World {
     }
 
     fn part_reaches_client(&mut self, count: usize) -> Result<(), Cause>
-        requires { self.old.client_stopped ≡ false }
+        requires { IsFalse self.old.client_stopped }
         ensures ok { OnOk result (RunsEvent self.old (event.ToClient count) self.new) }
         ensures err { IfErr result (λ cause. Refuses self.old (event.ToClient count) cause self.new) }
     {

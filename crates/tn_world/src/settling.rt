@@ -1,6 +1,6 @@
 //! How a world comes to rest.
 
-ghost use Rattle.std.specs.Prelude.{◌≡◌, ◌↔◌, ◌≤◌, ℕ, true, false, List, OnOk, IfErr, length};
+ghost use Rattle.std.specs.Prelude.{◌≡◌, ◌↔◌, ◌≤◌, ℕ, IsTrue, IsFalse, List, OnOk, IfErr, length};
 ghost use Rattle.tn_discipline.specs.Canon.{Canon};
 ghost use Rattle.tn_world.specs.Headline.{Follows, Headline, NothingInFlight};
 ghost use Rattle.tn_world.specs.Output.{IsOutput, OutputSettles, OutputStopsSettling};
@@ -23,9 +23,9 @@ impl World {
         ensures follows { (canon : Canon) → Follows canon self.old → Follows canon self.new }
         ensures headline { (canon : Canon) → Follows canon self.old → Headline canon self.new }
         ensures output { OnOk result ((text : List ℕ) → IsOutput self.old text →
-            self.old.client.failed ≡ false → OutputSettles self.old self.new text) }
+            IsFalse self.old.client.failed → OutputSettles self.old self.new text) }
         ensures output_before { IfErr result (λ fault. (text : List ℕ) → IsOutput self.old text →
-            self.old.client.failed ≡ false → OutputStopsSettling self.old fault.cause self.new text) }
+            IsFalse self.old.client.failed → OutputStopsSettling self.old fault.cause self.new text) }
     {
         // Nothing is done here; the proof begins with what every world keeps.
         let _ = &self.shown;
@@ -51,7 +51,7 @@ impl World {
 
     // Whether nothing is in flight to either end.
     fn is_flight_empty(&self) -> bool
-        ensures { result ≡ true ↔ NothingInFlight self.now }
+        ensures { IsTrue result ↔ NothingInFlight self.now }
     {
         self.to_server.is_empty() && self.to_client.is_empty()
     }

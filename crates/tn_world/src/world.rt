@@ -1,6 +1,7 @@
 //! Both ends and the two streams between them.
 
-ghost use Rattle.std.specs.Prelude.{◌≡◌, ◌↔◌, true, false, [], ◌++◌, IfOk, IfErr, OnOk, OnErr, option_copied};
+ghost use Rattle.std.specs.Prelude.{◌≡◌, ◌↔◌, true, IsTrue, false, IsFalse, [], ◌++◌, IfOk, IfErr, OnOk};
+ghost use Rattle.std.specs.Prelude.{OnErr, option_copied};
 ghost use Rattle.std.specs.Prelude.{slice_get};
 ghost use Rattle.tn_discipline.specs.Characters.{standard_characters};
 ghost use Rattle.tn_world.specs.Headline.{IsSettled, Follows};
@@ -114,10 +115,10 @@ impl World {
     /// Whether all is at rest: nothing is in flight and nobody has stopped, the ends agree, and no
     /// line is half typed. Where it is, the lists of typed keys and taken entries are reset.
     pub fn mark(&mut self) -> bool
-        ensures settled { result ≡ true ↔ IsSettled self.old }
-        ensures reset { result ≡ true → self.new ≡ with_new_lists self.old }
-        ensures else_same { result ≡ false → self.new ≡ self.old }
-        ensures follows { result ≡ true → Follows (canon_of self.old) self.new }
+        ensures settled { IsTrue result ↔ IsSettled self.old }
+        ensures reset { IsTrue result → self.new ≡ with_new_lists self.old }
+        ensures else_same { IsFalse result → self.new ≡ self.old }
+        ensures follows { IsTrue result → Follows (canon_of self.old) self.new }
     {
         if !self.is_settled() {
             return false;

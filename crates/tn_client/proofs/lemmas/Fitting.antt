@@ -104,7 +104,8 @@ replies-fit h (got item) =
     both (end_of_edit_items (edits (mode h)) (edits (mode_at (options h) (mode h) item)) (line h).held)
     (answer_items (options h) (mode h) (chars h) (size h) item)
     (ending-fits (edits (mode h)) (edits (mode_at (options h) (mode h) item)) (line h).held) (answer-fits (options h) (mode h) (chars h) (size h) item)
-replies-fit h (resized width height) = unless (tells_size (options h) && not (is_same_size (size h) (width, height))) (size_items (width, height)) (size-fits (width, height))
+replies-fit h (resized width height) = unless (tells_size (options h) && not (is_same_size (size h) (width, height))) (size_items (width, height))
+    (size-fits (width, height))
 replies-fit h (proposed func value) = list-fits (triple_of func value ∷ []) (omega arith)
 replies-fit h (sent command) = one (Cmd (command_sent command)) tt
 

@@ -188,7 +188,8 @@ same_acts : (m : Message) (c d c' d' : Run) → Pulled c → Acts c m c' → Act
 same_acts (Piece piece) c d c' d' none a b s =
     let fed = feed piece a.0 c in
     let other = feed piece b.0 d in
-    let asked = same_ask_if c.progress.asks d.progress.asks fed other (ap (λ (p : ServerProgress). p.asks) s.progress) (same_feed piece a.0 b.0 c d a.1 b.1 s) in
+    let asked = same_ask_if c.progress.asks d.progress.asks fed other (ap (λ (p : ServerProgress). p.asks) s.progress)
+    (same_feed piece a.0 b.0 c d a.1 b.1 s) in
     same_as (flush (ask_if c.progress.asks fed)) (flush (ask_if d.progress.asks other)) c' d' a.2 b.2
     (same_flush (ask_if c.progress.asks fed) (ask_if d.progress.asks other) asked)
 same_acts HangUp c d c' d' none a b s = same_as (flush (hang_up c)) (flush (hang_up d)) c' d' a b (same_flush (hang_up c) (hang_up d) (same_hang_up c d s))

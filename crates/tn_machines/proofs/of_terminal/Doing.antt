@@ -173,7 +173,8 @@ of_some {A} P Q o x e h = let R : Option A → Type 0 = λ u. MatchOption u P Q 
 pub of_none : {A : Type 0} (P : Type 0) (Q : A → Type 0) (o : Option A) → o ≡ None → MatchOption o P Q → P
 of_none {A} P Q o e h = let R : Option A → Type 0 = λ u. MatchOption u P Q in subst R e h
 
-pub does_jobs : (turn : Jobs → Jobs) (step : ServerProgress → ServerProgress) (put : List (Option Entry)) (old new : Term) (x : List ℕ) → old.progress.over ≡ false
+pub does_jobs : (turn : Jobs → Jobs) (step : ServerProgress → ServerProgress) (put : List (Option Entry)) (old new : Term) (x : List ℕ) → old.progress.over
+    ≡ false
     → new ≡ record old { table = turn old.table; progress = step old.progress }
     → AdvancesRun (λ c. record { history = c.history; stream = c.stream; puts = c.puts ++ put; jobs = turn c.jobs; progress = step c.progress }) old x x put new
 does_jobs turn step put old new x on is = does_all (λ h. h) turn step put old new old.end x x on is (follows_none old.end x)

@@ -87,7 +87,8 @@ turn_moves c new m (mark.Refused f put) t =
 pub turned : (c new : Run) (m : Message × ServerMark) → Turns c m new → Moves (ended_of c) (EndsAt c m.0 m.1) (ended_of new)
 turned c new m t = turn_moves c new m.0 m.1 t
 
-ended_at : (opens : Bool) (c : Run) (marked : List (Message × ServerMark)) (f : SessionFault) → IsEndedAt c marked (ended.Fault f) → IsFaultCause opens c marked f
+ended_at : (opens : Bool) (c : Run) (marked : List (Message × ServerMark)) (f : SessionFault) → IsEndedAt c marked (ended.Fault f) →
+    IsFaultCause opens c marked f
 ended_at opens c marked fault.Read r = r
 ended_at opens c marked fault.Write r = inr r
 ended_at opens c marked (fault.Server g) r = r

@@ -1,5 +1,5 @@
 -- What the messages brought, and what came of it at the client end.
-use Rattle.std.specs.Prelude.{◌≡◌, ℕ, false, List, [], ◌∷◌, ◌++◌, flat_map, map}
+use Rattle.std.specs.Prelude.{◌≡◌, ℕ, IsFalse, List, [], ◌∷◌, ◌++◌, flat_map, map}
 use Rattle.tn_client.specs.Events.{History, begun, next, items}
 use Rattle.tn_client.specs.Events as client
 use Rattle.tn_client.specs.declared.commands.UserCommand.{UserCommand}
@@ -74,4 +74,4 @@ pub record TakesInOrder (all_told : List Told) (new : Run) : Type 0 where
   pub unread : List ℕ
   pub fed : brought Net all_told ≡ new.stream ++ unread
   pub read : IsRead new.stream (items new.history)
-  pub all : new.progress.over ≡ false → (untyped ≡ []) × (unread ≡ [])
+  pub all : IsFalse new.progress.over → (untyped ≡ []) × (unread ≡ [])

@@ -1,5 +1,5 @@
 -- The run of the messages, each with its mark: how far it was done.
-use Rattle.std.specs.Prelude.{◌≡◌, Bool, true, false, ◌&&◌, List, [], ◌∷◌}
+use Rattle.std.specs.Prelude.{◌≡◌, Bool, true, false, IsFalse, ◌&&◌, List, [], ◌∷◌}
 use Rattle.std.specs.List.{FoldsTo}
 use Rattle.tn_machines.specs.client.Refusing.{IsRefusalCause}
 use Rattle.tn_machines.specs.client.Run.{Run, Handles, fail}
@@ -13,11 +13,11 @@ use Rattle.tn_machines.specs.declared.faults.SessionFault.TheVariants as fault
 abbrev pub Turns : Run → Told × ClientMark → Run → Type 0
 Turns c (m, mark.Whole) new = Handles c m new
 Turns c (m, mark.WriteFailed) new =
-    (c.progress.over ≡ false) × (whole : Run) × Handles c m whole × (new ≡ fail fault.Write whole)
+    IsFalse c.progress.over × (whole : Run) × Handles c m whole × (new ≡ fail fault.Write whole)
 Turns c (m, mark.ShowFailed) new =
-    (c.progress.over ≡ false) × (whole : Run) × Handles c m whole × (new ≡ fail fault.Write whole)
+    IsFalse c.progress.over × (whole : Run) × Handles c m whole × (new ≡ fail fault.Write whole)
 Turns c (m, mark.Refused f) new =
-    (c.progress.over ≡ false) × (whole : Run) × Handles c m whole × (new ≡ fail (fault.Client f) whole)
+    IsFalse c.progress.over × (whole : Run) × Handles c m whole × (new ≡ fail (fault.Client f) whole)
     × IsRefusalCause c m.from m.message f
 
 -- what it sends was written

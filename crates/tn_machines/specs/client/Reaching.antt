@@ -1,5 +1,5 @@
 -- Where a run leads the core, and what a message adds to it, whatever the run was.
-use Rattle.std.specs.Prelude.{◌≡◌, ℕ, ◌<◌, All, Bool, true, false, List, [], ◌++◌}
+use Rattle.std.specs.Prelude.{◌≡◌, ℕ, ◌<◌, All, Bool, true, IsTrue, false, IsFalse, List, [], ◌++◌}
 use Rattle.tn_client.specs.Calls.{End, ReadsNothing}
 use Rattle.tn_client.specs.Calls as client
 use Rattle.tn_client.specs.Events.{History, items}
@@ -21,12 +21,12 @@ pub record IsLive (c : Run) (core : Core) : Type 0 where
   pub leads : client.LeadsTo c.history core.end
   pub read : nvt.LeadsTo c.stream (items c.history) core.end.decoder
   pub bytes : All (λ b. b < 256) c.stream
-  pub failed : core.end.failed ≡ false
-  pub latest : c.progress.closed ≡ false → c.sent ≡ c.history
+  pub failed : IsFalse core.end.failed
+  pub latest : IsFalse c.progress.closed → c.sent ≡ c.history
 
 -- this is where the run leads
 pub record LeadsTo (c : Run) (core : Core) : Type 0 where
-  pub live : core.progress.over ≡ false → IsLive c core
+  pub live : IsFalse core.progress.over → IsLive c core
   pub progress : core.progress ≡ c.progress
 
 -- Some keys, one after another: where the end stands, what it said and what it showed.
@@ -84,21 +84,22 @@ sent_bytes false bytes = bytes
 abbrev pub SendsPrefix : Run → Run → List ℕ → Bool → Type 0
 SendsPrefix c next bytes all =
     (rest : List ℕ) × (spells (items_said next.sent) ≡ spells (items_said c.sent) ++ (bytes ++ rest))
-    × (all ≡ true → rest ≡ [])
+    × (IsTrue all → rest ≡ [])
 
 -- and these of what it shows more
 abbrev pub ShowsPrefix : Run → Run → List ℕ → Bool → Type 0
 ShowsPrefix c next text all =
     (rest : List ℕ) × (text_shown next.history ≡ text_shown c.history ++ (text ++ rest))
-    × (all ≡ true → rest ≡ [])
+    × (IsTrue all → rest ≡ [])
 
 -- One message with its mark, from wherever the core may have been: these bytes were given for the network and
 -- these for the screen, the first of those that the run sends and shows,
 -- and all of them unless something failed.
-pub record IsTurn (mark : ClientMark) (old : Core) (told : Told) (bytes text : List ℕ) (new : Core) : Type 0 where
+pub record IsTurn (mark : ClientMark) (old : Core) (told : Told) (bytes text : List ℕ)
+    (new : Core) : Type 0 where
   pub leads : (c : Run) → LeadsTo c old →
       (next : Run) × Turns c (told, mark) next × LeadsTo next new
       × SendsPrefix c next bytes (is_written mark) × ShowsPrefix c next text (is_whole mark)
-  pub over : is_whole mark ≡ false → new.progress.over ≡ true
-  pub stays : old.progress.over ≡ true → new.progress.over ≡ true
-  pub idle : old.progress.over ≡ true → (bytes ≡ []) × (text ≡ []) × (is_whole mark ≡ true)
+  pub over : IsFalse (is_whole mark) → IsTrue new.progress.over
+  pub stays : IsTrue old.progress.over → IsTrue new.progress.over
+  pub idle : IsTrue old.progress.over → (bytes ≡ []) × (text ≡ []) × IsTrue (is_whole mark)

@@ -1,5 +1,5 @@
 -- What a run ends by: the message that brought the fault, or the mark that it left.
-use Rattle.std.specs.Prelude.{◌≡◌, Bool, false, List, ◌⊎◌}
+use Rattle.std.specs.Prelude.{◌≡◌, Bool, IsFalse, List, ◌⊎◌}
 use Rattle.tn_machines.specs.Ending as run
 use Rattle.tn_machines.specs.server.Marks.{Turns}
 use Rattle.tn_machines.specs.server.Refusing.{IsRefusalCause}
@@ -32,5 +32,5 @@ IsEndedAt c marked ended = run.IsEndedAt Turns (λ at m e. EndsAt at m.0 m.1 e) 
 
 -- Why a run ended by this fault: the opening words were not written, or a message.
 abbrev pub IsFaultCause : Bool → Run → List (Message × ServerMark) → SessionFault → Type 0
-IsFaultCause opens c marked Write = (opens ≡ false) ⊎ IsEndedAt c marked (Fault Write)
+IsFaultCause opens c marked Write = IsFalse opens ⊎ IsEndedAt c marked (Fault Write)
 IsFaultCause opens c marked f = IsEndedAt c marked (Fault f)

@@ -1,5 +1,5 @@
 -- What the messages bring from the network, and runs that a hang-up ends.
-use Rattle.std.specs.Prelude.{◌≡◌, ◌≢◌, ℕ, Bool, true, false, Option, Some, None, List, [], ◌∷◌, ◌++◌, map}
+use Rattle.std.specs.Prelude.{◌≡◌, ◌≢◌, ℕ, Bool, true, IsFalse, Option, Some, None, List, [], ◌∷◌, ◌++◌, map}
 use Rattle.std.specs.Prelude.{flat_map}
 use Rattle.tn_discipline.specs.Canon.{Canon}
 use Rattle.tn_discipline.specs.declared.reads.Entry.{Entry}
@@ -26,7 +26,7 @@ at_end_after at_end _ = at_end
 
 -- once input has ended no piece comes
 abbrev pub MayCome : Bool → Message → Type 0
-MayCome at_end (Piece piece) = at_end ≡ false
+MayCome at_end (Piece piece) = IsFalse at_end
 MayCome at_end _ = Unit {0}
 
 abbrev pub MayAllCome : Bool → List Message → Type 0
@@ -53,7 +53,7 @@ entries_by canon editing xs = entries (gets (opening canon editing) xs)
 pub record Hears (canon : Canon) (editing : Editing) (messages : List Message) (c : Run) : Type 0 where
   pub unheard : List ℕ
   pub stream_first : heard messages ≡ c.stream ++ unheard
-  pub all : c.progress.over ≡ false → unheard ≡ []
+  pub all : IsFalse c.progress.over → unheard ≡ []
   pub read : IsRead c.stream (items c.history)
   pub entries_are : entries c.history ≡ entries_by canon editing (items c.history)
 

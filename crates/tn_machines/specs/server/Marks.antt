@@ -1,5 +1,5 @@
 -- The run of the messages, each with its mark: how far it was done.
-use Rattle.std.specs.Prelude.{◌≡◌, Bool, true, false, ◌&&◌, List, [], ◌∷◌}
+use Rattle.std.specs.Prelude.{◌≡◌, Bool, true, false, IsFalse, ◌&&◌, List, [], ◌∷◌}
 use Rattle.std.specs.List.{FoldsTo}
 use Rattle.tn_machines.specs.server.Refusing.{IsRefusalCause}
 use Rattle.tn_machines.specs.server.Run.{Run, Handles, fail}
@@ -32,9 +32,9 @@ put_or_not false m c whole = unput m c whole
 abbrev pub Turns : Run → Message × ServerMark → Run → Type 0
 Turns c (m, mark.Whole) new = Handles c m new
 Turns c (m, mark.WriteFailed) new =
-    (c.progress.over ≡ false) × (whole : Run) × Handles c m whole × (new ≡ fail fault.Write whole)
+    IsFalse c.progress.over × (whole : Run) × Handles c m whole × (new ≡ fail fault.Write whole)
 Turns c (m, mark.Refused f put) new =
-    (c.progress.over ≡ false) × (whole : Run) × Handles c m whole
+    IsFalse c.progress.over × (whole : Run) × Handles c m whole
     × (new ≡ fail (fault.Server f) (put_or_not put m c whole)) × IsRefusalCause c m f
 
 -- a message that was done wholly, and written

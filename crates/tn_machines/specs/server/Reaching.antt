@@ -1,5 +1,5 @@
 -- Where a run leads the terminal, and what a call adds to it, whatever the run was.
-use Rattle.std.specs.Prelude.{◌≡◌, ℕ, ◌<◌, All, Bool, true, false, Option, List, [], ◌++◌}
+use Rattle.std.specs.Prelude.{◌≡◌, ℕ, ◌<◌, All, Bool, true, IsTrue, false, IsFalse, Option, List, [], ◌++◌}
 use Rattle.tn_discipline.specs.declared.reads.Entry.{Entry}
 use Rattle.tn_nvt.specs.Spelling.{spells}
 use Rattle.tn_nvt.specs.Feeding as nvt
@@ -24,14 +24,14 @@ pub record IsLive (c : Run) (t : Term) : Type 0 where
   pub leads : server.LeadsTo c.history t.end
   pub read : nvt.LeadsTo c.stream (items c.history) t.end.decoder
   pub bytes : All (λ b. b < 256) c.stream
-  pub failed : t.end.failed ≡ false
-  pub closed : t.end.terminal.closed ≡ false
+  pub failed : IsFalse t.end.failed
+  pub closed : IsFalse t.end.terminal.closed
   pub tostop : t.tostop ≡ (opening_settings c.history).flags.tostop
   pub jobs : t.table ≡ c.jobs
 
 -- this is where the run leads
 pub record LeadsTo (c : Run) (t : Term) : Type 0 where
-  pub live : t.progress.over ≡ false → IsLive c t
+  pub live : IsFalse t.progress.over → IsLive c t
   pub progress : t.progress ≡ c.progress
 
 -- The history goes on by this path, from wherever the end may stand,
@@ -139,7 +139,7 @@ pub record IsTurn (mark : ServerMark) (old : Term) (message : Message) (bytes : 
       × (next.puts ≡ c.puts ++ (puts_of put ++ puts_of last))
       × (rest : List ℕ)
       × (spells (items_said next.history) ≡ spells (items_said c.history) ++ (bytes ++ rest))
-      × (is_whole mark ≡ true → rest ≡ [])
-  pub over : is_whole mark ≡ false → new.progress.over ≡ true
-  pub stays : old.progress.over ≡ true → new.progress.over ≡ true
-  pub idle : old.progress.over ≡ true → (bytes ≡ []) × (is_whole mark ≡ true)
+      × (IsTrue (is_whole mark) → rest ≡ [])
+  pub over : IsFalse (is_whole mark) → IsTrue new.progress.over
+  pub stays : IsTrue old.progress.over → IsTrue new.progress.over
+  pub idle : IsTrue old.progress.over → (bytes ≡ []) × IsTrue (is_whole mark)

@@ -1,5 +1,5 @@
 -- Which message is welcome where a session holds its reader back, and the end that none of them brings.
-use Rattle.std.specs.Prelude.{◌≡◌, ◌≤◌, ◌<◌, ◌⊎◌, ℕ, false, length, ⊤}
+use Rattle.std.specs.Prelude.{◌≡◌, ◌≤◌, ◌<◌, ◌⊎◌, ℕ, IsFalse, length, ⊤}
 use Rattle.tn_machines.specs.declared.faults.Ended.{Ended}
 use Rattle.tn_machines.specs.declared.faults.Ended.TheVariants.{Fault}
 use Rattle.tn_machines.specs.declared.faults.SessionFault.TheVariants.{Server}
@@ -21,14 +21,14 @@ max_before_piece = 511
 -- a short piece is welcome where few entries wait, or nothing has any effect; any other message always is
 abbrev pub IsWelcome : Run → Message → Type 0
 IsWelcome c (Piece piece) =
-    (length piece ≤ max_piece) × (c.progress.over ≡ false → length (waiting c.history) ≤ max_before_piece)
+    (length piece ≤ max_piece) × (IsFalse c.progress.over → length (waiting c.history) ≤ max_before_piece)
 IsWelcome c _ = ⊤
 
 -- a piece that is too long, or one that comes too early
 abbrev pub IsUnwelcome : Run → Message → Type 0
 IsUnwelcome c (Piece piece) =
     (max_piece < length piece)
-    ⊎ ((c.progress.over ≡ false) × (max_before_piece < length (waiting c.history)))
+    ⊎ (IsFalse c.progress.over × (max_before_piece < length (waiting c.history)))
 IsUnwelcome c _ = ⊥
 
 -- the session ended because too many entries waited

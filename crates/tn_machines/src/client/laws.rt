@@ -22,7 +22,8 @@ pub fn bytes_go_in_order()
 /// memory ran out; a write to the network or the screen that failed;
 /// or a call of the end that was refused for its cause, out of memory within a piece.
 pub fn faults_have_causes()
-    ensures { (width height limit : ℕ) (marked : List (Told × ClientMark)) (new : Run) (fault : SessionFault) →
+    ensures { (width height limit : ℕ) (marked : List (Told × ClientMark)) (new : Run)
+        (fault : SessionFault) →
         Runs (start width height limit) marked new → new.progress.ended ≡ Fault fault →
         IsEndedAt (start width height limit) marked (Fault fault) }
 {}

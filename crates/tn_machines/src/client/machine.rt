@@ -1,6 +1,6 @@
 //! The core of a client session, which alone uses the client end.
 
-ghost use Rattle.std.specs.Prelude.{◌≡◌, ℕ, List, true, false, OnOk, OnErr, IfOk, IfErr, []};
+ghost use Rattle.std.specs.Prelude.{◌≡◌, ℕ, List, IsTrue, IsFalse, OnOk, OnErr, IfOk, IfErr, []};
 ghost use Rattle.tn_client.specs.Calls as client;
 ghost use Rattle.tn_client.specs.Events.{History};
 ghost use Rattle.tn_machines.specs.client.Counting as counting;
@@ -44,7 +44,7 @@ fn type_all(
     ensures err { OnErr result
         (TypesPrefix end.old keys.now out.old.items out.new.items screen.old.items screen.new.items end.new) }
     ensures cause { IfErr result (λ fault. (h : History) → client.LeadsTo h end.old →
-        end.old.failed ≡ false → (fault ≡ ClientFault.Memory) × RefusesAtKey h keys.now) }
+        IsFalse end.old.failed → (fault ≡ ClientFault.Memory) × RefusesAtKey h keys.now) }
 {
     for key in keys {
         end.key(*key, out, screen)?;
@@ -81,7 +81,7 @@ impl Core {
         out: &mut Vec<u8>,
         screen: &mut Vec<u8>,
     ) -> Result<(), ClientFault>
-        requires { self.old.progress.over ≡ false }
+        requires { IsFalse self.old.progress.over }
         ensures ok { OnOk result (DoesWhole self.old
             (record { from = Origin.Keys; message = Message.Piece keys.now })
             out.old.items out.new.items screen.old.items screen.new.items self.new) }
@@ -104,7 +104,7 @@ impl Core {
         out: &mut Vec<u8>,
         screen: &mut Vec<u8>,
     ) -> Result<(), ClientFault>
-        requires { self.old.progress.over ≡ false }
+        requires { IsFalse self.old.progress.over }
         ensures ok { OnOk result (DoesWhole self.old
             (record { from = Origin.Net; message = Message.Piece piece.now })
             out.old.items out.new.items screen.old.items screen.new.items self.new) }
@@ -127,7 +127,7 @@ impl Core {
         size: WindowSize,
         out: &mut Vec<u8>,
     ) -> Result<(), ClientFault>
-        requires { self.old.progress.over ≡ false }
+        requires { IsFalse self.old.progress.over }
         ensures ok { OnOk result ((seen : List ℕ) → DoesWhole self.old
             (record { from = from; message = Message.Resized size })
             out.old.items out.new.items seen seen self.new) }
@@ -144,7 +144,7 @@ impl Core {
 
     // The user asks for this control function: it is sent behind the keys that were typed.
     fn send(&mut self, control: Control, out: &mut Vec<u8>) -> Result<(), ClientFault>
-        requires { self.old.progress.over ≡ false }
+        requires { IsFalse self.old.progress.over }
         ensures ok { OnOk result ((seen : List ℕ) → DoesWhole self.old
             (record { from = Origin.Keys; message = Message.Asked control })
             out.old.items out.new.items seen seen self.new) }
@@ -161,7 +161,7 @@ impl Core {
 
     // The same of whoever asks: only the keys have a user.
     fn ask(&mut self, from: Origin, control: Control, out: &mut Vec<u8>) -> Result<(), ClientFault>
-        requires { self.old.progress.over ≡ false }
+        requires { IsFalse self.old.progress.over }
         ensures ok { OnOk result ((seen : List ℕ) → DoesWhole self.old
             (record { from = from; message = Message.Asked control })
             out.old.items out.new.items seen seen self.new) }
@@ -203,13 +203,13 @@ impl Core {
         out: &mut Vec<u8>,
         screen: &mut Vec<u8>,
     ) -> Result<(), ClientFault>
-        requires { self.old.progress.over ≡ false }
+        requires { IsFalse self.old.progress.over }
         ensures ok { OnOk result (DoesWhole self.old told
             out.old.items out.new.items screen.old.items screen.new.items self.new) }
         ensures err { OnErr result (StopsWithin self.old told
             out.old.items out.new.items screen.old.items screen.new.items self.new) }
         ensures cause { IfErr result (RefusesFor self.old told) }
-        ensures closed { self.old.progress.closed ≡ true → self.new.progress.closed ≡ true }
+        ensures closed { IsTrue self.old.progress.closed → IsTrue self.new.progress.closed }
     {
         let Told { from, message } = told;
         match message {
@@ -236,7 +236,7 @@ impl Core {
     /// Tells that a write failed: nothing has any effect from here on.
     pub fn write_failed(&mut self)
         ensures leads { (c : Run) → LeadsTo c self.old → LeadsTo (run.fail SessionFault.Write c) self.new }
-        ensures over { self.new.progress.over ≡ true }
+        ensures over { IsTrue self.new.progress.over }
         ensures closed { self.new.progress.closed ≡ self.old.progress.closed }
     {
         self.fails(SessionFault::Write);
@@ -251,7 +251,7 @@ impl Core {
 
     /// Who edits and who echoes now, as the user is told; of a session that is over nothing is known.
     pub fn terms(&self) -> Terms
-        ensures { (c : Run) → LeadsTo c self.now → self.now.progress.over ≡ false
+        ensures { (c : Run) → LeadsTo c self.now → IsFalse self.now.progress.over
             → result ≡ terms_at c.history }
     {
         Terms {
@@ -268,10 +268,10 @@ impl Core {
         requires out { out.old.items ≡ [] }
         requires screen { screen.old.items ≡ [] }
         ensures turns { IsTurn result self.old told out.new.items screen.new.items self.new }
-        ensures unwritten { no_write_failed result ≡ true }
-        ensures unshown { no_show_failed result ≡ true }
-        ensures closed { self.old.progress.closed ≡ true → self.new.progress.closed ≡ true }
-        ensures silent { self.old.progress.closed ≡ true → out.new.items ≡ [] }
+        ensures unwritten { IsTrue (no_write_failed result) }
+        ensures unshown { IsTrue (no_show_failed result) }
+        ensures closed { IsTrue self.old.progress.closed → IsTrue self.new.progress.closed }
+        ensures silent { IsTrue self.old.progress.closed → out.new.items ≡ [] }
     {
         if self.progress.over {
             return ClientMark::Whole;

@@ -1,6 +1,7 @@
 //! The terminal of a session, which alone uses the server end.
 
-ghost use Rattle.std.specs.Prelude.{◌≡◌, ◌≤◌, ◌<◌, ◌&&◌, ℕ, List, length, true, false, OnOk, OnErr, IfOk};
+ghost use Rattle.std.specs.Prelude.{◌≡◌, ◌≤◌, ◌<◌, ◌&&◌, ℕ, List, length, true, IsTrue, false, IsFalse, OnOk};
+ghost use Rattle.std.specs.Prelude.{OnErr, IfOk};
 ghost use Rattle.std.specs.Prelude.{IfErr, IfNone, None, Some, [], ◌∷◌, ◌++◌, All, MatchResult};
 ghost use Rattle.std.specs.List.{concat};
 ghost use Rattle.tn_discipline.specs.Canon.{Canon};
@@ -99,7 +100,7 @@ impl Term {
             LeadsTo (run.start (record { settings = settings; limit = limit }) editing table) term) }
         ensures out { OnOk result (out.new.items ≡
             spells (items_said (run.opening (record { settings = settings; limit = limit }) editing))) }
-        ensures progress { IfOk result (λ term. term.progress.over ≡ false) }
+        ensures progress { IfOk result (λ term. IsFalse term.progress.over) }
         ensures fault { IfErr result (λ fault. fault ≡ ServerFault.Memory) }
     {
         let flags = settings.flags;
@@ -117,7 +118,7 @@ impl Term {
 
     // All symbols are pulled.
     fn flush(&mut self, out: &mut Vec<u8>) -> Result<(), ServerFault>
-        requires { self.old.progress.over ≡ false }
+        requires { IsFalse self.old.progress.over }
         ensures ok { OnOk result (AdvancesRun run.flush self.old out.old.items out.new.items [] self.new) }
         ensures err { OnErr result (BreaksOff run.flush self.old out.old.items out.new.items [] self.new) }
         ensures progress { self.new.progress ≡ self.old.progress }
@@ -130,7 +131,7 @@ impl Term {
 
     // A part of a text is written, and all symbols are pulled.
     fn show_part(&mut self, part: &[u8], out: &mut Vec<u8>) -> Result<(), ServerFault>
-        requires { self.old.progress.over ≡ false }
+        requires { IsFalse self.old.progress.over }
         ensures ok { OnOk result
             (AdvancesRun (run.show (part.now ∷ [])) self.old out.old.items out.new.items [] self.new) }
         ensures err { OnErr result
@@ -147,7 +148,7 @@ impl Term {
 
     // A text is written in parts, and each is pulled.
     fn show(&mut self, text: &[u8], out: &mut Vec<u8>) -> Result<(), ServerFault>
-        requires { self.old.progress.over ≡ false }
+        requires { IsFalse self.old.progress.over }
         ensures ok { OnOk result ((parts : List (List ℕ)) × (concat parts ≡ text.now) × All run.IsPart parts ×
             AdvancesRun (run.show parts) self.old out.old.items out.new.items [] self.new) }
         ensures err { OnErr result ((parts : List (List ℕ)) × (concat parts ≡ text.now) ×
@@ -169,7 +170,7 @@ impl Term {
 
     // A text whose verdict lets it be written.
     fn show_if(&mut self, writes: bool, text: &[u8], out: &mut Vec<u8>) -> Result<(), ServerFault>
-        requires { self.old.progress.over ≡ false }
+        requires { IsFalse self.old.progress.over }
         ensures ok { OnOk result ((parts : List (List ℕ)) × run.Cuts writes text.now parts ×
             AdvancesRun (run.show parts) self.old out.old.items out.new.items [] self.new) }
         ensures err { OnErr result ((parts : List (List ℕ)) × run.Cuts writes text.now parts ×
@@ -188,7 +189,7 @@ impl Term {
 
     // A text whose verdict lets it be written, and then all symbols are pulled.
     fn show_all(&mut self, writes: bool, text: &[u8], out: &mut Vec<u8>) -> Result<(), ServerFault>
-        requires { self.old.progress.over ≡ false }
+        requires { IsFalse self.old.progress.over }
         ensures ok { OnOk result ((parts : List (List ℕ)) × run.Cuts writes text.now parts ×
             AdvancesRun (λ c.
             run.flush (run.show parts c)) self.old out.old.items out.new.items [] self.new) }
@@ -207,10 +208,10 @@ impl Term {
     // The first entry that waits is asked for: it goes to the foreground job, or the request waits or is
     // answered by the end.
     fn ask(&mut self, out: &mut Vec<u8>) -> Result<Put, ServerFault>
-        requires { self.old.progress.over ≡ false }
+        requires { IsFalse self.old.progress.over }
         ensures ok { IfOk result (λ put.
             AdvancesRun run.ask self.old out.old.items out.new.items (run.puts_of put) self.new) }
-        ensures over { self.new.progress.over ≡ false }
+        ensures over { IsFalse self.new.progress.over }
         ensures err { OnErr result (self.new ≡ self.old) }
         ensures err_appends { OnErr result (out.new.items ≡ out.old.items) }
         ensures fault { IfErr result (λ fault. fault ≡ ServerFault.Memory) }
@@ -232,12 +233,12 @@ impl Term {
 
     // What comes from the network.
     fn feed(&mut self, piece: &[u8], out: &mut Vec<u8>) -> Result<(), ServerFault>
-        requires { self.old.progress.over ≡ false }
+        requires { IsFalse self.old.progress.over }
         ensures ok { OnOk result (Feeds self.old piece.now out.old.items out.new.items self.new) }
         ensures err { OnErr result (FeedBreaksOff self.old piece.now out.old.items out.new.items self.new) }
         ensures cause { IfErr result (RefusesFor self.old (Message.Piece piece.now)) }
         ensures asks { self.new.progress.asks ≡ self.old.progress.asks }
-        ensures over { self.new.progress.over ≡ false }
+        ensures over { IsFalse self.new.progress.over }
     {
         match self.end.feed(piece, out) {
             Ok(()) => {
@@ -253,9 +254,9 @@ impl Term {
 
     // A request that waits is answered by the end, and no more bytes come.
     fn hang_up(&mut self) -> Put
-        requires { self.old.progress.over ≡ false }
+        requires { IsFalse self.old.progress.over }
         ensures does { (x : List ℕ) → AdvancesRun run.hang_up self.old x x (run.puts_of result) self.new }
-        ensures over { self.new.progress.over ≡ false }
+        ensures over { IsFalse self.new.progress.over }
     {
         let put = end_if(self.progress.asks);
         self.progress = self.progress.hung_up();
@@ -273,20 +274,20 @@ impl Term {
     }
 
     fn ends_by(&mut self, ended: Ended)
-        requires { self.old.progress.over ≡ false }
+        requires { IsFalse self.old.progress.over }
         ensures does { (x : List ℕ) → AdvancesRun (run.ends_by ended) self.old x x [] self.new }
-        ensures over { self.new.progress.over ≡ false }
+        ensures over { IsFalse self.new.progress.over }
     {
         self.progress = self.progress.ends(ended);
     }
 
     // Where a job that could go on stands from here on.
     fn moves(&mut self, id: JobId, state: JobState, next: JobState)
-        requires on { self.old.progress.over ≡ false }
+        requires on { IsFalse self.old.progress.over }
         requires held { state_at self.old.table id.0 ≡ Some state }
-        requires runs { is_stopped state ≡ false }
+        requires runs { IsFalse (is_stopped state) }
         ensures does { (x : List ℕ) → AdvancesRun (run.move id.0 next) self.old x x [] self.new }
-        ensures over { self.new.progress.over ≡ false }
+        ensures over { IsFalse self.new.progress.over }
     {
         match next {
             JobState::Foreground | JobState::Background => {},
@@ -296,12 +297,12 @@ impl Term {
     }
 
     fn stop(&mut self, id: JobId, state: JobState, why: Why, in_foreground: bool)
-        requires on { self.old.progress.over ≡ false }
+        requires on { IsFalse self.old.progress.over }
         requires held { state_at self.old.table id.0 ≡ Some state }
-        requires runs { is_stopped state ≡ false }
+        requires runs { IsFalse (is_stopped state) }
         ensures does { (x : List ℕ) →
             AdvancesRun (run.stop_job id.0 why in_foreground) self.old x x [] self.new }
-        ensures over { self.new.progress.over ≡ false }
+        ensures over { IsFalse self.new.progress.over }
     {
         if in_foreground {
             self.progress = self.progress.stops();
@@ -314,10 +315,10 @@ impl Term {
     }
 
     fn end(&mut self, id: JobId, state: JobState, in_foreground: bool)
-        requires on { self.old.progress.over ≡ false }
+        requires on { IsFalse self.old.progress.over }
         requires held { state_at self.old.table id.0 ≡ Some state }
         ensures does { (x : List ℕ) → AdvancesRun (run.end_job id.0 in_foreground) self.old x x [] self.new }
-        ensures over { self.new.progress.over ≡ false }
+        ensures over { IsFalse self.new.progress.over }
     {
         take_out(&mut self.table, id, state);
         if in_foreground {
@@ -327,10 +328,10 @@ impl Term {
 
     // What is done once a message has had its effect.
     fn finish(&mut self, put: Put, out: &mut Vec<u8>) -> Result<Put, Stuck>
-        requires { self.old.progress.over ≡ false }
+        requires { IsFalse self.old.progress.over }
         ensures ok { IfOk result (λ p. (p ≡ put) ×
             AdvancesRun run.flush self.old out.old.items out.new.items [] self.new) }
-        ensures err { IfErr result (λ s. (s.put ≡ put) × (s.given ≡ true) ×
+        ensures err { IfErr result (λ s. (s.put ≡ put) × IsTrue s.given ×
             BreaksOff run.flush self.old out.old.items out.new.items [] self.new) }
         ensures fault { IfErr result (λ s. s.fault ≡ ServerFault.Memory) }
         ensures grows { OnErr result ((c : Run) → LeadsTo c self.old → SymbolsWait c.history) }
@@ -354,12 +355,12 @@ impl Term {
         verdict: Verdict,
         out: &mut Vec<u8>,
     ) -> Result<Put, Stuck>
-        requires on { self.old.progress.over ≡ false }
+        requires on { IsFalse self.old.progress.over }
         requires held { state_at self.old.table id.0 ≡ Some state }
-        requires runs { is_stopped state ≡ false }
+        requires runs { IsFalse (is_stopped state) }
         ensures ok { IfOk result (λ put.
             Says id.0 text.now (Some verdict) self.old out.old.items out.new.items put self.new) }
-        ensures err { IfErr result (λ s. (s.given ≡ true) ×
+        ensures err { IfErr result (λ s. IsTrue s.given ×
             SayBreaksOff id.0 text.now (Some verdict) self.old out.old.items out.new.items s.put self.new) }
         ensures fault { IfErr result (λ s. s.fault ≡ ServerFault.Memory) }
         ensures grows { OnErr result ((c : Run) → LeadsTo c self.old →
@@ -380,7 +381,7 @@ impl Term {
     }
 
     fn halt_if(&mut self, is_over: bool) -> Put
-        requires { self.old.progress.over ≡ false }
+        requires { IsFalse self.old.progress.over }
         ensures { HaltsIf is_over self.old (run.puts_of result) self.new }
     {
         if is_over {
@@ -396,12 +397,12 @@ impl Term {
         after: After,
         out: &mut Vec<u8>,
     ) -> Result<Put, Stuck>
-        requires { self.old.progress.over ≡ false }
+        requires { IsFalse self.old.progress.over }
         ensures ok { IfOk result (λ put.
             Says id.0 text.now
             (run.verdict_at (state_at self.old.table id.0) (run.has_text text.now) after self.old.tostop)
             self.old out.old.items out.new.items put self.new) }
-        ensures err { IfErr result (λ s. (s.given ≡ true) ×
+        ensures err { IfErr result (λ s. IsTrue s.given ×
             SayBreaksOff id.0 text.now
             (run.verdict_at (state_at self.old.table id.0) (run.has_text text.now) after self.old.tostop)
             self.old out.old.items out.new.items s.put self.new) }
@@ -420,7 +421,7 @@ impl Term {
     }
 
     fn piece(&mut self, piece: &[u8], out: &mut Vec<u8>) -> Result<Put, Stuck>
-        requires { self.old.progress.over ≡ false }
+        requires { IsFalse self.old.progress.over }
         ensures ok { IfOk result (λ put.
             DoesWhole self.old (Message.Piece piece.now) out.old.items out.new.items put self.new) }
         ensures err { IfErr result (λ s.
@@ -439,7 +440,7 @@ impl Term {
     }
 
     fn take(&mut self, out: &mut Vec<u8>) -> Result<Put, Stuck>
-        requires { self.old.progress.over ≡ false }
+        requires { IsFalse self.old.progress.over }
         ensures ok { IfOk result (λ put.
             DoesWhole self.old Message.Take out.old.items out.new.items put self.new) }
         ensures err { IfErr result (λ s.
@@ -461,7 +462,7 @@ impl Term {
     }
 
     fn refused(&mut self, out: &mut Vec<u8>) -> Result<Put, Stuck>
-        requires { self.old.progress.over ≡ false }
+        requires { IsFalse self.old.progress.over }
         ensures ok { IfOk result (λ put.
             DoesWhole self.old Message.Refused out.old.items out.new.items put self.new) }
         ensures err { IfErr result (λ s.
@@ -484,7 +485,7 @@ impl Term {
 
     // A message that has its effect.
     fn act(&mut self, message: Message, out: &mut Vec<u8>) -> Result<Put, Stuck>
-        requires { self.old.progress.over ≡ false }
+        requires { IsFalse self.old.progress.over }
         ensures ok { IfOk result (λ put.
             DoesWhole self.old message out.old.items out.new.items put self.new) }
         ensures err { IfErr result (λ s.
@@ -528,7 +529,7 @@ impl Term {
         ensures leads { (c : Run) → LeadsTo c self.old → LeadsTo (run.fail SessionFault.Write c) self.new }
         ensures puts { (c : Run) → LeadsTo c self.old →
             (run.fail SessionFault.Write c).puts ≡ c.puts ++ run.puts_of result }
-        ensures over { self.new.progress.over ≡ true }
+        ensures over { IsTrue self.new.progress.over }
     {
         self.fails(SessionFault::Write)
     }
@@ -544,10 +545,10 @@ impl Term {
     /// a piece of 512 bytes finds room for its entries: each byte makes one at most, and the first may make
     /// another of a CR that came last before it.
     pub fn is_welcoming(&self) -> bool
-        ensures room { (c : Run) → LeadsTo c self.now → result ≡ true → self.now.progress.over ≡ false →
+        ensures room { (c : Run) → LeadsTo c self.now → IsTrue result → IsFalse self.now.progress.over →
             length (waiting c.history) ≤ 511 }
-        ensures full { (c : Run) → LeadsTo c self.now → result ≡ false → 511 < length (waiting c.history) }
-        ensures over { self.now.progress.over ≡ true → result ≡ true }
+        ensures full { (c : Run) → LeadsTo c self.now → IsFalse result → 511 < length (waiting c.history) }
+        ensures over { IsTrue self.now.progress.over → IsTrue result }
     {
         match self.end.waiting(MAX_BEFORE_PIECE) {
             Some(_) => self.progress.over,
@@ -559,8 +560,8 @@ impl Term {
     /// welcome. Any other message always is. So no welcome message ends the session because too many entries
     /// wait.
     pub fn welcomes(&self, message: &Message) -> bool
-        ensures welcome { (c : Run) → LeadsTo c self.now → result ≡ true → IsWelcome c message.now }
-        ensures unwelcome { (c : Run) → LeadsTo c self.now → result ≡ false → IsUnwelcome c message.now }
+        ensures welcome { (c : Run) → LeadsTo c self.now → IsTrue result → IsWelcome c message.now }
+        ensures unwelcome { (c : Run) → LeadsTo c self.now → IsFalse result → IsUnwelcome c message.now }
     {
         match message {
             Message::Piece(piece) => piece.as_slice().len() <= MAX_PIECE && self.is_welcoming(),
@@ -572,8 +573,8 @@ impl Term {
     pub fn handle(&mut self, message: Message, out: &mut Vec<u8>) -> MessageOutcome
         requires { out.old.items ≡ [] }
         ensures turns { IsTurn result.mark self.old message out.new.items result.put result.last self.new }
-        ensures none { is_whole result.mark ≡ true → result.last ≡ Put.Nothing }
-        ensures unwritten { no_write_failed result.mark ≡ true }
+        ensures none { IsTrue (is_whole result.mark) → result.last ≡ Put.Nothing }
+        ensures unwritten { IsTrue (no_write_failed result.mark) }
     {
         if self.progress.over {
             return MessageOutcome {

@@ -117,7 +117,8 @@ server_transcript first marked last written unwritten r said =
     )
 
 -- of a transcript that is there
-abbrev pub server_said : (first : term_run.Run) (marked : List (Message × term_mark.ServerMark)) (last : term_run.Run) (written : List ℕ) (transcript : List Exchange)
+abbrev pub server_said : (first : term_run.Run) (marked : List (Message × term_mark.ServerMark)) (last : term_run.Run) (written : List ℕ)
+    (transcript : List Exchange)
     → Transcribes of_server.OpensOrTurns of_server.brings of_server.says first (None ∷ map (λ m. Some m) marked) last written transcript
     → ServerTranscript first marked last written
 server_said first marked last written transcript t = saying of_server.OpensOrTurns of_server.brings of_server.says first
@@ -131,7 +132,8 @@ server_reads first marked last written t = t.reads ∙ brings_heard marked
 abbrev IsLatest : core_run.Run → Type 0
 IsLatest c = c.progress.closed ≡ false → c.sent ≡ c.history
 
-client_grows : (p q : core_run.Run) (m : Told × core_mark.ClientMark) → IsLatest p → core.Turns p m q → IsLatest q × IsPrefixOf (of_client.says p) (of_client.says q)
+client_grows : (p q : core_run.Run) (m : Told × core_mark.ClientMark) → IsLatest p → core.Turns p m q → IsLatest q ×
+    IsPrefixOf (of_client.says p) (of_client.says q)
 client_grows p q (x, k) g t =
     let said = client_says.items_said p.sent in
     let grown = client_turns (λ h. IsPrefixOf (client_says.items_said p.sent) (client_says.items_said h)) (client.items q.history) (record {
@@ -159,7 +161,8 @@ client_transcript width height limit marked last written unwritten r said =
     finished core.Turns of_client.brings of_client.says first marked last written later.0 later.1 later.2
 
 -- of a transcript that is there
-abbrev pub client_said : (width height limit : ℕ) (marked : List (Told × core_mark.ClientMark)) (last : core_run.Run) (written : List ℕ) (transcript : List Exchange)
+abbrev pub client_said : (width height limit : ℕ) (marked : List (Told × core_mark.ClientMark)) (last : core_run.Run) (written : List ℕ)
+    (transcript : List Exchange)
     → Transcribes core.Turns of_client.brings of_client.says (core_run.start width height limit) marked last written transcript
     → ClientTranscript (core_run.start width height limit) marked last written
 client_said width height limit marked last written transcript t =
@@ -328,7 +331,8 @@ client_noted width height limit marked last written handled t messages =
     let steps = noted_steps of_client.brought_by t.transcript handled (read ∙ all_brought marked handled messages) in
     (noted_from no_notes.last steps.0, steps.0, all_noted no_notes.last steps.0, steps.2, steps.1)
   where
-    all_brought : (ms : List (Told × core_mark.ClientMark)) (xs : List Mail) → map (λ m. m.0) ms ≡ all_told xs → map of_client.brings ms ≡ map of_client.brought_by xs
+    all_brought : (ms : List (Told × core_mark.ClientMark)) (xs : List Mail) → map (λ m. m.0) ms ≡ all_told xs → map of_client.brings ms
+        ≡ map of_client.brought_by xs
     all_brought [] [] e = refl
     all_brought [] (x ∷ xs) e = absurd (none_some e)
     all_brought (m ∷ ms) [] e = absurd (some_none e)

@@ -1,6 +1,6 @@
 -- What is in flight after a mark, and from the opening on: nothing that turns LINEMODE off or changes a
 -- special character, and nothing that turns it on but where the special characters are the standard ones.
-use Rattle.std.specs.Prelude.{◌≡◌, ◌⊎◌, ℕ, ◌==◌, Bool, true, false, Option, Some, None}
+use Rattle.std.specs.Prelude.{◌≡◌, ◌⊎◌, ℕ, ◌==◌, Bool, true, IsTrue, false, IsFalse, Option, Some, None}
 use Rattle.tn_codes.specs.declared.codes.Verb.{Verb}
 use Rattle.tn_codes.specs.declared.codes.Verb.TheVariants.{Will, DoIt}
 use Rattle.tn_codes.specs.OptionCodes as option_code
@@ -24,7 +24,7 @@ bits mask = record { edit = edits mask; trapsig = traps mask }
 
 -- to the server: no MODE but one that acknowledges, and no list of characters
 abbrev pub SaysCalmly : Option Payload → Type 0
-SaysCalmly (Some (payload.Mode mask)) = is_acknowledged mask ≡ true
+SaysCalmly (Some (payload.Mode mask)) = IsTrue (is_acknowledged mask)
 SaysCalmly (Some (payload.Slc triples)) = ⊥
 SaysCalmly _ = Unit {0}
 
@@ -33,20 +33,20 @@ abbrev pub TurnsOn : Settings → Verb → Verb → ℕ → Type 0
 TurnsOn s turning verb option = (verb ≡ turning) × (option ≡ 34) × (s.chars ≡ standard_characters)
 
 abbrev pub IsCalmToServer : Settings → Item → Type 0
-IsCalmToServer s (Neg verb option) = ((option == option_code.linemode) ≡ false) ⊎ TurnsOn s Will verb option
+IsCalmToServer s (Neg verb option) = IsFalse (option == option_code.linemode) ⊎ TurnsOn s Will verb option
 IsCalmToServer s (Sub option params) = SaysCalmly (payload_of option params)
 IsCalmToServer s _ = Unit {0}
 
 -- to the client: no MODE but one that a server with these settings asks for, and no list of characters but
 -- the whole table that the client has already
 abbrev pub AsksCalmly : Settings → Option Payload → Type 0
-AsksCalmly s (Some (payload.Mode mask)) = (is_acknowledged mask ≡ false) × IsAskable s (bits mask)
+AsksCalmly s (Some (payload.Mode mask)) = IsFalse (is_acknowledged mask) × IsAskable s (bits mask)
 AsksCalmly s (Some (payload.Slc triples)) =
     (s.chars ≡ standard_characters) × (triples ≡ announcement standard_characters)
 AsksCalmly s _ = Unit {0}
 
 abbrev pub IsCalmToClient : Settings → Item → Type 0
-IsCalmToClient s (Neg verb option) = ((option == option_code.linemode) ≡ false) ⊎ TurnsOn s DoIt verb option
+IsCalmToClient s (Neg verb option) = IsFalse (option == option_code.linemode) ⊎ TurnsOn s DoIt verb option
 IsCalmToClient s (Sub option params) = AsksCalmly s (payload_of option params)
 IsCalmToClient s _ = Unit {0}
 

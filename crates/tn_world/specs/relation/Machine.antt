@@ -1,6 +1,7 @@
 -- Both ends as far as lines go: what the server makes of what comes,
 -- and what the client does with keys and modes.
-use Rattle.std.specs.Prelude.{◌≡◌, ◌⊎◌, ℕ, ◌+◌, ◌-◌, ◌==◌, nat_lt, Bool, true, false, not, ◌&&◌, None, List}
+use Rattle.std.specs.Prelude.{◌≡◌, ◌⊎◌, ℕ, ◌+◌, ◌-◌, ◌==◌, nat_lt, Bool, true, IsTrue, false, not, ◌&&◌, None}
+use Rattle.std.specs.Prelude.{List}
 use Rattle.std.specs.Prelude.{[], ◌∷◌, ◌++◌, length, map, if◌then◌else◌}
 use Rattle.tn_codes.specs.declared.codes.Command.{Command}
 use Rattle.tn_codes.specs.declared.codes.Command.TheVariants.{Eof, Susp, Abort, Ip, Ec, El}
@@ -245,4 +246,4 @@ local_mode s = record { edit = true; trapsig = s.flags.isig }
 
 -- a mode that a server asks for
 abbrev pub IsAskable : Settings → Mode → Type 0
-IsAskable s m = (m ≡ remote_mode) ⊎ ((allows_local s.flags ≡ true) × (m ≡ local_mode s))
+IsAskable s m = (m ≡ remote_mode) ⊎ (IsTrue (allows_local s.flags) × (m ≡ local_mode s))

@@ -1,5 +1,6 @@
 -- The relation between both ends that every quiet event keeps, while no end has failed.
-use Rattle.std.specs.Prelude.{◌≡◌, ℕ, Bool, true, false, All, List, [], ◌∷◌, ◌++◌, length, if◌then◌else◌}
+use Rattle.std.specs.Prelude.{◌≡◌, ℕ, Bool, IsTrue, false, IsFalse, All, List, [], ◌∷◌, ◌++◌, length}
+use Rattle.std.specs.Prelude.{if◌then◌else◌}
 use Rattle.tn_discipline.specs.Characters.{Characters}
 use Rattle.tn_discipline.specs.Canon.{Canon, typed_entries, typed_half}
 use Rattle.tn_discipline.specs.Keys.{literal_role}
@@ -39,14 +40,14 @@ pub record Agrees (canon : Canon) (typed : List ℕ) (taken : List Entry) (v : S
   pub half : List ℕ
   pub waiting : List Entry
   pub is : v ≡ server_at c.linemode c.mask.edit half waiting
-  pub off : c.linemode ≡ false → c.mask.edit ≡ false
+  pub off : IsFalse c.linemode → IsFalse c.mask.edit
   pub entries : typed_entries canon typed ≡ taken ++ waiting
   pub line : typed_half canon typed ≡ half ++ c.held
   pub askable : IsAskable canon.settings c.mask
-  pub ahead : c.mask.edit ≡ true → length half ≡ c.ahead
-  pub none : c.mask.edit ≡ false → c.held ≡ []
+  pub ahead : IsTrue c.mask.edit → length half ≡ c.ahead
+  pub none : IsFalse c.mask.edit → c.held ≡ []
   pub plain : AreOrdinary canon.settings.chars c.held
-  pub count : c.mask.edit ≡ false → allows_local canon.settings.flags ≡ true
+  pub count : IsFalse c.mask.edit → IsTrue (allows_local canon.settings.flags)
       → (if canon.settings.flags.isig then c.trapped else c.plain) ≡ length half
 
 -- The same of both ends and the bytes between them, which are whole items and calm.

@@ -166,7 +166,8 @@ side_takes taken brings more ms c new runs read =
           (ap (λ (r : Run). r.progress.over) same ∙ off, ap taken same, subst Reads (sym same) h);
     }) ms c new runs read
 
-pub in_order : (width height limit : ℕ) (ms : List (Told × ClientMark)) (new : Run) → Runs (start width height limit) ms new → TakesInOrder (map (λ m. m.0) ms) new
+pub in_order : (width height limit : ℕ) (ms : List (Told × ClientMark)) (new : Run) → Runs (start width height limit) ms new →
+    TakesInOrder (map (λ m. m.0) ms) new
 in_order width height limit ms new r =
     let c = start width height limit in
     let ks = side_takes (λ (x : Run). inputs x.history) inputs_from (λ p q from m t. t.types_on) ms c new r ([], reads_none) in

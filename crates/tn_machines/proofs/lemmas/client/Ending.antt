@@ -25,7 +25,8 @@ abbrev MovesAt : Run → Told → ClientMark → Ended → Type 0
 MovesAt c m k e = Moves (ended_of c) (EndsAt c m k) e
 
 -- a message after which another end would count, had none come
-moves_on : (c : Run) (m : Told) (k : ClientMark) (a e : Ended) (f : SessionFault) → e ≡ first_end a (ended.Fault f) → MovesAt c m k a → EndsAt c m k (ended.Fault f)
+moves_on : (c : Run) (m : Told) (k : ClientMark) (a e : Ended) (f : SessionFault) → e ≡ first_end a (ended.Fault f) → MovesAt c m k a →
+    EndsAt c m k (ended.Fault f)
     → MovesAt c m k e
 moves_on c m k a e f is before why = moves_first (ended_of c) (EndsAt c m k) a e f is before why
 

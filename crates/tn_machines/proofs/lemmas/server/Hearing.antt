@@ -22,7 +22,8 @@ use Rattle.tn_server.specs.Lines.{entries, roles, role_at, waiting}
 use Rattle.tn_server.specs.Terms.{settings, mode}
 use Rattle.tn_server.specs.declared.wishes.Editing.{Editing}
 use Rattle.tn_linemode.specs.Prefixes.{IsRead}
-use Rattle.tn_machines.proofs.of_terminal.Alike.{OfItems, SameLines, lines_self, lines_took, lines_flushed, lines_parts, same_entries, of_items_gets, items_parts}
+use Rattle.tn_machines.proofs.of_terminal.Alike.{OfItems, SameLines, lines_self, lines_took, lines_flushed, lines_parts, same_entries, of_items_gets}
+use Rattle.tn_machines.proofs.of_terminal.Alike.{items_parts}
 use Rattle.tn_machines.proofs.lemmas.server.Giving.{acts_of}
 use Rattle.tn_machines.specs.Pieces.{bytes_in}
 use Rattle.tn_machines.specs.server.Hearing.{heard, Hears, entries_by}

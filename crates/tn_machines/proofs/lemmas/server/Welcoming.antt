@@ -60,7 +60,8 @@ was_on c new m k f put e t =
     turn.0
 
 -- no welcome message ends a session because too many entries wait
-pub stays_in_reach : (c new : Run) (t : Term) (m : Message) (k : ServerMark) → LeadsTo c t → IsWelcome c m → Turns c (m, k) new → new.progress.ended ≡ too_far_ahead
+pub stays_in_reach : (c new : Run) (t : Term) (m : Message) (k : ServerMark) → LeadsTo c t → IsWelcome c m → Turns c (m, k) new → new.progress.ended
+    ≡ too_far_ahead
     → c.progress.ended ≡ too_far_ahead
 stays_in_reach c new t m k at welcome turn e =
     ⊎_elim

@@ -66,7 +66,8 @@ module _ {M : Type 1} {𝓤 : Ura M} (𝓛 : Logic 𝓤) (at_mem : Memory → SP
       let h = z.0.3.0 in let vs = z.0.4.0 in
       let Out = type_at (F.signature).result tt in
       let Held = λ (o : Option State.the_row.Denot). ‵ (Handle.the_row.own_val (record { at = h.at; alloc = h.alloc; held = o }) vs) in
-      qed 𝓛 ((‵ ftrue ⊛ ‵ (fsep (Handle.the_row.own_val h vs) ftrue)) ∷ raw (emp 𝓤) ∷ []) ∵ split ! $ drop ! $ fsplit ! $ move ! (1 ∷ 2 ∷ []) $ drop ! $ drop ! $
+      qed 𝓛 ((‵ ftrue ⊛ ‵ (fsep (Handle.the_row.own_val h vs) ftrue)) ∷ raw (emp 𝓤) ∷ []) ∵ split ! $ drop ! $ fsplit ! $ move !
+      (1 ∷ 2 ∷ []) $ drop ! $ drop ! $
       opt_cases ! h.held
       (λ is. rewrite ! 0 Held is refl $
       use1 𝓛 (‵ (fsep (fex (Valss (RawPtr ∷ P E ∷ [])) (within (shape (owning E)) (h.at, (h.alloc, tt)) vs)) (feq Ptr h.at null_ptr))) (id⊢ 𝓤 _) $

@@ -81,7 +81,8 @@ module _ (E : Bx) where
         box_out E ! given z.0.4.0 (λ b o bits at is fits. fjoin ! $
         let w = word E bits b o in
         let y : Shuts.Ghost = ((lfts, shares, tt, (handle, (block_ptr b o, tt)), (bits ∷ [], (vptr b o ∷ [], tt))), value) in
-        let Γ : List (Item 𝓤) = ‵ (box_owns (token E.al handle) (R E) (block_ptr b o) value) ∷ ‵ ((P E).own_val handle (bits ∷ [])) ∷ ‵ ftrue ∷ tokens ∷ (lives ⊛ handle_lives ⊛ ‵ ftrue) ∷ [] in
+        let Γ : List (Item 𝓤) = ‵ (box_owns (token E.al handle) (R E) (block_ptr b o) value) ∷ ‵ ((P E).own_val handle (bits ∷ [])) ∷ ‵ ftrue ∷ tokens ∷
+        (lives ⊛ handle_lives ⊛ ‵ ftrue) ∷ [] in
         by ! (subst (λ (us : List Val). ent 𝓤 (types.Kit.⋆ 𝓛 Γ) (WpFn 𝓤 H 𝓣.C 𝓣.Λ body (us ++ []) Post)) (sym is)
         (qed 𝓛 Γ ∵ enter ! 𝓣.C 𝓣.Λ body (w ∷ []) _ $
         alloc_all ! (λ locals. pass_all ! refl (box_typed E bits b o fits, tt) $

@@ -73,7 +73,8 @@ returns-in-Err-Pty-Memory-clause-call c =
           (c.in-Err-Pty-Memory.field-0-is ∙ ap fault.Pty c.in-Err-Pty-Memory.field-0-0-is) c.in-Err-Pty-Memory.ensures.fault);
       err = search rules;
       grows = λ _ _ _. absurd (never_pty c.args.self.now.end.failed
-          (char_fault c.args.self.now.end.table c.args.func c.args.value) c.in-Err-Pty-Memory.field-0 c.in-Err-Pty-Memory.field-0-0 c.in-Err-Pty-Memory.field-0-is
+          (char_fault c.args.self.now.end.table c.args.func c.args.value) c.in-Err-Pty-Memory.field-0 c.in-Err-Pty-Memory.field-0-0
+          c.in-Err-Pty-Memory.field-0-is
           c.in-Err-Pty-Memory.ensures.fault);
       full = λ _ _ _. absurd
           (never_pty c.args.self.now.end.failed (char_fault c.args.self.now.end.table c.args.func c.args.value) c.in-Err-Pty-Memory.field-0

@@ -12,7 +12,8 @@ loop-event-preserved c =
     let i = c.loop-event.invariant in
     let left = c.next.new.self.rest.items in (
       FoldsTo-push Happens c.args.self.now c.loop-event.yielded c.loop-event.self c.in-Some.event c.happen.new.self i.0 c.in_ok-happen.ensures.happens,
-      i.1 ∙ ap (λ (l : List LoopEvent). c.loop-event.yielded ++ l) c.in-Some.ensures.steps.0 ∙ sym (append_assoc c.loop-event.yielded (c.in-Some.event ∷ []) left),
+      i.1 ∙ ap (λ (l : List LoopEvent). c.loop-event.yielded ++ l) c.in-Some.ensures.steps.0
+          ∙ sym (append_assoc c.loop-event.yielded (c.in-Some.event ∷ []) left),
     )
 
 on_err : {A E P : Type 0} (r : Result A E) → P → OnErr r P
