@@ -19,6 +19,7 @@ use Rattle.tn_server.proofs.lemmas.Fitting.{sent-fit}
 use Rattle.tn_client.specs.Course as client_courses
 use Rattle.tn_client.specs.Events as client_calls
 use Rattle.tn_client.specs.Calls as client
+use Rattle.tn_client.specs.Answering as answers
 use Rattle.tn_client.specs.Replies as client_says
 use Rattle.tn_client.specs.declared.commands.UserCommand.{UserCommand}
 use Rattle.tn_client.specs.declared.faults.ClientFault.{ClientFault}
@@ -39,12 +40,11 @@ tells_sound old end e later call accepted goes keeps sends s =
     told_sound old (record old { client = end; to_server = later }) e call goes keeps sends (propose_goes_on old.client e accepted) s
 
 pub key_sound : (old : World) (end : client.End) (key : ℕ) (later seen keys : List ℕ) → client_fault old.client (client_calls.typed key) ≡ None
-    → client.Advances old.client (client_calls.typed key) end → client.ReadsNothing old.client end
-    → client.Sends old.client (client_calls.typed key) old.to_server later → HasPast old
+    → answers.TypesKey old.client key old.to_server later old.echoed seen end → HasPast old
     → HasPast (record old { client = end; to_server = later; echoed = seen; typed = keys })
-key_sound old end key later seen keys accepted goes keeps sends s =
+key_sound old end key later seen keys accepted types s =
     sound_as (record old { client = end; to_server = later }) (record old { client = end; to_server = later; echoed = seen; typed = keys }) refl refl refl refl
-    (tells_sound old end (client_calls.typed key) later tt accepted goes keeps sends s)
+    (tells_sound old end (client_calls.typed key) later tt accepted types.goes types.keeps types.sends s)
 
 pub send_sound : (old : World) (end : client.End) (command : UserCommand) (later keys : List ℕ) → client_fault old.client (client_calls.sent command) ≡ None
     → client.Advances old.client (client_calls.sent command) end → client.ReadsNothing old.client end
@@ -106,11 +106,11 @@ breaks_or_again old end piece left later seen fault cause breaks stays none fail
 -- a call of the client that is refused
 pub key_refused : (old : World) (end : client.End) (key : ℕ) (later seen keys : List ℕ) (fault : ClientFault) → old.client_stopped ≡ false
     → client.IsFault (client.call_fault old.client) fault → (fault ≡ client_faults.Memory → (h : client_calls.History) → client.LeadsTo h old.client
-    → client.SaysOrShows h (client_calls.typed key)) → end ≡ old.client → later ≡ old.to_server → seen ≡ old.echoed → keys ≡ old.typed → (w : World) → old ≡ w
-    → ClientRefusesEvent w (Key key) fault × (record old { client = end; to_server = later; echoed = seen; typed = keys } ≡ w)
-key_refused old end key later seen keys fault goes cause grows a b c d w is =
+    → client.SaysOrShows h (client_calls.typed key)) → answers.Untouched old.client old.to_server later old.echoed seen end → keys ≡ old.typed
+    → (w : World) → old ≡ w → ClientRefusesEvent w (Key key) fault × (record old { client = end; to_server = later; echoed = seen; typed = keys } ≡ w)
+key_refused old end key later seen keys fault goes cause grows same kept w is =
     subst (λ w. ClientRefusesEvent w (Key key) fault × (record old { client = end; to_server = later; echoed = seen; typed = keys } ≡ w)) is
-    ((goes, record { cause = cause; grows = grows }), rw (a, b, c, d) refl)
+    ((goes, record { cause = cause; grows = grows }), rw (same.end, same.out, same.screen, kept) refl)
 
 pub resize_refused : (old : World) (end : client.End) (width height : ℕ) (later : List ℕ) (fault : ClientFault) → old.client_stopped ≡ false
     → client.IsFault (client.call_fault old.client) fault → (fault ≡ client_faults.Memory → (h : client_calls.History) → client.LeadsTo h old.client
