@@ -4,12 +4,11 @@ use Rattle.std.specs.Prelude.{Option, None}
 use Rattle.tn_codes.specs.declared.codes.Func.{Func}
 use Rattle.tn_discipline.specs.Characters.{slot}
 use Rattle.tn_option.specs.Options.{state_of}
-use Rattle.tn_client.specs.Calls.{End, LeadsTo, Advances, Sends, Shows, ReadsNothing, SaysOrShows, Feeds}
+use Rattle.tn_client.specs.Calls.{End, LeadsTo, Advances, Sends, Shows, ReadsNothing, Feeds}
 use Rattle.tn_client.specs.Calls.{StopsWithin, LacksRoomFor, LacksMemoryFor, call_fault, propose_fault}
 use Rattle.tn_nvt.specs.Feeding as nvt
 use Rattle.tn_client.specs.Events.{History, Event, begun, typed, resized, proposed, sent}
 use Rattle.tn_client.specs.Lines.{ahead, count_under, held_bytes}
-use Rattle.tn_client.specs.Replies.{replies}
 use Rattle.tn_client.specs.Terms.{chars, mode, options}
 use Rattle.tn_client.specs.declared.commands.UserCommand.{UserCommand}
 use Rattle.tn_client.specs.declared.faults.ClientFault.{ClientFault}
@@ -39,26 +38,23 @@ pub record Acts (e : Event) (cause : End → Option ClientFault) (answer : Code)
 pub record KeyCall (key : ℕ) (answer : Code) (before after : HeldClient) : Type 0 where
   pub acts : Acts (typed key) call_fault answer before after
   pub shows : answer ≡ code.Done → Shows before.end (typed key) before.shown.items after.shown.items
-  pub grows : answer ≡ code.Memory → (h : History) → LeadsTo h before.end → SaysOrShows h (typed key)
-  pub full : answer ≡ code.Memory → LacksMemoryFor before.end key before.pending before.shown
+  pub memory : answer ≡ code.Memory → LacksMemoryFor before.end key before.pending before.shown
 
 pub record ResizeCall (width height : ℕ) (answer : Code) (before after : HeldClient) : Type 0 where
   pub acts : Acts (resized width height) call_fault answer before after
-  pub grows : answer ≡ code.Memory → (h : History) → LeadsTo h before.end
-      → replies h (resized width height) ≢ []
-  pub full : answer ≡ code.Memory → LacksRoomFor before.end (resized width height) before.pending
+  pub memory : answer ≡ code.Memory → LacksRoomFor before.end (resized width height) before.pending
   pub shown : after.shown.items ≡ before.shown.items
 
 pub record ProposeCall (value : Option ℕ) (func : Func) (answer : Code) (before after : HeldClient)
     : Type 0 where
   pub acts : Acts (proposed func value) (λ end. propose_fault end func value) answer before after
-  pub full : answer ≡ code.Memory → LacksRoomFor before.end (proposed func value) before.pending
+  pub memory : answer ≡ code.Memory → LacksRoomFor before.end (proposed func value) before.pending
   pub shown : after.shown.items ≡ before.shown.items
 
 -- A command of the user is to be sent, before what is held of a line; nothing is shown.
 pub record SendCall (command : UserCommand) (answer : Code) (before after : HeldClient) : Type 0 where
   pub acts : Acts (sent command) call_fault answer before after
-  pub full : answer ≡ code.Memory → LacksRoomFor before.end (sent command) before.pending
+  pub memory : answer ≡ code.Memory → LacksRoomFor before.end (sent command) before.pending
   pub shown : after.shown.items ≡ before.shown.items
 
 -- The same of the command with this number, if a user sends one.

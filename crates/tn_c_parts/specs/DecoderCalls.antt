@@ -1,5 +1,5 @@
 -- What each call of a held decoder does.
-use Rattle.std.specs.Prelude.{◌≡◌, ◌↔◌, ◌⊎◌, ℕ, List, [], ◌∷◌, None, MatchOption}
+use Rattle.std.specs.Prelude.{◌≡◌, ◌≢◌, ◌↔◌, ◌⊎◌, ℕ, List, [], ◌∷◌, None, MatchOption}
 use Rattle.tn_nvt.specs.Feeding.{LeadsTo, failed, Feeds, StopsWithin, IsLetGo}
 use Rattle.tn_c_parts.specs.Items.{ReadStream, item_seen}
 use Rattle.tn_c_parts.specs.declared.codes.Code.{Code}
@@ -10,10 +10,9 @@ pub record FeedCall (piece : List ℕ) (answer : Code) (before after : ReadStrea
   pub codes : (answer ≡ code.Done) ⊎ ((answer ≡ code.Memory) ⊎ (answer ≡ code.Failed))
   pub ok : answer ≡ code.Done → Feeds before.decoder piece before.waiting after.waiting after.decoder
   pub memory : answer ≡ code.Memory → StopsWithin before.decoder piece before.waiting after.waiting after.room
-  pub memory_fails : answer ≡ code.Memory → after.decoder ≡ failed
   pub lets_go : IsLetGo before.decoder piece → answer ≡ code.Done
   pub refused : (answer ≡ code.Failed) ↔ (before.decoder ≡ failed)
-  pub failed_stays : answer ≡ code.Failed → after.decoder ≡ failed
+  pub fails : answer ≢ code.Done → after.decoder ≡ failed
   pub failed_waiting : answer ≡ code.Failed → after.waiting ≡ before.waiting
   pub item : after.item ≡ before.item
 

@@ -44,7 +44,6 @@ pub record Acts (e : Event) (cause : End → Option ServerFault) (answer : Code)
   pub accepted : answer ≡ code.Done → cause before.end ≡ None
   pub refused : (answer ≡ code.Done) ⊎ (answer ≡ server_refusal (cause before.end))
   pub err : answer ≢ code.Done → Untouched before after
-  pub grows : answer ≡ code.Memory → (h : History) → LeadsTo h before.end → SaysSomething h e
   pub full : answer ≡ code.Memory → LacksRoomFor before.end e before.pending
   pub entry : after.entry ≡ before.entry
 

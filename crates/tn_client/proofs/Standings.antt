@@ -1,5 +1,5 @@
 -- Where an event leads, from a history to the end.
-use Rattle.std.proofs.Common.{◌≡◌, ◌≢◌, ◌⊎◌, inl, inr, ℕ, Bool, true, false, min, Option, List, [], ◌++◌, length, Vec, refl, sym, ap, ◌∙◌, if◌then◌else◌, subst}
+use Rattle.std.proofs.Common.{◌≡◌, inl, inr, ℕ, Bool, true, false, min, Option, List, [], ◌++◌, length, Vec, refl, sym, ap, ◌∙◌, if◌then◌else◌, subst}
 use Rattle.tn_codes.specs.declared.masks.Mask.{Mask}
 use Rattle.tn_discipline.specs.Admitted.{count_after, count_of}
 use Rattle.tn_discipline.specs.Characters.{Characters}
@@ -20,7 +20,8 @@ use Rattle.tn_client.specs.Lines.{settings_by, key_settings, role_of_typed, role
 use Rattle.tn_client.specs.Lines.{is_sent_ahead, ahead, count_under, line}
 use Rattle.tn_client.specs.Replies.{replies, key_items, item_replies}
 use Rattle.tn_client.specs.Screen.{shows, key_shown}
-use Rattle.tn_client.specs.Calls.{End, LeadsTo, ReadsNothing, Advances, Sends, LacksMemoryFor, Shows, SaysOrShows, ReadsList, MayWantMemory, RefusesItem}
+use Rattle.tn_client.specs.Answering.{TypesKey}
+use Rattle.tn_client.specs.Calls.{End, LeadsTo, Advances, LacksMemoryFor, ReadsList, MayWantMemory, RefusesItem}
 use Rattle.tn_client.specs.Steps.{role_now, is_sent_now, line_sent, line_typed, count_typed, end_after_key, says_key, shows_key, LacksMemoryNow, line_left}
 use Rattle.tn_client.specs.Steps.{count_left, count_told, end_after_item, says_got, MayWantMemoryNow}
 use Rattle.tn_linemode.specs.Prefixes.{AppendsPrefix}
@@ -147,24 +148,16 @@ shows_typed h old key s =
     ∙ ap (λ (l : HalfLine). key_shown (is_echoed old.options) (edits old.mode) (key_settings old.mode old.table) (role_now old key) l key)
     (sym (line_is h old s))
 
-pub goes_typed : (old new : End) (key : ℕ) → new ≡ end_after_key old key → Advances old (typed key) new
-goes_typed old new key is = record { leads = λ h s. subst (LeadsTo (next h (typed key))) (sym is) (stands_typed h old key s) }
+pub types_key : (old new : End) (key : ℕ) (before after seen now : List ℕ) → new ≡ end_after_key old key → after ≡ before ++ spells (says_key old key)
+    → now ≡ seen ++ shows_key old key → TypesKey old key before after seen now new
+types_key old new key before after seen now is said shown = record {
+  goes = record { leads = λ h s. subst (LeadsTo (next h (typed key))) (sym is) (stands_typed h old key s) };
+  sends = record { said = says_key old key; appended = said; replies = λ h s. replies_typed h old key s };
+  shows = record { text = shows_key old key; appended = shown; shows = λ h s. shows_typed h old key s };
+  keeps = record { decoder = ap (λ (e : End). e.decoder) is; failed = ap (λ (e : End). e.failed) is };
+}
 
-pub keeps_typed : (old new : End) (key : ℕ) → new ≡ end_after_key old key → ReadsNothing old new
-keeps_typed old new key is = record { decoder = ap (λ (e : End). e.decoder) is; failed = ap (λ (e : End). e.failed) is }
-
-pub sends_typed : (old : End) (key : ℕ) (before after : List ℕ) → after ≡ before ++ spells (says_key old key) → Sends old (typed key) before after
-sends_typed old key before after is = record { said = says_key old key; appended = is; replies = λ h s. replies_typed h old key s }
-
-pub shows_key_typed : (old : End) (key : ℕ) (before after : List ℕ) → after ≡ before ++ shows_key old key → Shows old (typed key) before after
-shows_key_typed old key before after is = record { text = shows_key old key; appended = is; shows = λ h s. shows_typed h old key s }
-
--- a key that says nothing shows something, where it needs memory
-pub grows_typed : (old : End) (key : ℕ) → (says_key old key ≢ []) ⊎ (shows_key old key ≢ []) → (h : History) → LeadsTo h old → SaysOrShows h (typed key)
-grows_typed old key (inl some) h s = inl (λ e. some (sym (replies_typed h old key s) ∙ e))
-grows_typed old key (inr some) h s = inr (λ e. some (sym (shows_typed h old key s) ∙ e))
-
--- and what wants memory by what the end knows wants it by the history
+-- what wants memory by what the end knows wants it by the history
 pub lacks_typed : {Y Z : Type 0} (old : End) (key : ℕ) (out : Vec ℕ Y) (screen : Vec ℕ Z) → LacksMemoryNow old key out screen
     → LacksMemoryFor old key out screen
 lacks_typed old key out screen (inl lacks) h s = inl (subst (λ (said : List Item). LacksRoom out (length (spells said)))

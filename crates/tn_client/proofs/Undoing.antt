@@ -1,5 +1,5 @@
 -- A key whose line could not be sent ahead is taken back.
-use Rattle.std.proofs.Common.{◌≡◌, ◌≢◌, ℕ, Bool, true, false, not, ◌&&◌, Option, List, [], ◌∷◌, ◌++◌, refl, sym, ap, ◌∙◌, if◌then◌else◌}
+use Rattle.std.proofs.Common.{◌≡◌, ℕ, Bool, true, false, Option, [], ◌∷◌, ◌++◌, sym, ap, ◌∙◌, if◌then◌else◌}
 use Rattle.tn_codes.specs.declared.masks.Mask.{Mask}
 use Rattle.tn_discipline.specs.HalfLine.{HalfLine, is_full, effect_of, line_after, line_erased}
 use Rattle.tn_discipline.specs.declared.half_line.Effect.{Effect}
@@ -7,12 +7,8 @@ use Rattle.tn_discipline.specs.declared.half_line.Effect.TheVariants as effect
 use Rattle.tn_discipline.specs.declared.keys.Role.{Role}
 use Rattle.tn_discipline.specs.declared.keys.Role.TheVariants as role
 use Rattle.tn_discipline.proofs.lemmas.Lines.{kept_erased}
-use Rattle.tn_nvt.specs.declared.items.Item.TheVariants.{Byte}
 use Rattle.tn_client.specs.Calls.{End}
-use Rattle.tn_client.specs.Lines.{is_forward}
-use Rattle.tn_client.specs.Replies.{byte_items, sent_ahead_items, key_items}
 use Rattle.tn_client.specs.Steps.{sends_where}
-use Rattle.tn_linemode.proofs.lemmas.Cutting.{cons_some}
 
 -- a key that sends something ahead is an ordinary byte that was kept
 undone_by_test : (f : Option Mask) (l : HalfLine) (byte : ℕ) (full : Bool)
@@ -32,23 +28,3 @@ undone old mid new kept back r e is_kept is_mid is_back is_new is_effect sends =
     ∙ ap (λ (m : End). record m { line = line_erased m.line }) is_mid
     ∙ ap (λ (l : HalfLine). record old { line = line_erased l }) is_kept
     ∙ ap (λ (l : HalfLine). record old { line = l }) (undone_line old.forward old.line r (ap (sends_where old.forward r) (sym is_effect) ∙ sends))
-
--- and it says something
-bytes_some : (bytes : List ℕ) (byte : ℕ) → byte_items (bytes ++ byte ∷ []) ≢ []
-bytes_some [] byte = cons_some (Byte byte) []
-bytes_some (b ∷ bytes) byte = cons_some (Byte b) (byte_items (bytes ++ byte ∷ []))
-
-some_by_test : (f : Option Mask) (l : HalfLine) (byte : ℕ) (full forwards : Bool) → is_forward f byte ≡ forwards
-    → sends_where f (role.Ordinary byte) (if full then effect.Dropped else effect.Kept) ≡ true
-    → sent_ahead_items (not full && forwards) (if full then l else record l { held = l.held ++ byte ∷ [] }) ≢ []
-some_by_test f l byte true forwards is sends = cc
-some_by_test f l byte false true is sends = bytes_some l.held byte
-some_by_test f l byte false false is sends = cc
-
-some_of : (f : Option Mask) (l : HalfLine) (r : Role) (key : ℕ) → sends_where f r (effect_of l r) ≡ true → key_items true f r l key ≢ []
-some_of f l (role.Ordinary byte) key sends = some_by_test f l byte (is_full l) (is_forward f byte) refl sends
-some_of f l _ key sends = cc
-
-pub sends_some : (f : Option Mask) (l : HalfLine) (r : Role) (e : Effect) (key : ℕ) → e ≡ effect_of l r → sends_where f r e ≡ true
-    → key_items true f r l key ≢ []
-sends_some f l r e key is sends = some_of f l r key (ap (sends_where f r) (sym is) ∙ sends)

@@ -5,3 +5,4 @@ pub mod Fitting
 pub mod Courses
 pub mod Words
 pub mod Stopping
+pub mod Wanting

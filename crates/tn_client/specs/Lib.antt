@@ -9,3 +9,4 @@ pub mod Stopping
 pub mod Steps
 pub mod Lending
 pub mod Bounds
+pub mod Answering

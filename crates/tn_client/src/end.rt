@@ -8,13 +8,13 @@ ghost use Rattle.tn_nvt.specs.Room.{LacksRoom};
 ghost use Rattle.tn_nvt.specs.Spelling.{spells};
 ghost use Rattle.tn_nvt.specs.Feeding as nvt;
 ghost use Rattle.tn_option.specs.Options.{state_of};
-ghost use Rattle.tn_client.specs.Events.{History, begun, next, typed, resized, proposed, sent};
+ghost use Rattle.tn_client.specs.Events.{History, begun, next, resized, proposed, sent};
 ghost use Rattle.tn_client.specs.Terms.{options, mode, chars};
 ghost use Rattle.tn_client.specs.Lines.{held_bytes, ahead, count_under};
 ghost use Rattle.tn_client.specs.Replies.{replies, size_items};
-ghost use Rattle.tn_client.specs.Calls.{LeadsTo, Advances, Sends, Shows, ReadsNothing, SaysOrShows, Feeds};
-ghost use Rattle.tn_client.specs.Calls.{StopsWithin, LacksRoomFor, LacksMemoryFor, call_fault, propose_fault};
-ghost use Rattle.tn_client.specs.Calls.{IsFault};
+ghost use Rattle.tn_client.specs.Answering.{AnswersBy, TypesKey, Untouched};
+ghost use Rattle.tn_client.specs.Calls.{LeadsTo, Advances, Sends, ReadsNothing, Feeds, StopsWithin};
+ghost use Rattle.tn_client.specs.Calls.{LacksRoomFor, LacksMemoryFor, call_fault, propose_fault, IsFault};
 ghost use Rattle.tn_client.specs.Steps.{end_after_resize, says_resize};
 
 use crate::commands::UserCommand;
@@ -118,20 +118,13 @@ impl ClientEnd {
         out: &mut Vec<u8>,
         screen: &mut Vec<u8>,
     ) -> Result<(), ClientFault>
-        ensures goes { OnOk result (Advances self.old (typed key) self.new) }
-        ensures sends { OnOk result (Sends self.old (typed key) out.old.items out.new.items) }
-        ensures shows { OnOk result (Shows self.old (typed key) screen.old.items screen.new.items) }
-        ensures keeps { OnOk result (ReadsNothing self.old self.new) }
-
-        ensures accepted { OnOk result (call_fault self.old ≡ None) }
-        ensures fault { IfErr result (IsFault (call_fault self.old)) }
-        ensures err { OnErr result (self.new ≡ self.old) }
-        ensures err_out { OnErr result (out.new.items ≡ out.old.items) }
-        ensures err_screen { OnErr result (screen.new.items ≡ screen.old.items) }
-        ensures grows { IsErrOf result ClientFault.Memory →
-            (h : History) → LeadsTo h self.old → SaysOrShows h (typed key) }
-        ensures full { IsErrOf result ClientFault.Memory →
+        ensures ok { OnOk result (TypesKey self.old key
+            out.old.items out.new.items screen.old.items screen.new.items self.new) }
+        ensures failed { AnswersBy (call_fault self.old) result }
+        ensures memory { IsErrOf result ClientFault.Memory →
             LacksMemoryFor self.old key out.old screen.old }
+        ensures err { OnErr result (Untouched self.old
+            out.old.items out.new.items screen.old.items screen.new.items self.new) }
     {
         if self.failed {
             return Err(ClientFault::Failed);
@@ -199,9 +192,7 @@ impl ClientEnd {
         ensures fault { IfErr result (IsFault (call_fault self.old)) }
         ensures err { OnErr result (self.new ≡ self.old) }
         ensures err_out { OnErr result (out.new.items ≡ out.old.items) }
-        ensures grows { IsErrOf result ClientFault.Memory →
-            (h : History) → LeadsTo h self.old → replies h (resized width height) ≢ [] }
-        ensures full { IsErrOf result ClientFault.Memory →
+        ensures memory { IsErrOf result ClientFault.Memory →
             LacksRoomFor self.old (resized width height) out.old }
     {
         if self.failed {
@@ -219,7 +210,6 @@ impl ClientEnd {
             (out.new.items ≡ out.old.items ++ spells (says_resize self.old width height)) }
         ensures err { OnErr result (self.new ≡ self.old) }
         ensures err_out { OnErr result (out.new.items ≡ out.old.items) }
-        ensures grows { OnErr result (says_resize self.old width height ≢ []) }
         ensures full { OnErr result
             (LacksRoom out.old (length (spells (says_resize self.old width height)))) }
     {
@@ -266,7 +256,7 @@ impl ClientEnd {
         ensures fault { IfErr result (IsFault (propose_fault self.old func value)) }
         ensures err { OnErr result (self.new ≡ self.old) }
         ensures err_out { OnErr result (out.new.items ≡ out.old.items) }
-        ensures full { IsErrOf result ClientFault.Memory →
+        ensures memory { IsErrOf result ClientFault.Memory →
             LacksRoomFor self.old (proposed func value) out.old }
     {
         if self.failed {
@@ -295,7 +285,7 @@ impl ClientEnd {
         ensures fault { IfErr result (IsFault (call_fault self.old)) }
         ensures err { OnErr result (self.new ≡ self.old) }
         ensures err_out { OnErr result (out.new.items ≡ out.old.items) }
-        ensures full { IsErrOf result ClientFault.Memory →
+        ensures memory { IsErrOf result ClientFault.Memory →
             LacksRoomFor self.old (sent command) out.old }
     {
         if self.failed {

@@ -1,6 +1,6 @@
 //! What a client end does with a key.
 
-ghost use Rattle.std.specs.Prelude.{◌≡◌, ◌≢◌, ◌⊎◌, ◌<◌, ◌≤◌, ◌++◌, ℕ, [], true, false, IsFalse, length, IfOk};
+ghost use Rattle.std.specs.Prelude.{◌≡◌, ◌⊎◌, ◌<◌, ◌≤◌, ◌++◌, ℕ, [], true, false, IsFalse, length, IfOk};
 ghost use Rattle.std.specs.Prelude.{OnOk};
 ghost use Rattle.std.specs.Prelude.{OnErr, if◌then◌else◌};
 ghost use Rattle.tn_nvt.specs.Room.{LacksRoom};
@@ -106,7 +106,6 @@ impl ClientEnd {
         ensures err { OnErr result (self.new ≡ self.old) }
         ensures err_out { OnErr result (Begins out.old.items out.new.items) }
         ensures err_screen { OnErr result (screen.new.items ≡ screen.old.items) }
-        ensures grows { OnErr result ((says_key self.old key ≢ []) ⊎ (shows_key self.old key ≢ [])) }
         ensures full { OnErr result (LacksMemoryNow self.old key out.old screen.old) }
     {
         if self.mode.current().edit() {
@@ -126,7 +125,6 @@ impl ClientEnd {
         ensures err { OnErr result (self.new ≡ self.old) }
         ensures err_out { OnErr result (Begins out.old.items out.new.items) }
         ensures err_screen { OnErr result (screen.new.items ≡ screen.old.items) }
-        ensures grows { raw_key_items (role_now self.old key) key ≢ [] }
         ensures full { let said = raw_key_items (role_now self.old key) key in
             let text = passed_shown (is_echoed self.old.options) key in
             OnErr result (LacksRoom out.old (length (spells said)) ⊎ LacksRoom screen.old (length text)) }
@@ -201,10 +199,6 @@ impl ClientEnd {
         ensures err { OnErr result (self.new ≡ self.old) }
         ensures err_out { OnErr result (Begins out.old.items out.new.items) }
         ensures err_screen { OnErr result (screen.new.items ≡ screen.old.items) }
-        ensures grows { let terminal = key_settings self.old.mode self.old.table in
-            let role = role_now self.old key in
-            let text = edited_shown (is_echoed self.old.options) terminal role self.old.line in
-            OnErr result ((key_items true self.old.forward role self.old.line key ≢ []) ⊎ (text ≢ [])) }
         ensures full { let terminal = key_settings self.old.mode self.old.table in
             let role = role_now self.old key in
             let said = key_items true self.old.forward role self.old.line key in
@@ -232,7 +226,6 @@ impl ClientEnd {
             out.old.items ++ spells (edit_items self.old.forward role self.old.line)) }
         ensures err { OnErr result (self.new ≡ self.old) }
         ensures err_out { OnErr result (Begins out.old.items out.new.items) }
-        ensures grows { OnErr result (edit_items self.old.forward role self.old.line ≢ []) }
         ensures full { let said = edit_items self.old.forward role self.old.line in
             OnErr result (LacksRoom out.old (length (spells said)) ⊎ GivesText self.old.line role) }
     {

@@ -57,7 +57,6 @@ fn command_for(func: Func) -> Option<Command>
 fn put_command(role: Role, out: &mut Vec<u8>) -> Result<(), AllocError>
     ensures ok { OnOk result (out.new.items ≡ out.old.items ++ spells (command_items (command_of role))) }
     ensures err { OnErr result (out.new.items ≡ out.old.items) }
-    ensures grows { OnErr result (command_items (command_of role) ≢ []) }
     ensures full { OnErr result (LacksRoom out.old (length (spells (command_items (command_of role))))) }
     ensures capacity { vec_capacity out.old ≤ vec_capacity out.new }
 {
@@ -71,7 +70,6 @@ fn put_command(role: Role, out: &mut Vec<u8>) -> Result<(), AllocError>
 pub(crate) fn put_raw(role: Role, key: u8, out: &mut Vec<u8>) -> Result<(), AllocError>
     ensures ok { OnOk result (out.new.items ≡ out.old.items ++ spells (raw_key_items role key)) }
     ensures err { OnErr result (out.new.items ≡ out.old.items) }
-    ensures grows { OnErr result (raw_key_items role key ≢ []) }
     ensures full { OnErr result (LacksRoom out.old (length (spells (raw_key_items role key)))) }
 {
     if matches!(role, Role::Signal(_)) {
@@ -119,7 +117,6 @@ pub(crate) fn put_bytes(bytes: &[u8], out: &mut Vec<u8>) -> Result<(), AllocErro
 pub(crate) fn put_edited(role: Role, line: &Line, out: &mut Vec<u8>) -> Result<(), AllocError>
     ensures ok { OnOk result (out.new.items ≡ out.old.items ++ spells (edited_key_items role line.now)) }
     ensures err { OnErr result (Begins out.old.items out.new.items) }
-    ensures grows { OnErr result (edited_key_items role line.now ≢ []) }
     ensures full { OnErr result (LacksRoom out.old (length (spells (edited_key_items role line.now)))) }
     ensures capacity { vec_capacity out.old ≤ vec_capacity out.new }
 {

@@ -5,3 +5,4 @@ pub mod Sinks
 pub mod Machine
 pub mod Runs
 pub mod Room
+pub mod Stopping

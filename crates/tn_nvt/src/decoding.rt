@@ -4,7 +4,8 @@ ghost use Rattle.std.specs.Prelude.{◌≡◌, ◌≢◌, ◌↔◌, ◌-◌, []
 ghost use Rattle.std.specs.Prelude.{IsOk, IfOk, OnOk, IfErr, OnErr, IsErrOf};
 ghost use Rattle.tn_nvt.specs.Machine.{state_of_place, progress};
 ghost use Rattle.tn_nvt.specs.Sinks.{FeedsTo, StopsAtSink, StopsForMemory};
-ghost use Rattle.tn_nvt.specs.Feeding.{failed, LeadsTo, Feeds, StopsWithin, IsLetGo};
+ghost use Rattle.tn_nvt.specs.Feeding.{failed, LeadsTo, Feeds, IsLetGo};
+ghost use Rattle.tn_nvt.specs.Stopping.{Stops};
 ghost use Rattle.tn_nvt.specs.declared.decoding.NvtFault.TheVariants.{Memory};
 ghost use Rattle.tn_nvt.specs.declared.places.Place.TheVariants as here;
 
@@ -81,17 +82,13 @@ impl Decoder {
 
         // Memory is wanted for an item in `out` and for a parameter alone, and so for no byte of a
         // subnegotiation that is discarded.
-        ensures memory { let room = vec_capacity out.new - vec_len out.new in
-            IsErrOf result NvtFault.Memory →
-            StopsWithin self.old piece.now out.old.items out.new.items room }
-        ensures memory_fails { IsErrOf result NvtFault.Memory → self.new ≡ failed }
-        ensures no_refusal { ¬ IsErrOf result NvtFault.Refused }
+        ensures stops { let room = vec_capacity out.new - vec_len out.new in
+            IfErr result (Stops self.old piece.now out.old.items out.new.items room) }
         ensures lets_go { IsLetGo self.old piece.now → IsOk result }
+        ensures fails { OnErr result (self.new ≡ failed) }
 
         // A decoder that has failed reads nothing more.
-        ensures failed { IsErrOf result NvtFault.Failed ↔ (self.old ≡ failed) }
-        ensures failed_stays { IsErrOf result NvtFault.Failed → self.new ≡ failed }
-        ensures failed_appends { IsErrOf result NvtFault.Failed → out.new.items ≡ out.old.items }
+        ensures failed { self.old ≡ failed → IsErrOf result NvtFault.Failed }
     {
         let mut place = begin(&mut self.place)?;
         for byte in piece {

@@ -6,3 +6,4 @@ pub mod Courses
 pub mod Words
 pub mod Stopping
 pub mod Room
+pub mod Wanting

@@ -236,8 +236,6 @@ impl ServerEnd {
     pub fn wish(&mut self, editing: Editing, out: &mut Vec<u8>) -> Result<bool, ServerFault>
         ensures ok { OnOk result (Advances self.old (wished editing) out.old.items out.new.items self.new) }
         ensures keeps { OnOk result (ReadsNothing self.old self.new) }
-        ensures grows { IsErrOf result ServerFault.Memory → (h : History) → LeadsTo h self.old →
-            SaysSomething h (wished editing) }
         ensures full { IsErrOf result ServerFault.Memory → LacksRoomFor self.old (wished editing) out.old }
         ensures sent { IfOk result (λ sent. (h : History) → LeadsTo h self.old →
             sent ≡ sends_mode h editing) }
@@ -271,8 +269,6 @@ impl ServerEnd {
         ensures ok { OnOk result
             (Advances self.old (char_set func value) out.old.items out.new.items self.new) }
         ensures keeps { OnOk result (ReadsNothing self.old self.new) }
-        ensures grows { IsErrOf result ServerFault.Memory → (h : History) → LeadsTo h self.old →
-            SaysSomething h (char_set func value) }
         ensures full { IsErrOf result ServerFault.Memory →
             LacksRoomFor self.old (char_set func value) out.old }
         ensures accepted { OnOk result (char_fault_at self.old func value ≡ None) }
@@ -301,8 +297,6 @@ impl ServerEnd {
     pub fn set_echo(&mut self, on: bool, out: &mut Vec<u8>) -> Result<(), ServerFault>
         ensures ok { OnOk result (Advances self.old (echo_set on) out.old.items out.new.items self.new) }
         ensures keeps { OnOk result (ReadsNothing self.old self.new) }
-        ensures grows { IsErrOf result ServerFault.Memory → (h : History) → LeadsTo h self.old →
-            SaysSomething h (echo_set on) }
         ensures full { IsErrOf result ServerFault.Memory → LacksRoomFor self.old (echo_set on) out.old }
         ensures accepted { OnOk result (call_fault self.old ≡ None) }
         ensures err { OnErr result (self.new ≡ self.old) }
@@ -326,8 +320,6 @@ impl ServerEnd {
     pub fn set_mask(&mut self, mask: Option<Mask>, out: &mut Vec<u8>) -> Result<(), ServerFault>
         ensures ok { OnOk result (Advances self.old (mask_set mask) out.old.items out.new.items self.new) }
         ensures keeps { OnOk result (ReadsNothing self.old self.new) }
-        ensures grows { IsErrOf result ServerFault.Memory → (h : History) → LeadsTo h self.old →
-            SaysSomething h (mask_set mask) }
         ensures full { IsErrOf result ServerFault.Memory → LacksRoomFor self.old (mask_set mask) out.old }
         ensures accepted { OnOk result (mask_fault self.old ≡ None) }
         ensures fault { IfErr result (IsFault (mask_fault self.old)) }

@@ -1,5 +1,5 @@
 -- The invariant of a world after each event, in the words of the calls that it makes.
-use Rattle.std.proofs.Common.{◌≡◌, ◌≢◌, inl, ℕ, Bool, true, false, if◌then◌else◌, Some, None, List, [], take, drop, refl, sym, ap, ◌∙◌, subst}
+use Rattle.std.proofs.Common.{◌≡◌, ◌≢◌, inl, ℕ, Bool, true, false, if◌then◌else◌, Some, None, List, [], take, drop, Vec, refl, sym, ap, ◌∙◌, subst}
 use Rattle.std.specs.Prelude.{Result, Ok, Err, OnOk, OnErr}
 use Rattle.std.proofs.lemmas.List.Elements.{All-nil}
 use Rattle.tn_discipline.specs.Canon.{Canon}
@@ -15,10 +15,15 @@ use Rattle.tn_client.specs.Terms as client_terms
 use Rattle.tn_server.specs.Events as server_calls
 use Rattle.tn_server.specs.Replies.{opening}
 use Rattle.tn_server.specs.Calls as server
+use Rattle.tn_server.specs.Faults as faults
+use Rattle.tn_server.specs.declared.faults.ServerFault.{ServerFault}
+use Rattle.tn_server.specs.declared.faults.ServerFault.TheVariants as server_faults
 use Rattle.tn_server.proofs.lemmas.Fitting.{sent-fit}
+use Rattle.tn_server.proofs.lemmas.Wanting.{says_something}
 use Rattle.tn_client.specs.Course as client_courses
 use Rattle.tn_client.specs.Events as client_calls
 use Rattle.tn_client.specs.Calls as client
+use Rattle.tn_client.specs.Answering as answers
 use Rattle.tn_client.specs.Replies as client_says
 use Rattle.tn_client.specs.declared.commands.UserCommand.{UserCommand}
 use Rattle.tn_client.specs.declared.faults.ClientFault.{ClientFault}
@@ -26,7 +31,7 @@ use Rattle.tn_client.specs.declared.faults.ClientFault.TheVariants as client_fau
 use Rattle.tn_world.specs.Past.{HasPast, opening_pair, WishesNothing}
 use Rattle.tn_world.specs.Flight.{InFlight}
 use Rattle.tn_world.specs.Opened.{IsOpened}
-use Rattle.tn_world.specs.Worlds.{World, client_fault, ClientRefusesEvent}
+use Rattle.tn_world.specs.Worlds.{World, server_fault, client_fault, ServerRefusesCall, ClientRefusesEvent}
 use Rattle.tn_world.specs.declared.events.Event.TheVariants.{Key, Resize}
 use Rattle.tn_world.proofs.Cut.{said_behind, start}
 use Rattle.tn_world.proofs.Soundness.{Lead, made, asked_sound, told_sound, sound_as, sound_reaches, sound_returns, propose_goes_on, breaks_sound, again_sound}
@@ -39,12 +44,11 @@ tells_sound old end e later call accepted goes keeps sends s =
     told_sound old (record old { client = end; to_server = later }) e call goes keeps sends (propose_goes_on old.client e accepted) s
 
 pub key_sound : (old : World) (end : client.End) (key : ℕ) (later seen keys : List ℕ) → client_fault old.client (client_calls.typed key) ≡ None
-    → client.Advances old.client (client_calls.typed key) end → client.ReadsNothing old.client end
-    → client.Sends old.client (client_calls.typed key) old.to_server later → HasPast old
+    → answers.TypesKey old.client key old.to_server later old.echoed seen end → HasPast old
     → HasPast (record old { client = end; to_server = later; echoed = seen; typed = keys })
-key_sound old end key later seen keys accepted goes keeps sends s =
+key_sound old end key later seen keys accepted types s =
     sound_as (record old { client = end; to_server = later }) (record old { client = end; to_server = later; echoed = seen; typed = keys }) refl refl refl refl
-    (tells_sound old end (client_calls.typed key) later tt accepted goes keeps sends s)
+    (tells_sound old end (client_calls.typed key) later tt accepted types.goes types.keeps types.sends s)
 
 pub send_sound : (old : World) (end : client.End) (command : UserCommand) (later keys : List ℕ) → client_fault old.client (client_calls.sent command) ≡ None
     → client.Advances old.client (client_calls.sent command) end → client.ReadsNothing old.client end
@@ -106,11 +110,11 @@ breaks_or_again old end piece left later seen fault cause breaks stays none fail
 -- a call of the client that is refused
 pub key_refused : (old : World) (end : client.End) (key : ℕ) (later seen keys : List ℕ) (fault : ClientFault) → old.client_stopped ≡ false
     → client.IsFault (client.call_fault old.client) fault → (fault ≡ client_faults.Memory → (h : client_calls.History) → client.LeadsTo h old.client
-    → client.SaysOrShows h (client_calls.typed key)) → end ≡ old.client → later ≡ old.to_server → seen ≡ old.echoed → keys ≡ old.typed → (w : World) → old ≡ w
-    → ClientRefusesEvent w (Key key) fault × (record old { client = end; to_server = later; echoed = seen; typed = keys } ≡ w)
-key_refused old end key later seen keys fault goes cause grows a b c d w is =
+    → client.SaysOrShows h (client_calls.typed key)) → answers.Untouched old.client old.to_server later old.echoed seen end → keys ≡ old.typed
+    → (w : World) → old ≡ w → ClientRefusesEvent w (Key key) fault × (record old { client = end; to_server = later; echoed = seen; typed = keys } ≡ w)
+key_refused old end key later seen keys fault goes cause grows same kept w is =
     subst (λ w. ClientRefusesEvent w (Key key) fault × (record old { client = end; to_server = later; echoed = seen; typed = keys } ≡ w)) is
-    ((goes, record { cause = cause; grows = grows }), rw (a, b, c, d) refl)
+    ((goes, record { cause = cause; grows = grows }), rw (same.end, same.out, same.screen, kept) refl)
 
 pub resize_refused : (old : World) (end : client.End) (width height : ℕ) (later : List ℕ) (fault : ClientFault) → old.client_stopped ≡ false
     → client.IsFault (client.call_fault old.client) fault → (fault ≡ client_faults.Memory → (h : client_calls.History) → client.LeadsTo h old.client
@@ -119,6 +123,15 @@ pub resize_refused : (old : World) (end : client.End) (width height : ℕ) (late
 resize_refused old end width height later fault goes cause grows a b w is =
     subst (λ w. ClientRefusesEvent w (Resize width height) fault × (record old { client = end; to_server = later } ≡ w)) is
     ((goes, record { cause = cause; grows = λ m h s. inl (grows m h s) }), rw (a, b) refl)
+
+-- a call of the server that is refused
+pub asks_refused : {Z : Type 0} (old : World) (end : server.End) (e : server_calls.Event) (later : List ℕ) (out : Vec ℕ Z) (fault : ServerFault)
+    → old.server_stopped ≡ false → faults.IsFault (server_fault old.server e) fault
+    → (fault ≡ server_faults.Memory → server.LacksRoomFor old.server e out) → end ≡ old.server → later ≡ old.to_client → (w : World) → old ≡ w
+    → ((w.server_stopped ≡ false) × ServerRefusesCall w.server e fault) × (record old { server = end; to_client = later } ≡ w)
+asks_refused old end e later out fault goes cause lacks a b w is =
+    subst (λ w. ((w.server_stopped ≡ false) × ServerRefusesCall w.server e fault) × (record old { server = end; to_client = later } ≡ w)) is
+    ((goes, record { cause = cause; grows = λ m. says_something old.server e out (lacks m) }), rw (a, b) refl)
 
 -- a call that may be refused, and then changes nothing
 pub asks_or_not : {A E : Type 0} (old : World) (end : server.End) (e : server_calls.Event) (later : List ℕ) (r : Result A E) → server_courses.IsCall e

@@ -1,6 +1,7 @@
 -- Keys, one after another.
 use Rattle.std.proofs.Common.{◌≡◌, ℕ, List, [], ◌∷◌, ◌++◌, refl, sym, ap, ◌∙◌, subst, append-nil, append_assoc}
-use Rattle.tn_client.specs.Calls.{End, LeadsTo, Advances, ReadsNothing, Sends, Shows}
+use Rattle.tn_client.specs.Answering.{TypesKey, Untouched}
+use Rattle.tn_client.specs.Calls.{End, LeadsTo}
 use Rattle.tn_client.specs.Events.{History, next, typed, items}
 use Rattle.tn_client.specs.Replies.{items_said, replies}
 use Rattle.tn_client.specs.Screen.{text_shown, shows}
@@ -68,9 +69,9 @@ types_none end x u = record {
   keeps = record { decoder = refl; failed = refl };
 }
 
-pub types_more : (a b d : End) (keys : List ℕ) (key : ℕ) (x y z u v w : List ℕ) → TypesAll a keys x y u v b → Advances b (typed key) d → Sends b (typed key) y z
-    → Shows b (typed key) v w → ReadsNothing b d → TypesAll a (keys ++ key ∷ []) x z u w d
-types_more a b d keys key x y z u v w t goes sends shows keeps = record {
+pub types_more : (a b d : End) (keys : List ℕ) (key : ℕ) (x y z u v w : List ℕ) → TypesAll a keys x y u v b → TypesKey b key y z v w d
+    → TypesAll a (keys ++ key ∷ []) x z u w d
+types_more a b d keys key x y z u v w t k = let sends = k.sends in let shows = k.shows in record {
   said = t.said ++ sends.said;
   text = t.text ++ shows.text;
   appended = sends.appended ∙ ap (λ (bs : List ℕ). bs ++ spells sends.said) t.appended ∙ append_assoc x (spells t.said) (spells sends.said)
@@ -84,19 +85,19 @@ types_more a b d keys key x y z u v w t goes sends shows keeps = record {
       ap text_shown (types-push h keys key) ∙ ap (λ (bs : List ℕ). text_shown (types h keys) ++ bs) (shows.shows (types h keys) (t.leads h s))
       ∙ ap (λ (bs : List ℕ). bs ++ shows.text) (t.shows h s)
       ∙ append_assoc (text_shown h) t.text shows.text;
-  leads = λ h s. subst (λ (k : History). LeadsTo k d) (sym (types-push h keys key)) (goes.leads (types h keys) (t.leads h s));
-  keeps = record { decoder = keeps.decoder ∙ t.keeps.decoder; failed = keeps.failed ∙ t.keeps.failed };
+  leads = λ h s. subst (λ (k : History). LeadsTo k d) (sym (types-push h keys key)) (k.goes.leads (types h keys) (t.leads h s));
+  keeps = record { decoder = k.keeps.decoder ∙ t.keeps.decoder; failed = k.keeps.failed ∙ t.keeps.failed };
 }
 
 -- a key that was refused was not typed
-pub types_kept : (a b d : End) (keys x y z u v w : List ℕ) → d ≡ b → z ≡ y → w ≡ v → TypesAll a keys x y u v b → TypesAll a keys x z u w d
-types_kept a b d keys x y z u v w end out screen t = record {
+pub types_kept : (a b d : End) (keys x y z u v w : List ℕ) → Untouched b y z v w d → TypesAll a keys x y u v b → TypesAll a keys x z u w d
+types_kept a b d keys x y z u v w same t = record {
   said = t.said;
   text = t.text;
-  appended = out ∙ t.appended;
-  displayed = screen ∙ t.displayed;
+  appended = same.out ∙ t.appended;
+  displayed = same.screen ∙ t.displayed;
   sends = t.sends;
   shows = t.shows;
-  leads = λ h s. subst (λ (e : End). LeadsTo (types h keys) e) (sym end) (t.leads h s);
-  keeps = record { decoder = ap (λ (e : End). e.decoder) end ∙ t.keeps.decoder; failed = ap (λ (e : End). e.failed) end ∙ t.keeps.failed };
+  leads = λ h s. subst (λ (e : End). LeadsTo (types h keys) e) (sym same.end) (t.leads h s);
+  keeps = record { decoder = ap (λ (e : End). e.decoder) same.end ∙ t.keeps.decoder; failed = ap (λ (e : End). e.failed) same.end ∙ t.keeps.failed };
 }

@@ -17,7 +17,7 @@ returns-in-Err-Memory-clause-call c =
             c.in-Err-Memory.ensures.fault);
         err = search rules;
       };
-      full = search rules;
+      memory = search rules;
       shown = search rules;
     }
 
@@ -33,7 +33,7 @@ returns-in-Err-Failed-clause-call c =
             c.in-Err-Failed.ensures.fault);
         err = search rules;
       };
-      full = search rules;
+      memory = search rules;
       shown = search rules;
     }
 
@@ -49,7 +49,7 @@ returns-in-Err-NotOn-clause-call c =
             c.in-Err-NotOn.ensures.fault);
         err = search rules;
       };
-      full = search rules;
+      memory = search rules;
       shown = search rules;
     }
 
@@ -65,7 +65,7 @@ returns-in-Err-Char-NotSettable-clause-call c =
             (c.in-Err-Char-NotSettable.field-0-is ∙ ap fault.Char c.in-Err-Char-NotSettable.field-0-0-is) c.in-Err-Char-NotSettable.ensures.fault);
         err = search rules;
       };
-      full = search rules;
+      memory = search rules;
       shown = search rules;
     }
 
@@ -81,7 +81,7 @@ returns-in-Err-Char-Reserved-clause-call c =
             (c.in-Err-Char-Reserved.field-0-is ∙ ap fault.Char c.in-Err-Char-Reserved.field-0-0-is) c.in-Err-Char-Reserved.ensures.fault);
         err = search rules;
       };
-      full = search rules;
+      memory = search rules;
       shown = search rules;
     }
 
@@ -97,6 +97,6 @@ returns-in-Err-Char-Taken-clause-call c =
             (c.in-Err-Char-Taken.field-0-is ∙ ap fault.Char c.in-Err-Char-Taken.field-0-0-is) c.in-Err-Char-Taken.ensures.fault);
         err = search rules;
       };
-      full = search rules;
+      memory = search rules;
       shown = search rules;
     }

@@ -16,7 +16,6 @@ returns-in-Err-Memory-clause-call c =
       refused = inr (server_told (char_fault_at c.args.self.now.end c.args.func c.args.value) c.in-Err-Memory.field-0 fault.Memory c.in-Err-Memory.field-0-is
           c.in-Err-Memory.ensures.fault);
       err = search rules;
-      grows = search rules;
       full = search rules;
       entry = search rules;
     }
@@ -30,7 +29,6 @@ returns-in-Err-Failed-clause-call c =
       refused = inr (server_told (char_fault_at c.args.self.now.end c.args.func c.args.value) c.in-Err-Failed.field-0 fault.Failed c.in-Err-Failed.field-0-is
           c.in-Err-Failed.ensures.fault);
       err = search rules;
-      grows = search rules;
       full = search rules;
       entry = search rules;
     }
@@ -44,7 +42,6 @@ returns-in-Err-NotOn-clause-call c =
       refused = inr (server_told (char_fault_at c.args.self.now.end c.args.func c.args.value) c.in-Err-NotOn.field-0 fault.NotOn c.in-Err-NotOn.field-0-is
           c.in-Err-NotOn.ensures.fault);
       err = search rules;
-      grows = search rules;
       full = search rules;
       entry = search rules;
     }
@@ -58,7 +55,6 @@ returns-in-Err-Pty-TooFarAhead-clause-call c =
       refused = inr (server_told (char_fault_at c.args.self.now.end c.args.func c.args.value) c.in-Err-Pty-TooFarAhead.field-0 (fault.Pty pty.TooFarAhead)
           (c.in-Err-Pty-TooFarAhead.field-0-is ∙ ap fault.Pty c.in-Err-Pty-TooFarAhead.field-0-0-is) c.in-Err-Pty-TooFarAhead.ensures.fault);
       err = search rules;
-      grows = search rules;
       full = search rules;
       entry = search rules;
     }
@@ -72,10 +68,13 @@ returns-in-Err-Pty-Memory-clause-call c =
       refused = inr (server_told (char_fault_at c.args.self.now.end c.args.func c.args.value) c.in-Err-Pty-Memory.field-0 (fault.Pty pty.Memory)
           (c.in-Err-Pty-Memory.field-0-is ∙ ap fault.Pty c.in-Err-Pty-Memory.field-0-0-is) c.in-Err-Pty-Memory.ensures.fault);
       err = search rules;
+<<<<<<< HEAD
       grows = λ _ _ _. absurd (never_pty c.args.self.now.end.failed
           (char_fault c.args.self.now.end.table c.args.func c.args.value) c.in-Err-Pty-Memory.field-0 c.in-Err-Pty-Memory.field-0-0
           c.in-Err-Pty-Memory.field-0-is
           c.in-Err-Pty-Memory.ensures.fault);
+=======
+>>>>>>> 1705668959673f9869abcb51ac0aa0c5d18f2169
       full = λ _ _ _. absurd
           (never_pty c.args.self.now.end.failed (char_fault c.args.self.now.end.table c.args.func c.args.value) c.in-Err-Pty-Memory.field-0
           c.in-Err-Pty-Memory.field-0-0 c.in-Err-Pty-Memory.field-0-is c.in-Err-Pty-Memory.ensures.fault);
@@ -91,7 +90,6 @@ returns-in-Err-Pty-Closed-clause-call c =
       refused = inr (server_told (char_fault_at c.args.self.now.end c.args.func c.args.value) c.in-Err-Pty-Closed.field-0 (fault.Pty pty.Closed)
           (c.in-Err-Pty-Closed.field-0-is ∙ ap fault.Pty c.in-Err-Pty-Closed.field-0-0-is) c.in-Err-Pty-Closed.ensures.fault);
       err = search rules;
-      grows = search rules;
       full = search rules;
       entry = search rules;
     }
@@ -105,7 +103,6 @@ returns-in-Err-Char-NotSettable-clause-call c =
       refused = inr (server_told (char_fault_at c.args.self.now.end c.args.func c.args.value) c.in-Err-Char-NotSettable.field-0 (fault.Char char.NotSettable)
           (c.in-Err-Char-NotSettable.field-0-is ∙ ap fault.Char c.in-Err-Char-NotSettable.field-0-0-is) c.in-Err-Char-NotSettable.ensures.fault);
       err = search rules;
-      grows = search rules;
       full = search rules;
       entry = search rules;
     }
@@ -119,7 +116,6 @@ returns-in-Err-Char-Reserved-clause-call c =
       refused = inr (server_told (char_fault_at c.args.self.now.end c.args.func c.args.value) c.in-Err-Char-Reserved.field-0 (fault.Char char.Reserved)
           (c.in-Err-Char-Reserved.field-0-is ∙ ap fault.Char c.in-Err-Char-Reserved.field-0-0-is) c.in-Err-Char-Reserved.ensures.fault);
       err = search rules;
-      grows = search rules;
       full = search rules;
       entry = search rules;
     }
@@ -133,7 +129,6 @@ returns-in-Err-Char-Taken-clause-call c =
       refused = inr (server_told (char_fault_at c.args.self.now.end c.args.func c.args.value) c.in-Err-Char-Taken.field-0 (fault.Char char.Taken)
           (c.in-Err-Char-Taken.field-0-is ∙ ap fault.Char c.in-Err-Char-Taken.field-0-0-is) c.in-Err-Char-Taken.ensures.fault);
       err = search rules;
-      grows = search rules;
       full = search rules;
       entry = search rules;
     }

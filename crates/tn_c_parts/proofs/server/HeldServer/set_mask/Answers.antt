@@ -9,7 +9,6 @@ returns-in-Err-Memory-clause-call c =
       accepted = search rules;
       refused = search rules;
       err = search rules;
-      grows = search rules;
       full = λ _. c.in-Err-Memory.ensures.full (ap Err c.in-Err-Memory.field-0-is);
       entry = search rules;
     }

@@ -1,9 +1,7 @@
-use Rattle.std.proofs.Common.{◌≡◌, ◌≢◌, [], true, sym, ◌∙◌, subst, arith}
+use Rattle.std.proofs.Common.{◌≡◌, true, sym, ◌∙◌, arith}
 use Rattle.std.proofs.lemmas.Grind.{common_steps}
-use Rattle.tn_client.specs.Calls.{End}
-use Rattle.tn_client.specs.Replies.{edit_items}
 use Rattle.tn_client.specs.Steps.{sends_where}
-use Rattle.tn_client.proofs.Undoing.{undone, sends_some}
+use Rattle.tn_client.proofs.Undoing.{undone}
 use Rattle.tn_client.proofs.end.ClientEnd.type_edited.Goals as goal
 use Rattle.tn_client.proofs.end.ClientEnd.type_edited.Goals.{in-Gives+in-Text-2, in-Gives+in-Eof-2, in-Nothing-2}
 
@@ -20,19 +18,8 @@ returns-in-Err-clause-err c =
           (c.self-2.view_is ∙ c.in-Err.ensures.err) c.erase-erased.ensures.line w.self-is c.in_ok-effect.ensures.effect sends ∙ c.self.view_is
     ]
 
-pub returns-in-Err-clause-grows : goal.returns-in-Err-clause-grows
-returns-in-Err-clause-grows c =
-    let r = c.args.role in
-    let sends : sends_where c.self.inside.forward r c.in_ok-effect.effect ≡ true =
-    sym c.is_sent_ahead.ensures ∙ c.if-not-is_sent_ahead.false in
-    subst (λ (x : End). edit_items x.forward r x.line ≢ []) c.self.view_is
-    (sends_some c.self.inside.forward c.self.inside.line r c.in_ok-effect.effect 0 c.in_ok-effect.ensures.effect sends)
-
 pub returns-in_err-effect-clause-err_out : goal.returns-in_err-effect-clause-err_out
 returns-in_err-effect-clause-err_out c = grind (arith, common_steps)
-
-pub returns-in_err-effect-clause-grows : goal.returns-in_err-effect-clause-grows
-returns-in_err-effect-clause-grows c = grind (arith, common_steps)
 
 pub returns-in-Err-clause-err_out : goal.returns-in-Err-clause-err_out
 returns-in-Err-clause-err_out c = grind (arith, common_steps)

@@ -1,5 +1,7 @@
 use Rattle.std.proofs.Common.{refl, ap, Err}
 use Rattle.std.proofs.lemmas.Result.{err_from_is_err_and}
+use Rattle.tn_client.proofs.lemmas.Wanting.{says_something}
+use Rattle.tn_client.specs.Events.{resized}
 use Rattle.tn_machines.proofs.of_core.Doing.{does_resize, stops_resize}
 use Rattle.tn_machines.proofs.of_core.Refusing.{resize_cause}
 use Rattle.tn_machines.proofs.client.machine.Core.resize.Goals as goal
@@ -18,4 +20,4 @@ pub returns-in_err-resize-clause-cause : goal.returns-in_err-resize-clause-cause
 returns-in_err-resize-clause-cause c =
     let p = err_from_is_err_and c.from_residual.result c.from_residual.ensures.1 in
     rw (p.1, p.2) (resize_cause c.args.from c.args.size c.args.self.now _ c.requires c.in_err-resize.ensures.fault
-    (λ e. c.in_err-resize.ensures.grows (ap Err e)))
+    (λ e. says_something c.args.self.now.end (resized c.args.size.width c.args.size.height) c.args.out.now (c.in_err-resize.ensures.memory (ap Err e))))
