@@ -1,2 +1,3 @@
 mod Keys
 mod Put
+mod Telling

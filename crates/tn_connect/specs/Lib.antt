@@ -2,3 +2,5 @@ pub mod Clients
 pub mod Faults
 pub mod Sent
 pub mod Talks
+pub mod Told
+pub mod Warnings

@@ -4,6 +4,7 @@ use Rattle.std.specs.declared.net.tcp.TcpStream.{TcpStream}
 use Rattle.tn_connect.specs.declared.settings.KeySource.{KeySource}
 use Rattle.tn_connect.specs.declared.settings.KeySource.TheVariants.{Reader, Input, Terminal}
 use Rattle.tn_connect.specs.declared.settings.Plain.{Plain}
+use Rattle.tn_connect.specs.Warnings.{count_in}
 use Rattle.tn_connect.specs.declared.talks.TalkReport.{TalkReport}
 use Rattle.tn_discipline.specs.Characters.{standard_characters}
 use Rattle.tn_discipline.specs.Keys.{standard_flags}
@@ -12,6 +13,7 @@ use Rattle.tn_sockets.specs.Mapping.{mapped, none_own}
 use Rattle.tn_sockets.specs.declared.own_characters.OwnCharacters.{OwnCharacters}
 use Rattle.tn_lines.specs.Kinds.{Kind, typed, read}
 use Rattle.tn_lines_client.specs.Logs.{bytes_in}
+use Rattle.tn_lines_client.specs.Openings.{negotiates, warnings_if}
 use Rattle.tn_lines_client.specs.Talking.{Talked, streams}
 use Rattle.tn_sockets.specs.Logs.{logged}
 
@@ -46,7 +48,8 @@ keys_in Reader bytes = bytes
 keys_in Input bytes = bytes
 
 -- A talk was held with these keys and this screen, before and after it: all that was typed, said and told
--- stands in the logs, and so many bytes more were to be told.
+-- stands in the logs, and so many bytes more were to be told. The user was warned once where what came shows
+-- that the service speaks Telnet, and else not.
 pub record HoldsTalk (plain : Plain) (keys seen now : Option (List ℕ)) (report : TalkReport) : Type 0 where
   pub unsent : List ℕ
   pub keys_left : Option (List ℕ)
@@ -59,6 +62,7 @@ pub record HoldsTalk (plain : Plain) (keys seen now : Option (List ℕ)) (report
       (streams keys service (Some []) seen warned)
       (streams keys_left service_left (Some (logged report.told)) now warned_at_last)
   pub count : report.unsent ≡ length unsent
+  pub warnings : count_in report.warned ≡ warnings_if (negotiates (bytes_in report.heard))
 
 -- the same, with the keys that the bytes of a reader are
 abbrev pub RunsTalk : Plain → Option (List ℕ) → Option (List ℕ) → Option (List ℕ) → TalkReport → Type 0

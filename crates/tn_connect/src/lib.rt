@@ -17,6 +17,7 @@ pub use talks::{TalkReport, connect_plain};
 pub use tn_lines::LineEnd;
 pub use tn_lines_client::{Over, ReadLog};
 pub use tn_sockets::{Host, Link, OwnCharacters, Screen};
+pub use warnings::Warnings;
 
 mod connected;
 mod connecting;
@@ -29,3 +30,4 @@ mod sending;
 mod settings;
 mod talks;
 mod waiting;
+mod warnings;

@@ -1,5 +1,7 @@
 //! What the user at a terminal is told of a connection.
 
+ghost use Rattle.tn_session.specs.Turns.{Tells, Writes};
+
 use std::alloc::Global;
 use std::fs::File;
 use std::io::Write;
@@ -73,20 +75,24 @@ impl<'a, W: Drain> Trying for News<'a, W> {
     }
 }
 
-/// Writes a line, or its first bytes where a write fails.
-pub(crate) fn tell<W: Drain>(writer: &mut W, line: &[u8]) {
+/// Writes a line, or its first bytes where a write fails. Returns whether all of it was written.
+pub(crate) fn tell<W: Drain>(writer: &mut W, line: &[u8]) -> bool
+    ensures writes { Writes result (W.contents writer.old) (W.contents writer.new) line.now }
+    ensures tells { Tells result (W.told writer.old) (W.told writer.new) }
+{
     let mut at = 0;
     for _write in 0..u64::MAX {
         if at >= line.len() {
-            return;
+            return true;
         }
         match writer.write_some(&line[at..]) {
-            Ok(0) => return,
-            Ok(count) => at += count,
-            Err(error) if is_interrupted(&error) => {},
-            Err(_) => return,
+            Ok(0) => return false,
+            Ok(n) => at += n,
+            Err(error) if is_interrupted(&error) => continue,
+            Err(_) => return false,
         }
     }
+    at >= line.len()
 }
 
 /// Whoever waits for the connection hears that it stands.

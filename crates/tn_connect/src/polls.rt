@@ -1,9 +1,17 @@
 //! Waiting for keys, for what a service says, and for room.
 
+ghost use Rattle.std.specs.Prelude.{◌≡◌, Some, true};
+ghost use Rattle.tn_connect.specs.Told.{TellsLine, speaks_telnet};
+ghost use Rattle.tn_connect.specs.Warnings.{count_in};
+ghost use Rattle.tn_lines_client.specs.Openings.{warned_on};
+ghost use Rattle.tn_streams.specs.Known.{known_writing};
+
 use crate::news::tell;
 use crate::settings::{KeySource, Plain};
+use crate::warnings::Warnings;
 use libc::net::{POLLIN, POLLOUT, poll};
 use libc::types::pollfd;
+use std::mem;
 use std::sync::Wait;
 use std::time::{Clock, Instant};
 use tn_lines_client::{Await, Ready, Wants};
@@ -36,10 +44,14 @@ pub(crate) struct Polling<'a, H, E> {
     /// What the service said comes next, where both that and telling it more can be done.
     hears_next: bool,
     errors: &'a mut E,
+    /// How often the user was warned that the service speaks Telnet.
+    warned: Warnings,
 }
 
 impl<'a, H, E> Polling<'a, H, E> {
-    pub(crate) fn new(rt: H, plain: &Plain, service: i32, errors: &'a mut E) -> Polling<'a, H, E> {
+    pub(crate) fn new(rt: H, plain: &Plain, service: i32, errors: &'a mut E) -> Polling<'a, H, E>
+        ensures { count_in result.warned ≡ 0 }
+    {
         Polling {
             rt,
             origin: plain.origin,
@@ -48,6 +60,7 @@ impl<'a, H, E> Polling<'a, H, E> {
             ended: None,
             hears_next: false,
             errors,
+            warned: Warnings::new(),
         }
     }
 }
@@ -61,13 +74,20 @@ fn wait_of(plain: &Plain) -> u32 {
 }
 
 impl<'a, H: Clock, E> Polling<'a, H, E> {
-    // Whether the time since the end of the keys has passed. Without a clock it has.
-    fn is_past(&mut self) -> bool {
-        if self.wait == 0 {
-            return true;
-        }
+    // From now on the service is to be told that no more comes.
+    fn note_end(&mut self)
+        ensures errors { self.new.errors ≡ self.old.errors }
+        ensures warned { self.new.warned ≡ self.old.warned }
+    {
         if self.ended.is_none() {
             self.ended = Instant::now(&self.rt).ok();
+        }
+    }
+
+    // Whether the time since the end of the keys has passed. Without a clock it has.
+    fn is_past(&self) -> bool {
+        if self.wait == 0 {
+            return true;
         }
         match self.ended.map(|ended| ended.elapsed(&self.rt)) {
             Some(Ok(elapsed)) => elapsed.as_secs() >= u64::from(self.wait),
@@ -85,14 +105,17 @@ fn waits_at(wanted: bool, fd: i32, events: i16) -> pollfd {
     }
 }
 
-impl<'a, H: Clock + Copy + Wait, E: Drain> Await for Polling<'a, H, E> {
-    fn next(&mut self, wants: Wants) -> Ready {
-        if wants.keys && self.origin == KeySource::Reader {
-            return Ready::Keys;
-        }
-        self.hears_next = !self.hears_next;
-        let rt = self.rt;
-        for _ in rt.forever() {
+impl<'a, H: Clock + Copy + Wait, E> Polling<'a, H, E> {
+    /// How often the user was warned. From now on that is counted anew.
+    pub(crate) fn take_warned(&mut self) -> Warnings
+        ensures { result ≡ self.old.warned }
+    {
+        mem::replace(&mut self.warned, Warnings::new())
+    }
+
+    // Waits until one of them can be done.
+    fn wait_for(&self, wants: Wants) -> Ready {
+        for _ in self.rt.forever() {
             if wants.end && self.is_past() {
                 return Ready::End;
             }
@@ -118,8 +141,31 @@ impl<'a, H: Clock + Copy + Wait, E: Drain> Await for Polling<'a, H, E> {
         }
         Ready::Bytes
     }
+}
 
-    fn hear_telnet(&mut self) {
+impl<'a, H: Clock + Copy + Wait, E: Drain> Await for Polling<'a, H, E> {
+    ghost warned = { λ polling. Some (count_in polling.warned) };
+
+    fn next(&mut self, wants: Wants) -> Ready
+        ensures warned { Some (count_in self.new.warned) ≡ Some (count_in self.old.warned) }
+        ensures quiet { self.new.errors ≡ self.old.errors }
+    {
+        if wants.keys && self.origin == KeySource::Reader {
+            return Ready::Keys;
+        }
+        self.hears_next = !self.hears_next;
+        if wants.end {
+            self.note_end();
+        }
+        self.wait_for(wants)
+    }
+
+    fn hear_telnet(&mut self)
+        ensures warned { Some (count_in self.new.warned) ≡ warned_on true (Some (count_in self.old.warned)) }
+        ensures tells { TellsLine speaks_telnet
+            (known_writing E.contents E.told self.old.errors.now self.new.errors.now) }
+    {
+        self.warned.add();
         tell(self.errors, TELNET);
     }
 }

@@ -3,6 +3,7 @@
 ghost use Rattle.std.specs.Prelude.{◌≡◌, [], IfOk, Ok};
 ghost use Rattle.tn_connect.specs.Clients.{ConnectsBy};
 ghost use Rattle.tn_connect.specs.Talks.{HoldsTalk, RunsTalk, is_terminal, kind_of, own_by, talked_over};
+ghost use Rattle.tn_connect.specs.Warnings.{count_in};
 ghost use Rattle.tn_lines.specs.Kinds.{LeadsTo};
 ghost use Rattle.tn_network.specs.Asked.{Reaches};
 
@@ -11,20 +12,22 @@ use crate::mapping::MappedKeys;
 use crate::news::tell_standing;
 use crate::polls::Polling;
 use crate::settings::{ClientContext, KeySource, Plain};
+use crate::warnings::Warnings;
 use std::alloc::{AllocError, Global};
 use std::io::{Read, Write};
 use std::net::TcpStream;
 use std::os::fd::AsRawFd;
 use std::snapshot::Snapshot;
 use std::sync::Wait;
+use std::time::Clock;
 use tn_discipline::Settings;
 use tn_lines::{AnyLines, FileLines, KeyLines};
-use tn_lines_client::{Await, Over, ReadLog, Talk, TalkFault};
+use tn_lines_client::{Over, ReadLog, Talk, TalkFault};
 use tn_network::{Network, reach};
 use tn_sockets::{Connection, Host, Logged, OwnCharacters, WriteLog};
 use tn_streams::{Drain, Finish, Source};
 
-/// A talk that is over. In its logs contracts see all that was typed, said and told.
+/// A talk that is over. In its logs contracts see all that was typed, said and told, and each warning.
 #[derive(Drop)]
 pub struct TalkReport {
     pub over: Over,
@@ -36,6 +39,8 @@ pub struct TalkReport {
     pub told: WriteLog,
     /// How many bytes more it was to be told.
     pub unsent: usize,
+    /// How often the user was warned that the service speaks Telnet.
+    pub warned: Warnings,
     /// The connection that it was held over, for contracts.
     pub connection: Snapshot<TcpStream>,
 }
@@ -54,17 +59,25 @@ fn lines_of(alloc: Global, plain: Plain) -> Result<AnyLines, AllocError>
 }
 
 /// Talks by these streams, until the service has closed, the connection is broken, or the user has left.
-fn talk<H: Wait, A: Await, K: Source + Drop, N: Source + Drop, W: Finish + Drop, S: Drain>(
+fn talk<
+    H: Clock + Copy + Wait,
+    E: Drain,
+    K: Source + Drop,
+    N: Source + Drop,
+    W: Finish + Drop,
+    S: Drain,
+>(
     rt: &H,
     alloc: Global,
     plain: Plain,
     connection: Snapshot<TcpStream>,
-    ready: &mut A,
+    mut ready: Polling<'_, H, E>,
     mut keys: K,
     mut service: N,
     writer: W,
     screen: &mut S,
 ) -> Result<TalkReport, TalkFault>
+    requires unwarned { count_in ready.warned ≡ 0 }
     ensures talked { IfOk result (HoldsTalk plain (K.remaining keys) (S.contents screen.old)
         (S.contents screen.new)) }
     ensures connection { IfOk result (λ report. report.connection ≡ connection) }
@@ -72,7 +85,7 @@ fn talk<H: Wait, A: Await, K: Source + Drop, N: Source + Drop, W: Finish + Drop,
     let at_terminal = is_terminal(plain.origin);
     let mut talk = Talk::new(alloc, lines_of(alloc, plain)?, at_terminal);
     let mut writer = Logged::new(writer);
-    let over = talk.run(rt, ready, &mut keys, &mut service, &mut writer, screen)?;
+    let over = talk.run(rt, &mut ready, &mut keys, &mut service, &mut writer, screen)?;
     let (_, told) = writer.into_parts();
     let unsent = talk.unsent();
     let (typed, heard) = talk.into_logs();
@@ -82,6 +95,7 @@ fn talk<H: Wait, A: Await, K: Source + Drop, N: Source + Drop, W: Finish + Drop,
         heard,
         told,
         unsent,
+        warned: ready.take_warned(),
         connection,
     })
 }
@@ -153,11 +167,11 @@ fn talk_over<H: Host, K: Read + Drop, S: Write, E: Drain>(
     let over = Snapshot::of(&stream);
     let (service, connection) = Connection::split(stream)?;
     service.set_nonblocking(true)?;
-    let mut ready = Polling::new(rt, &plain, service.as_raw_fd(), errors);
+    let ready = Polling::new(rt, &plain, service.as_raw_fd(), errors);
     let own = own_of(plain.origin);
     let keys = MappedKeys::new(keys, own);
     let talked = talk(
-        &rt, alloc, plain, over, &mut ready, keys, service, connection, screen,
+        &rt, alloc, plain, over, ready, keys, service, connection, screen,
     );
     Ok(talked)
 }

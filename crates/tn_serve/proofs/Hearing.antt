@@ -14,7 +14,7 @@ module _ {V : Type 0} (turns : V → Turn → V → Type 0) (HasEnded : Finished
     called = (old, h.called, turn, _);
     each = λ n. omega (arith, h.each n, one n);
     in_order = λ n. (omega (arith, h.each n), h.in_order n);
-    without = h.without;
+    unasked = h.unasked;
     all = omega (arith, h.all);
     whole_ones = omega (arith, h.whole_ones);
   }
@@ -25,7 +25,7 @@ module _ {V : Type 0} (turns : V → Turn → V → Type 0) (HasEnded : Finished
     called = (old, h.called, turn, _);
     each = λ n. omega (arith, h.each n);
     in_order = λ n. (omega (arith, h.each n), h.in_order n);
-    without = h.without + 1;
+    unasked = h.unasked;
     all = omega (arith, h.all);
     whole_ones = omega (arith, h.whole_ones);
   }
@@ -36,7 +36,7 @@ module _ {V : Type 0} (turns : V → Turn → V → Type 0) (HasEnded : Finished
     called = h.called;
     each = h.each;
     in_order = h.in_order;
-    without = h.without + 1;
+    unasked = h.unasked + 1;
     all = omega (arith, h.all);
     whole_ones = h.whole_ones;
   }
@@ -48,7 +48,7 @@ module _ {V : Type 0} (turns : V → Turn → V → Type 0) (HasEnded : Finished
     called = (old, h.called, turn, has);
     each = λ n. omega (arith, h.each n, one n);
     in_order = λ n. (omega (arith, h.each n, one n), h.in_order n);
-    without = h.without;
+    unasked = h.unasked;
     all = omega (arith, h.all, counted.1);
     whole_ones = omega (arith, h.whole_ones, counted.0);
   }
@@ -124,7 +124,7 @@ hears_all turns HasEnded started started' number_of none_yet none_yet' whole fau
       called = refl;
       each = λ n. omega (arith, none_live started number_of none n);
       in_order = λ n. _;
-      without = 0;
+      unasked = 0;
       all = omega (arith, is.0, is.1);
       whole_ones = is.0;
     }) in (
@@ -134,7 +134,7 @@ hears_all turns HasEnded started started' number_of none_yet none_yet' whole fau
         called = h.called;
         each = λ n. omega (arith, h.each n, none_live started' number_of none' n);
         in_order = h.in_order;
-        without = h.without;
+        unasked = h.unasked;
         all = h.all;
         whole_ones = h.whole_ones;
       },

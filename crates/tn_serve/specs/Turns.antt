@@ -38,6 +38,12 @@ ends_whole (Made number) = 0
 ends_whole (Refused number) = 0
 ends_whole (Ended number finished) = whole_of finished
 
+-- 1 where it had no memory for jobs
+abbrev pub refusals : Turn → ℕ
+refusals (Made number) = 0
+refusals (Refused number) = 1
+refusals (Ended number finished) = 0
+
 -- how many of these calls are such
 abbrev pub times : (Turn → ℕ) → List Turn → ℕ
 times is_such [] = 0
@@ -78,14 +84,14 @@ module _ {V : Type 0} (turns : V → Turn → V → Type 0) (HasEnded : Finished
 
   -- So many sessions are counted, without a fault and with one, and as often as a number is live, its session
   -- has jobs and has not ended: each session that got jobs ends once, and is counted then as it was heard; a
-  -- connection that never got any is counted as one with a fault.
+  -- connection that was refused them is counted as one with a fault, and so is one that it was not asked of.
   pub record Hears (whole faulted : ℕ) (now : V) (live : ℕ → ℕ) : Type 0 where
     pub calls : List Turn
     pub called : IsCalled calls now
     pub each : (number : ℕ) → times (made_for number) calls ≡ times (ended_for number) calls + live number
     pub in_order : (number : ℕ) → EndsFollow number calls
-    pub without : ℕ
-    pub all : whole + faulted ≡ times ends calls + without
+    pub unasked : ℕ
+    pub all : whole + faulted ≡ times ends calls + times refusals calls + unasked
     pub whole_ones : whole ≡ times ends_whole calls
 
   -- all that got jobs have ended

@@ -214,6 +214,7 @@ struct Open<H, V: Service, O: Asked<V::Jobs>> {
     turned_away: TurnedAway,
     ghost within: { vec_len running.started ≤ held_count roster },
     ghost asked: { serving.options ≡ O.options },
+    ghost limit: { roster.limit ≡ serving.sessions },
 }
 
 impl<H: Host + Network, V: Service, O: Asked<V::Jobs>> Open<H, V, O> {

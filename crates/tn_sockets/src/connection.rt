@@ -1,6 +1,6 @@
 //! One end of a connection, as a session uses it.
 
-ghost use Rattle.std.specs.Prelude.{◌≡◌};
+ghost use Rattle.std.specs.Prelude.{◌≡◌, IfOk};
 ghost use Rattle.libc.specs.Net.{SendFlags, SockOption};
 
 use crate::attended::Standing;
@@ -43,7 +43,9 @@ impl Connection<TcpStream> {
     /// Both sides of a connection, the reading one first. What is written is sent at once: a session
     /// writes its echo and its job's text separately, and the second would otherwise wait until the first
     /// is acknowledged. TCP keepalive finds a peer whose machine is gone.
-    pub fn split(stream: TcpStream) -> io::Result<(TcpStream, Connection<TcpStream>)> {
+    pub fn split(stream: TcpStream) -> io::Result<(TcpStream, Connection<TcpStream>)>
+        ensures { IfOk result (λ sides. sides.1.stream ≡ stream) }
+    {
         stream.set_nodelay(true)?;
         keep_alive(&stream);
         let reader = stream.try_clone()?;
