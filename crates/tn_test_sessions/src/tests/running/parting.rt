@@ -43,10 +43,15 @@ fn a_session_says_the_last_words_of_its_reader(rt: HostRuntime) -> Result<(), Fa
     let (settings, limit) = (Settings::standard(), Limit::standard());
     let (maker, editing) = (Jobs { left: 1 }, Editing::Remote);
     let gate = Arc::new(alloc, Unwatched)?;
-    match serve_session(rt, alloc, Parting, &mut out, settings, limit, editing, maker, gate) {
+    match serve_session(
+        rt, alloc, Parting, &mut out, settings, limit, editing, maker, gate,
+    ) {
         Ok((report, _ports)) => {
             let said = out.get(OPENING..).unwrap_or(b"");
-            assert!(rt; report.ended != Ended::HangUp || is_said_once(said), "{said:?}");
+            assert!(rt;
+                report.ended != Ended::HangUp || is_said_once(said),
+                "{said:?}"
+            );
             Ok(())
         },
         Err(fault) => Err(Fail::from(fault)),
