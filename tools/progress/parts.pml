@@ -72,7 +72,7 @@ inline say(b, who, m, n, u, a, ok) {
 	fi
 }
 #else
-/* NEVER_FULL: a mailbox of AHEAD + 6 places has room for whoever comes */
+/* NEVER_FULL: a mailbox of AHEAD + 6 places has room for whoever comes, with IDLE one of AHEAD + 7 */
 #ifdef NEVER_FULL
 #define HAS_ROOM(b) assert(nfull(box[b]))
 #else

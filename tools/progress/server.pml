@@ -166,6 +166,16 @@ discards:						/* once the session is over, all that comes */
 	:: atomic { MAY_FAIL -> FAIL; went = true; last = ReadFailed; break }
 	od;
 ends:	true;
+#ifdef IDLE
+	if							/* say_any: the last words, as a text of the foreground job */
+	:: atomic { idled && last == HangUp -> say(SRV, NET, Said, 1, 0, STAY, ok);
+		if
+		:: ok -> ok = 0
+		:: else -> goto out
+		fi }
+	:: !idled || last != HangUp
+	fi;
+#endif
 	atomic { say(SRV, NET, last, 0, 0, 0, ok); last = Left;
 		if
 		:: ok

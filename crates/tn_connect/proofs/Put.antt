@@ -10,13 +10,14 @@ use Rattle.tn_session.specs.Facts.{Window, client_result}
 use Rattle.tn_session.specs.declared.parties.ClientPorts.{ClientPorts}
 use Rattle.tn_session.specs.declared.parties.Report.{Report}
 use Rattle.tn_sockets.specs.Queue.{PieceHand, PiecePass, put_bytes}
+use Rattle.tn_streams.specs.Beside.{no_words}
 use Rattle.tn_streams.specs.Known.{KnownReader, KnownTyping, KnownWriting}
 
 abbrev pub writing : Option (List ℕ) → Option (List ℕ) → KnownWriting
 writing old new = record { before = record { bytes = old; calls = None }; after = record { bytes = new; calls = None } }
 
 abbrev pub unforeseen : KnownReader
-unforeseen = record { bytes = None; failures = None; sizes = Some [] }
+unforeseen = record { bytes = None; failures = None; sizes = Some []; words = no_words }
 
 module _ (window : Window) (keys : KnownTyping) (seen now : Option (List ℕ)) where
   pub runs : (old : PieceHand) (put : Option (List ℕ)) → old ≡ putter [] → (r : Result (Report × ClientPorts) SessionFault)

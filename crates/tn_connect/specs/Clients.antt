@@ -16,6 +16,7 @@ use Rattle.tn_session.specs.Facts.{Window, client_result}
 use Rattle.tn_session.specs.declared.parties.ClientPorts.{ClientPorts}
 use Rattle.tn_session.specs.declared.parties.Report.{Report}
 use Rattle.tn_sockets.specs.Queue.{put_bytes}
+use Rattle.tn_streams.specs.Beside.{no_words}
 use Rattle.tn_streams.specs.Known.{KnownTyping}
 
 abbrev pub window_of : Connecting → Window
@@ -27,11 +28,20 @@ window_of connecting =
 -- is asked for.
 abbrev pub foreseen : KeySource → Option (List ℕ) → KnownTyping
 foreseen Reader bytes =
-    record { reader = record { bytes = bytes; failures = None; sizes = Some [] }; controls = Some [] }
+    record {
+      reader = record { bytes = bytes; failures = None; sizes = Some []; words = no_words };
+      controls = Some [];
+    }
 foreseen Input bytes =
-    record { reader = record { bytes = None; failures = None; sizes = None }; controls = Some [] }
+    record {
+      reader = record { bytes = None; failures = None; sizes = None; words = no_words };
+      controls = Some [];
+    }
 foreseen (Terminal own) bytes =
-    record { reader = record { bytes = None; failures = None; sizes = None }; controls = None }
+    record {
+      reader = record { bytes = None; failures = None; sizes = None; words = no_words };
+      controls = None;
+    }
 
 -- what the bytes of keys stand for: only at a terminal for anything but themselves
 abbrev pub keyboard_by : KeySource → Option ℕ → Keyboard
@@ -48,7 +58,7 @@ keyboard_of connecting = keyboard_by connecting.origin connecting.escape
 abbrev pub RunsWriting : Window → KnownTyping → Option (List ℕ) → Option (List ℕ) → Option (List ℕ) → Report
     → ClientPorts → Type 0
 RunsWriting window keys seen now written report ports =
-    RunningClient window keys (record { bytes = None; failures = None; sizes = Some [] })
+    RunningClient window keys (record { bytes = None; failures = None; sizes = Some []; words = no_words })
     (record {
       before = record { bytes = Some []; calls = None };
       after = record { bytes = written; calls = None };

@@ -123,7 +123,8 @@ fn talk<H: Host, K: Source + Drop + Send + 'static, S: Write, Q: Queue>(
 ) -> Result<(Report, ClientPorts), SessionFault>
     requires nothing_yet { view outgoing.old.pass ≡ putter [] }
     ensures ran { IfOk result (λ r.
-        RunsWriting (window_of connecting) (known_typing K.remaining K.foretold K.sizes K.controls keys)
+        RunsWriting (window_of connecting)
+        (known_typing K.remaining K.foretold K.sizes K.words K.controls keys)
         (S.contents screen.old) (S.contents screen.new) (put_bytes (view outgoing.new.pass)) r.0 r.1) }
 {
     let Ok(gate) = Publisher::new(alloc, incoming.link()) else {

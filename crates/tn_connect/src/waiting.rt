@@ -11,7 +11,7 @@ use std::sync::atomic::{AtomicBool, Ordering};
 use std::sync::{Arc, Wait};
 use std::time::{Clock, Duration};
 use std::{io, thread};
-use tn_streams::{Source, WindowSize};
+use tn_streams::{Source, WindowSize, nothing_to_say};
 
 /// After how many milliseconds it is looked whether more can come, and how often that is in a second.
 const LOOK: u64 = 200;
@@ -66,6 +66,10 @@ impl<H: Clock + Wait, K: Source> Source for Patient<H, K> {
         ensures keys { K.remaining self.new.keys ≡ K.remaining self.old.keys }
     {
         self.keys.resized()
+    }
+
+    fn last_words(&self) -> &'static [u8] {
+        nothing_to_say()
     }
 
     fn read_some(&mut self, buf: &mut [u8]) -> io::Result<usize>

@@ -16,11 +16,13 @@ use Rattle.tn_session.specs.Facts.{JobFacts, session_result, client_result}
 use Rattle.tn_session.specs.Transcripts.{all_read, all_wrote}
 use Rattle.tn_sockets.specs.Logs.{wrote}
 use Rattle.tn_sockets.specs.Queue.{put_bytes}
+use Rattle.tn_serve.specs.Servers.{attended}
+use Rattle.tn_streams.specs.Beside.{no_words}
 use Rattle.tn_streams.specs.Known.{KnownReader, KnownWriting}
 use Rattle.tn_streams.specs.Prefixes.{IsPrefixOf}
 
 abbrev socket : KnownReader
-socket = record { bytes = None; failures = None; sizes = Some [] }
+socket = record { bytes = None; failures = None; sizes = Some []; words = no_words }
 
 -- what a writer that held nothing holds
 all_held : (after : Option (List ℕ)) (bytes : List ℕ) → Appends (Some []) after bytes → Some bytes ≡ after
@@ -35,7 +37,7 @@ module _ {J : Type 0} (facts : JobFacts J) (headline : Headline facts) (p : Prog
   served = record {
     editing = p.options.editing;
     to_make = p.to_make;
-    reader = socket;
+    reader = attended;
     writer = wrote p.conversed.log;
     result = session_result p.conversed.report p.conversed.ports;
     ran = p.served;

@@ -1,6 +1,6 @@
 -- What holds of each state that a server's session can reach.
 use Rattle.std.proofs.Common.{◌≡◌, ℕ, zero, suc, ◌+◌, ◌*◌, ◌≤◌}
-use Rattle.tn_progress.specs.Server.{one, End, nothing_comes, no_memory, Net, handing, net_leaves, net_gone, is_done, is_refused, Cause, stops, none_comes}
+use Rattle.tn_progress.specs.Server.{one, End, nothing_comes, no_memory, Net, handing, net_tells, net_leaves, net_gone, is_done, is_refused, Cause, stops, none_comes}
 use Rattle.tn_progress.specs.Server.{Desk, asking, waiting, desk_leaves, desk_gone, Back, back_waits, back_leaves, back_gone, Term, writing, joining, ended}
 use Rattle.tn_progress.specs.Server.{State, Sizes, waiting_mails}
 
@@ -26,6 +26,13 @@ abbrev pub has_failed : Net → ℕ
 has_failed (net_leaves e) = by_memory e
 has_failed (net_gone e) = by_memory e
 has_failed _ = 0
+
+-- it may have said last words
+abbrev pub may_have_said : Net → ℕ
+may_have_said (net_tells e) = by_nothing e
+may_have_said (net_leaves e) = by_nothing e
+may_have_said (net_gone e) = by_nothing e
+may_have_said _ = 0
 
 abbrev pub net_left_in : Net → ℕ
 net_left_in (net_gone e) = 1
@@ -105,6 +112,7 @@ pub record Holds (sizes : Sizes) (s : State) : Type 0 where
   pub one_request : s.box.takes + one s.asks + s.entries + s.ends + last_of s.term ≡ is_waiting s.desk
   pub one_credit_each : s.step_credits + s.box.steps + has_step_credit s.back ≡ sizes.ahead
   pub one_answer : s.box.said + one s.asks + s.entries + s.ends + last_of s.term + has_answer s.desk ≤ 1
+  pub says_last : s.box.words ≤ may_have_said s.net
   pub tells_done : s.box.done ≤ desk_by done_by s.desk
   pub tells_refusals : s.box.refusals ≤ has_failed s.net + desk_by refused_by s.desk + is_leaving s.back
   pub asks_first : one s.asks * s.waits ≡ 0

@@ -1,13 +1,14 @@
 -- Each step of a server's session keeps what holds.
 use Rattle.std.proofs.Common.{arith, ◌≡◌, ℕ, zero, suc, ◌+◌, ◌<◌, ◌≤◌, Bool, true, false, ◌||◌, refl, sym, subst}
 use Rattle.tn_progress.proofs.Invariant.{Holds, many}
-use Rattle.tn_progress.specs.Server.{one, nothing_comes, no_memory, Net, reading, holding, handing, net_tells, net_leaves, is_done, is_refused, Desk, asking}
+use Rattle.tn_progress.specs.Server.{one, nothing_comes, no_memory, Net, reading, holding, handing, net_says, net_tells, net_leaves, is_done, is_refused, Desk, asking}
 use Rattle.tn_progress.specs.Server.{waiting, answering, desk_says, desk_tells, desk_leaves, Back, back_waits, stepping, back_says, back_tells, back_leaves}
-use Rattle.tn_progress.specs.Server.{Term, receiving, writing, joining, Kind, piece, ending, take, said, step, done, refusal, left, State, Sizes, start}
+use Rattle.tn_progress.specs.Server.{Term, receiving, writing, joining, Kind, piece, words, ending, take, said, step, done, refusal, left, State, Sizes, start}
 use Rattle.tn_progress.specs.Server.{count_of}
-use Rattle.tn_progress.specs.ServerSteps.{Choice, gives, refused_first, refused_last, Own, takes_credit, hands_piece, tells_end, net_left, asks_entry}
+use Rattle.tn_progress.specs.ServerSteps.{Choice, gives, refused_first, refused_last, Own, takes_credit, hands_piece, says_words, tells_end, net_left}
+use Rattle.tn_progress.specs.ServerSteps.{asks_entry}
 use Rattle.tn_progress.specs.ServerSteps.{takes_entry, takes_end, says_answer, tells_stop, desk_left, takes_step_credit, says_step, is_stopped, tells_refusal}
-use Rattle.tn_progress.specs.ServerSteps.{back_left, handles, writes_nothing, joins, finishes, Outer, brings, is_read_out, answers, takes_no_more, steps}
+use Rattle.tn_progress.specs.ServerSteps.{back_left, handles, writes_nothing, joins, finishes, Outer, brings, has_words, is_read_out, answers, takes_no_more, steps}
 use Rattle.tn_progress.specs.ServerSteps.{refuses, has_no_job, writes, MayGo, gone_on, MayBeLet, let_on, waits_behind, handled, written, is_few, broken, paid}
 use Rattle.tn_progress.specs.ServerSteps.{Reached, at_start, goes_on, let_go}
 
@@ -30,6 +31,7 @@ by_message : (sizes : Sizes) (choice : Choice) (kind : Kind) (s : State) (over a
     → Holds sizes (handled choice kind (record s { term = receiving; over = over; asks = asks; at_end = at_end; waits = waits }))
 by_message sizes choice piece s true asks at_end waits h some none = grind arith
 by_message sizes choice ending s true asks at_end waits h some none = grind arith
+by_message sizes choice words s true asks at_end waits h some none = grind arith
 by_message sizes choice take s true asks at_end waits h some none = grind arith
 by_message sizes choice said s true asks at_end waits h some none = grind arith
 by_message sizes choice step s true asks at_end waits h some none = grind arith
@@ -54,6 +56,9 @@ by_message sizes (gives more) ending s false asks at_end waits h some none = gri
 by_message sizes refused_first ending s false asks at_end waits h some none = grind arith
 by_message sizes refused_last ending s false asks at_end waits h some none = grind arith
 by_message sizes (gives more) said s false asks at_end waits h some none = grind arith
+by_message sizes (gives more) words s false asks at_end waits h some none = grind arith
+by_message sizes refused_first words s false asks at_end waits h some none = grind arith
+by_message sizes refused_last words s false asks at_end waits h some none = grind arith
 by_message sizes (gives more) step s false asks at_end waits h some none = grind arith
 by_message sizes refused_first said s false asks at_end waits h some none = grind arith
 by_message sizes refused_first step s false asks at_end waits h some none = grind arith
@@ -124,6 +129,7 @@ after_write sizes s failed p last h at =
 pub keeps_own : (sizes : Sizes) (own : Own) (s : State) → Holds sizes s → MayGo sizes own s → Holds sizes (gone_on sizes own s)
 keeps_own sizes takes_credit s h (at, some) = let i = at_net sizes s holding at h in grind arith
 keeps_own sizes hands_piece s h (at, some) = let i = at_net sizes s handing at h in grind arith
+keeps_own sizes says_words s h (at, some) = let i = at_net sizes s net_says at h in grind arith
 keeps_own sizes (tells_end nothing_comes) s h (at, some) = let i = at_net sizes s (net_tells nothing_comes) at h in grind arith
 keeps_own sizes (net_left nothing_comes) s h (at, some) = let i = at_net sizes s (net_leaves nothing_comes) at h in grind arith
 keeps_own sizes (tells_end no_memory) s h (at, some) = let i = at_net sizes s (net_tells no_memory) at h in grind arith
@@ -149,6 +155,7 @@ keeps_own sizes finishes s h (at, _, _, _) = let i = at_term sizes s joining at 
 -- and where it is let
 pub keeps_let : (sizes : Sizes) (outer : Outer) (s : State) → Holds sizes s → MayBeLet outer s → Holds sizes (let_on sizes outer s)
 keeps_let sizes brings s h at = let i = at_net sizes s reading at h in grind arith
+keeps_let sizes has_words s h at = let i = at_net sizes s reading at h in grind arith
 keeps_let sizes (is_read_out e) s h at = let i = at_net sizes s reading at h in grind arith
 keeps_let sizes answers s h at = let i = at_desk sizes s answering at h in grind arith
 keeps_let sizes (takes_no_more is_done) s h at = let i = at_desk sizes s answering at h in grind arith

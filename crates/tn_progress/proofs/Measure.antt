@@ -2,11 +2,12 @@
 use Rattle.std.proofs.Common.{arith, ℕ, zero, suc, ◌+◌, ◌*◌, ◌<◌, ◌≤◌, Bool, true, false, ◌||◌, sym, ap, subst}
 use Rattle.tn_progress.proofs.Invariant.{is_waiting, last_of}
 use Rattle.tn_progress.proofs.Keeps.{holds}
-use Rattle.tn_progress.specs.Server.{one, nothing_comes, no_memory, Net, reading, holding, handing, net_tells, net_leaves, net_gone, is_done, is_refused, Desk}
+use Rattle.tn_progress.specs.Server.{one, nothing_comes, no_memory, Net, reading, holding, handing, net_says, net_tells, net_leaves, net_gone, is_done, is_refused, Desk}
 use Rattle.tn_progress.specs.Server.{asking, waiting, answering, desk_says, desk_tells, desk_leaves, desk_gone, Back, back_waits, stepping, back_says}
-use Rattle.tn_progress.specs.Server.{back_tells, back_leaves, back_gone, Term, receiving, writing, joining, ended, Kind, piece, ending, take, said, step, done}
+use Rattle.tn_progress.specs.Server.{back_tells, back_leaves, back_gone, Term, receiving, writing, joining, ended, Kind, piece, words, ending, take, said, step, done}
 use Rattle.tn_progress.specs.Server.{refusal, left, State, Sizes, waiting_mails, count_of}
-use Rattle.tn_progress.specs.ServerSteps.{Choice, gives, refused_first, refused_last, Own, takes_credit, hands_piece, tells_end, net_left, asks_entry}
+use Rattle.tn_progress.specs.ServerSteps.{Choice, gives, refused_first, refused_last, Own, takes_credit, hands_piece, says_words, tells_end, net_left}
+use Rattle.tn_progress.specs.ServerSteps.{asks_entry}
 use Rattle.tn_progress.specs.ServerSteps.{takes_entry, takes_end, says_answer, tells_stop, desk_left, takes_step_credit, says_step, is_stopped, tells_refusal}
 use Rattle.tn_progress.specs.ServerSteps.{back_left, handles, writes_nothing, joins, finishes, MayGo, gone_on, ComesToRest, handled, written, broken, paid}
 use Rattle.tn_progress.specs.ServerSteps.{is_few, Reached, Alone, no_step, one_more}
@@ -15,6 +16,7 @@ abbrev pub net_size : Net → ℕ
 net_size reading = 0
 net_size holding = 6
 net_size handing = 5
+net_size net_says = 15
 net_size (net_tells e) = 10
 net_size (net_leaves e) = 5
 net_size (net_gone e) = 0
@@ -54,6 +56,7 @@ by_message choice piece s true asks at_end waits some = grind arith
 by_message choice ending s true asks at_end waits some = grind arith
 by_message choice take s true asks at_end waits some = grind arith
 by_message choice said s true asks at_end waits some = grind arith
+by_message choice words s true asks at_end waits some = grind arith
 by_message choice step s true asks at_end waits some = grind arith
 by_message choice done s true asks at_end waits some = grind arith
 by_message choice refusal s true asks at_end waits some = grind arith
@@ -86,16 +89,22 @@ by_message refused_first ending s false false at_end waits some = grind arith
 by_message refused_last ending s false true at_end waits some = grind arith
 by_message refused_last ending s false false at_end waits some = grind arith
 by_message (gives more) said s false true at_end waits some = grind arith
+by_message (gives more) words s false true at_end waits some = grind arith
 by_message (gives more) step s false true at_end waits some = grind arith
 by_message (gives more) said s false false at_end waits some = grind arith
+by_message (gives more) words s false false at_end waits some = grind arith
 by_message (gives more) step s false false at_end waits some = grind arith
 by_message refused_first said s false true at_end waits some = grind arith
+by_message refused_first words s false true at_end waits some = grind arith
 by_message refused_first step s false true at_end waits some = grind arith
 by_message refused_first said s false false at_end waits some = grind arith
+by_message refused_first words s false false at_end waits some = grind arith
 by_message refused_first step s false false at_end waits some = grind arith
 by_message refused_last said s false true at_end waits some = grind arith
+by_message refused_last words s false true at_end waits some = grind arith
 by_message refused_last step s false true at_end waits some = grind arith
 by_message refused_last said s false false at_end waits some = grind arith
+by_message refused_last words s false false at_end waits some = grind arith
 by_message refused_last step s false false at_end waits some = grind arith
 by_message (gives more) done s false true at_end waits some = grind arith
 by_message (gives more) done s false false at_end waits some = grind arith
@@ -136,6 +145,7 @@ by_write s false last false false false stop at_end = grind arith
 smaller : (sizes : Sizes) (own : Own) (s : State) → MayGo sizes own s → size (gone_on sizes own s) < size s
 smaller sizes takes_credit s (at, some) = let a = ap net_size at in grind arith
 smaller sizes hands_piece s (at, some) = let a = ap net_size at in grind arith
+smaller sizes says_words s (at, some) = let a = ap net_size at in grind arith
 smaller sizes (tells_end nothing_comes) s (at, some) = let a = ap net_size at in grind arith
 smaller sizes (tells_end no_memory) s (at, some) = let a = ap net_size at in grind arith
 smaller sizes (net_left e) s (at, some) = let a = ap net_size at in grind arith
@@ -160,10 +170,11 @@ smaller sizes (writes_nothing p last) s (at, over) =
 smaller sizes joins s (at, all) = let a = ap term_size at in grind arith
 smaller sizes finishes s (at, _, _, _) = let a = ap term_size at in grind arith
 
-most_net : (n : Net) → net_size n ≤ 10
+most_net : (n : Net) → net_size n ≤ 15
 most_net reading = omega arith
 most_net holding = omega arith
 most_net handing = omega arith
+most_net net_says = omega arith
 most_net (net_tells e) = omega arith
 most_net (net_leaves e) = omega arith
 most_net (net_gone e) = omega arith
@@ -191,7 +202,7 @@ most_term (writing p last) = omega arith
 most_term joining = omega arith
 most_term ended = omega arith
 
-most_size : (sizes : Sizes) (s : State) → Reached sizes s → size s ≤ 42 + 4 * sizes.mails
+most_size : (sizes : Sizes) (s : State) → Reached sizes s → size s ≤ 47 + 4 * sizes.mails
 most_size sizes s r =
     let h = holds sizes s r in
     let f = h.fits in

@@ -1,13 +1,13 @@
 -- A server's session goes on by itself, or waits for the network, for its foreground job or for a write.
 use Rattle.std.proofs.Common.{arith, ◌≡◌, ◌≢◌, ℕ, zero, suc, ◌+◌, ◌<◌, ◌≤◌, Bool, true, false, ◌⊎◌, inl, inr, refl, ap, subst}
-use Rattle.tn_progress.proofs.Invariant.{Holds, net_left_in, desk_left_in, back_left_in, is_waiting, has_step_credit, has_ended, has_failed, done_by}
+use Rattle.tn_progress.proofs.Invariant.{Holds, may_have_said, net_left_in, desk_left_in, back_left_in, is_waiting, has_step_credit, has_ended, has_failed, done_by}
 use Rattle.tn_progress.proofs.Invariant.{refused_by, desk_by, has_answer, is_leaving, is_handing}
 use Rattle.tn_progress.proofs.Keeps.{holds}
-use Rattle.tn_progress.specs.Server.{one, End, nothing_comes, no_memory, Net, reading, holding, handing, net_tells, net_leaves, net_gone, is_done, is_refused}
+use Rattle.tn_progress.specs.Server.{one, End, nothing_comes, no_memory, Net, reading, holding, handing, net_says, net_tells, net_leaves, net_gone, is_done, is_refused}
 use Rattle.tn_progress.specs.Server.{Cause, stops, none_comes, Desk, asking, waiting, answering, desk_says, desk_tells, desk_leaves, desk_gone, Back}
-use Rattle.tn_progress.specs.Server.{back_waits, stepping, back_says, back_tells, back_leaves, back_gone, Term, receiving, writing, joining, ended, Kind, piece}
+use Rattle.tn_progress.specs.Server.{back_waits, stepping, back_says, back_tells, back_leaves, back_gone, Term, receiving, writing, joining, ended, Kind, piece, words}
 use Rattle.tn_progress.specs.Server.{ending, take, said, step, done, refusal, left, Box, State, Sizes, HasRoom, waiting_mails, count_of}
-use Rattle.tn_progress.specs.ServerSteps.{gives, Own, takes_credit, hands_piece, tells_end, net_left, asks_entry, takes_entry, takes_end, says_answer}
+use Rattle.tn_progress.specs.ServerSteps.{gives, Own, takes_credit, hands_piece, says_words, tells_end, net_left, asks_entry, takes_entry, takes_end, says_answer}
 use Rattle.tn_progress.specs.ServerSteps.{tells_stop, desk_left, takes_step_credit, says_step, is_stopped, tells_refusal, back_left, handles, joins, finishes}
 use Rattle.tn_progress.specs.ServerSteps.{MayGo, gone_on, Goes, WaitsFor, for_network, for_job, for_write, brings, answers, writes, let_on, IsLet, waits_behind}
 use Rattle.tn_progress.specs.ServerSteps.{NeverGetsStuck, PutsNeverWait, FewMailsWait}
@@ -20,19 +20,20 @@ goes_by sizes s own may = inl (gone_on sizes own s, (own, may, refl))
 
 -- a message waits that may be taken, or there is room
 mail_or_room : (box : Box) → ((kind : Kind) × (0 < count_of kind box) × (waits_behind kind box ≡ 0)) ⊎ (waiting_mails box ≡ 0)
-mail_or_room box = by box.pieces box.endings box.said box.takes box.steps box.done box.refusals box.left refl refl refl refl refl refl refl refl
+mail_or_room box = by box.pieces box.words box.endings box.said box.takes box.steps box.done box.refusals box.left refl refl refl refl refl refl refl refl refl
   where
-    by : (a b c d e f g k : ℕ) → box.pieces ≡ a → box.endings ≡ b → box.said ≡ c → box.takes ≡ d → box.steps ≡ e → box.done ≡ f → box.refusals ≡ g
-        → box.left ≡ k → ((kind : Kind) × (0 < count_of kind box) × (waits_behind kind box ≡ 0)) ⊎ (waiting_mails box ≡ 0)
-    by (suc a) b c d e f g k p q r s t u v w = inl (piece, omega arith, refl)
-    by zero (suc b) c d e f g k p q r s t u v w = inl (ending, omega arith, refl)
-    by zero zero (suc c) d e f g k p q r s t u v w = inl (said, omega arith, refl)
-    by zero zero zero (suc d) e f g k p q r s t u v w = inl (take, omega arith, r)
-    by zero zero zero zero (suc e) f g k p q r s t u v w = inl (step, omega arith, refl)
-    by zero zero zero zero zero (suc f) g k p q r s t u v w = inl (done, omega arith, refl)
-    by zero zero zero zero zero zero (suc g) k p q r s t u v w = inl (refusal, omega arith, refl)
-    by zero zero zero zero zero zero zero (suc k) p q r s t u v w = inl (left, omega arith, refl)
-    by zero zero zero zero zero zero zero zero p q r s t u v w = inr (omega arith)
+    by : (a m b c d e f g k : ℕ) → box.pieces ≡ a → box.words ≡ m → box.endings ≡ b → box.said ≡ c → box.takes ≡ d → box.steps ≡ e → box.done ≡ f
+        → box.refusals ≡ g → box.left ≡ k → ((kind : Kind) × (0 < count_of kind box) × (waits_behind kind box ≡ 0)) ⊎ (waiting_mails box ≡ 0)
+    by (suc a) m b c d e f g k p n q r s t u v w = inl (piece, omega arith, refl)
+    by zero (suc m) b c d e f g k p n q r s t u v w = inl (words, omega arith, refl)
+    by zero zero (suc b) c d e f g k p n q r s t u v w = inl (ending, omega arith, refl)
+    by zero zero zero (suc c) d e f g k p n q r s t u v w = inl (said, omega arith, refl)
+    by zero zero zero zero (suc d) e f g k p n q r s t u v w = inl (take, omega arith, r)
+    by zero zero zero zero zero (suc e) f g k p n q r s t u v w = inl (step, omega arith, refl)
+    by zero zero zero zero zero zero (suc f) g k p n q r s t u v w = inl (done, omega arith, refl)
+    by zero zero zero zero zero zero zero (suc g) k p n q r s t u v w = inl (refusal, omega arith, refl)
+    by zero zero zero zero zero zero zero zero (suc k) p n q r s t u v w = inl (left, omega arith, refl)
+    by zero zero zero zero zero zero zero zero zero p n q r s t u v w = inr (omega arith)
 
 -- What is known of a state in which Term waits for a message and none is there, with its threads at these places.
 record Idle (sizes : Sizes) (s : State) (n : Net) (d : Desk) (b : Back) (asks : Bool) (waits : ℕ) : Type 0 where
@@ -127,6 +128,7 @@ module _ (sizes : Sizes) (s : State) (h : Holds sizes s) (at : s.term ≡ receiv
   by_net holding zero en c = holding_on en c
   by_net holding (suc credits) en c = goes_by sizes s takes_credit (en, omega arith)
   by_net handing credits en c = goes_by sizes s hands_piece (en, room)
+  by_net net_says credits en c = goes_by sizes s says_words (en, room)
   by_net (net_tells e) credits en c = goes_by sizes s (tells_end e) (en, room)
   by_net (net_leaves e) credits en c = goes_by sizes s (net_left e) (en, room)
   by_net (net_gone e) credits en c = gone_on_by e en
@@ -137,6 +139,7 @@ net_gone_of (net_gone e) f = (e, refl)
 net_gone_of reading f = cc
 net_gone_of holding f = cc
 net_gone_of handing f = cc
+net_gone_of net_says f = cc
 net_gone_of (net_tells e) f = cc
 net_gone_of (net_leaves e) f = cc
 
@@ -162,6 +165,7 @@ at_most_net (net_gone e) = omega arith
 at_most_net reading = omega arith
 at_most_net holding = omega arith
 at_most_net handing = omega arith
+at_most_net net_says = omega arith
 at_most_net (net_tells e) = omega arith
 at_most_net (net_leaves e) = omega arith
 
@@ -233,11 +237,13 @@ puts_never_wait sizes s r =
     (omega arith, omega arith)
 
 -- how many messages of each thread wait at most
-most_of_net : (n : Net) → has_ended n + has_failed n + net_left_in n ≤ 2
+most_of_net : (n : Net) → may_have_said n + has_ended n + has_failed n + net_left_in n ≤ 3
 most_of_net reading = omega arith
 most_of_net holding = omega arith
 most_of_net handing = omega arith
-most_of_net (net_tells e) = omega arith
+most_of_net net_says = omega arith
+most_of_net (net_tells nothing_comes) = omega arith
+most_of_net (net_tells no_memory) = omega arith
 most_of_net (net_leaves nothing_comes) = omega arith
 most_of_net (net_leaves no_memory) = omega arith
 most_of_net (net_gone nothing_comes) = omega arith
@@ -274,6 +280,7 @@ few_mails_wait sizes s r =
     let q = h.one_request in
     let l = h.one_credit_each in
     let a = h.one_answer in
+    let m = h.says_last in
     let e = h.ends_once in
     let f = h.tells_refusals in
     let g = h.tells_done in

@@ -16,11 +16,13 @@ pub data End : Type 0 where
   nothing_comes : End
   no_memory : End
 
--- Net reads the network. A piece is held until there is a credit for it, and then handed to Term.
+-- Net reads the network. A piece is held until there is a credit for it, and then handed to Term. Before it
+-- tells that nothing more comes it may say last words.
 pub data Net : Type 0 where
   reading : Net
   holding : Net
   handing : Net
+  net_says : Net
   net_tells : End → Net
   net_leaves : End → Net
   net_gone : End → Net
@@ -64,11 +66,12 @@ pub data Term : Type 0 where
   joining : Term
   ended : Term
 
--- What is told to Term: a piece; that the network ended; that the foreground job takes an entry; what that
--- job says; what a step of a job in the background says; that the foreground job is done; that a call was
--- refused; that a thread has left.
+-- What is told to Term: a piece; last words of the network; that it ended; that the foreground job takes
+-- an entry; what that job says; what a step of a job in the background says; that the foreground job is
+-- done; that a call was refused; that a thread has left.
 pub data Kind : Type 0 where
   piece : Kind
+  words : Kind
   ending : Kind
   take : Kind
   said : Kind
@@ -80,6 +83,7 @@ pub data Kind : Type 0 where
 -- how many messages of each kind wait for Term
 pub record Box : Type 0 where
   pub pieces : ℕ
+  pub words : ℕ
   pub endings : ℕ
   pub takes : ℕ
   pub said : ℕ
@@ -125,7 +129,17 @@ pub record Sizes : Type 0 where
 
 abbrev pub none_waits : Box
 none_waits =
-    record { pieces = 0; endings = 0; takes = 0; said = 0; steps = 0; done = 0; refusals = 0; left = 0 }
+    record {
+      pieces = 0;
+      words = 0;
+      endings = 0;
+      takes = 0;
+      said = 0;
+      steps = 0;
+      done = 0;
+      refusals = 0;
+      left = 0;
+    }
 
 -- the first state: Term has written its first words, and gives the first credit and those for steps
 abbrev pub start : Sizes → State
@@ -150,7 +164,8 @@ start sizes = record {
 
 abbrev pub waiting_mails : Box → ℕ
 waiting_mails box =
-    box.pieces + box.endings + box.takes + box.said + box.steps + box.done + box.refusals + box.left
+    box.pieces + box.words + box.endings + box.takes + box.said + box.steps + box.done + box.refusals
+    + box.left
 
 -- there is room for one more message
 abbrev pub HasRoom : Sizes → State → Type 0
@@ -159,6 +174,7 @@ HasRoom sizes s = waiting_mails s.box < sizes.mails
 -- how many of a kind wait
 abbrev pub count_of : Kind → Box → ℕ
 count_of piece box = box.pieces
+count_of words box = box.words
 count_of ending box = box.endings
 count_of take box = box.takes
 count_of said box = box.said
@@ -170,6 +186,7 @@ count_of left box = box.left
 -- with one more
 abbrev pub put : Kind → Box → Box
 put piece box = record box { pieces = box.pieces + 1 }
+put words box = record box { words = box.words + 1 }
 put ending box = record box { endings = box.endings + 1 }
 put take box = record box { takes = box.takes + 1 }
 put said box = record box { said = box.said + 1 }
@@ -181,6 +198,7 @@ put left box = record box { left = box.left + 1 }
 -- with one less
 abbrev pub taken : Kind → Box → Box
 taken piece box = record box { pieces = box.pieces - 1 }
+taken words box = record box { words = box.words - 1 }
 taken ending box = record box { endings = box.endings - 1 }
 taken take box = record box { takes = box.takes - 1 }
 taken said box = record box { said = box.said - 1 }

@@ -1,7 +1,7 @@
 -- What the threads of a server's session may do next.
-use Rattle.std.specs.Prelude.{◌≡◌, ◌≢◌, ℕ, zero, suc, ◌+◌, ◌-◌, ◌*◌, ◌<◌, ◌≤◌, Bool, true, IsTrue, false}
-use Rattle.std.specs.Prelude.{◌||◌, ◌⊎◌}
-use Rattle.tn_progress.specs.Server.{one, End, reading, holding, handing, net_tells, net_leaves, net_gone}
+use Rattle.std.specs.Prelude.{◌≡◌, ◌≢◌, ℕ, zero, suc, ◌+◌, ◌-◌, ◌*◌, ◌<◌, ◌≤◌, Bool, true, false, ◌||◌, ◌⊎◌}
+use Rattle.tn_progress.specs.Server.{one, End, nothing_comes, reading, holding, handing, net_says, net_tells, net_leaves}
+use Rattle.tn_progress.specs.Server.{net_gone, words}
 use Rattle.tn_progress.specs.Server.{Stop, Cause, stops, none_comes, asking, waiting, answering, desk_says}
 use Rattle.tn_progress.specs.Server.{desk_tells, desk_leaves, desk_gone, back_waits, stepping, back_says}
 use Rattle.tn_progress.specs.Server.{back_tells, back_leaves, back_gone, Term, receiving, writing, joining}
@@ -70,6 +70,7 @@ comes_of take more s = asked s.waits s.at_end s
 comes_of done more s = halted s
 comes_of refusal more s = halted s
 comes_of said more s = s
+comes_of words more s = s
 comes_of step more s = s
 comes_of left more s = s
 
@@ -124,6 +125,7 @@ written sizes failed p last s =
 pub data Own : Type 0 where
   takes_credit : Own
   hands_piece : Own
+  says_words : Own
   tells_end : End → Own
   net_left : End → Own
   asks_entry : Own
@@ -142,10 +144,11 @@ pub data Own : Type 0 where
   joins : Own
   finishes : Own
 
--- A thread goes on once somebody else lets it: the network brings something or ends, a job returns, the
--- network takes what is written or does not.
+-- A thread goes on once somebody else lets it: the network brings something or ends, with last words or
+-- without, a job returns, the network takes what is written or does not.
 pub data Outer : Type 0 where
   brings : Outer
+  has_words : Outer
   is_read_out : End → Outer
   answers : Outer
   takes_no_more : Stop → Outer
@@ -163,6 +166,7 @@ waits_behind _ box = 0
 abbrev pub MayGo : Sizes → Own → State → Type 0
 MayGo sizes takes_credit s = (s.net ≡ holding) × (0 < s.credits)
 MayGo sizes hands_piece s = (s.net ≡ handing) × HasRoom sizes s
+MayGo sizes says_words s = (s.net ≡ net_says) × HasRoom sizes s
 MayGo sizes (tells_end e) s = (s.net ≡ net_tells e) × HasRoom sizes s
 MayGo sizes (net_left e) s = (s.net ≡ net_leaves e) × HasRoom sizes s
 MayGo sizes asks_entry s = (s.desk ≡ asking) × HasRoom sizes s
@@ -188,6 +192,7 @@ MayGo sizes finishes s =
 abbrev pub gone_on : Sizes → Own → State → State
 gone_on sizes takes_credit s = record s { net = handing; credits = s.credits - 1 }
 gone_on sizes hands_piece s = record s { net = reading; box = put piece s.box }
+gone_on sizes says_words s = record s { net = net_tells nothing_comes; box = put words s.box }
 gone_on sizes (tells_end e) s = record s { net = net_leaves e; box = put (told_of_end e) s.box }
 gone_on sizes (net_left e) s = record s { net = net_gone e; box = put left s.box }
 gone_on sizes asks_entry s = record s { desk = waiting; box = put take s.box }
@@ -208,6 +213,7 @@ gone_on sizes finishes s = record s { term = ended }
 
 abbrev pub MayBeLet : Outer → State → Type 0
 MayBeLet brings s = s.net ≡ reading
+MayBeLet has_words s = s.net ≡ reading
 MayBeLet (is_read_out e) s = s.net ≡ reading
 MayBeLet answers s = s.desk ≡ answering
 MayBeLet (takes_no_more c) s = s.desk ≡ answering
@@ -218,6 +224,7 @@ MayBeLet (writes failed p last) s = s.term ≡ writing p last
 
 abbrev pub let_on : Sizes → Outer → State → State
 let_on sizes brings s = record s { net = holding }
+let_on sizes has_words s = record s { net = net_says }
 let_on sizes (is_read_out e) s = record s { net = net_tells e }
 let_on sizes answers s = record s { desk = desk_says }
 let_on sizes (takes_no_more c) s = record s { desk = desk_tells c }
@@ -261,7 +268,7 @@ PutsNeverWait = (sizes : Sizes) (s : State) → Reached sizes s → (s.entries +
 -- However fast the jobs in the background are, no more than so many messages wait for Term. So a key that
 -- comes is passed by no more; and where the mailbox has more places, no thread ever waits for one.
 abbrev pub FewMailsWait : Type 0
-FewMailsWait = (sizes : Sizes) (s : State) → Reached sizes s → waiting_mails s.box ≤ sizes.ahead + 6
+FewMailsWait = (sizes : Sizes) (s : State) → Reached sizes s → waiting_mails s.box ≤ sizes.ahead + 7
 
 -- so many steps, each a thread's own, lead there
 pub data Alone (sizes : Sizes) : ℕ → State → State → Type 0 where
@@ -271,4 +278,4 @@ pub data Alone (sizes : Sizes) : ℕ → State → State → Type 0 where
 -- Where nobody outside does anything the threads come to rest, after so many steps at most.
 abbrev pub ComesToRest : Type 0
 ComesToRest =
-    (sizes : Sizes) (n : ℕ) (s t : State) → Reached sizes s → Alone sizes n s t → n ≤ 42 + 4 * sizes.mails
+    (sizes : Sizes) (n : ℕ) (s t : State) → Reached sizes s → Alone sizes n s t → n ≤ 47 + 4 * sizes.mails

@@ -15,14 +15,14 @@ pub fn no_put_of_an_entry_waits()
     ensures { server.PutsNeverWait }
 {}
 
-/// However fast the jobs in the background are, at most six messages more wait for the terminal than there
+/// However fast the jobs in the background are, at most seven messages more wait for the terminal than there
 /// are credits for their steps. So that is how many pass a key at most; and where the mailbox has a place for
 /// each, no thread waits for one.
 pub fn few_mails_wait()
     ensures { server.FewMailsWait }
 {}
 
-/// Where nobody outside does anything the threads of a server's session come to rest, after at most 42 steps
+/// Where nobody outside does anything the threads of a server's session come to rest, after at most 47 steps
 /// and four for each place of the mailbox.
 pub fn a_server_comes_to_rest()
     ensures { server.ComesToRest }

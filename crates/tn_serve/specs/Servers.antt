@@ -8,9 +8,11 @@ use Rattle.tn_serve.specs.declared.conversed.Ran.{Ran}
 use Rattle.tn_serve.specs.declared.settings.SessionOptions.{SessionOptions}
 use Rattle.tn_session.specs.Facts.{JobFacts, SessionResult, TermSettings, session_result}
 use Rattle.tn_session.specs.Session.{RunningSession, IsRefusal}
+use Rattle.tn_sockets.specs.LastWords.{last_lines}
 use Rattle.tn_sockets.specs.Logs.{wrote}
 use Rattle.tn_sockets.specs.declared.write_log.WriteLog.{WriteLog}
 use Rattle.tn_machines.specs.server.Welcoming.{too_far_ahead}
+use Rattle.tn_streams.specs.Known.{KnownReader}
 
 -- a terminal with standard settings, under these options
 abbrev pub terminal_of : SessionOptions → TermSettings
@@ -23,13 +25,15 @@ terminal_of options =
       editing = options.editing;
     }
 
--- A server's session ran with such jobs, wrote what is in this log, and gave back this. Of the connection
--- nothing was known before, but that it tells no size.
+-- of its connection nothing is known before, but that it tells no size, and what its last words may be
+abbrev pub attended : KnownReader
+attended = record { bytes = None; failures = None; sizes = Some []; words = last_lines }
+
+-- A server's session ran with such jobs, wrote what is in this log, and gave back this.
 abbrev pub RunsWriting : {J : Type 0} → JobFacts J → Option ℕ → SessionOptions → WriteLog → SessionResult
     → Type 0
 RunsWriting facts to_make options log result =
-    RunningSession facts to_make (terminal_of options)
-    (record { bytes = None; failures = None; sizes = Some [] }) (wrote log) result
+    RunningSession facts to_make (terminal_of options) attended (wrote log) result
 
 -- the same, of what it gave back: all that was read from the connection stands in the ports
 abbrev pub RunsServer : {J : Type 0} → JobFacts J → Option ℕ → SessionOptions → Conversed → Type 0

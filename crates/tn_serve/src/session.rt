@@ -14,7 +14,6 @@ use crate::settings::SessionOptions;
 use crate::traffic::{Counted, CountedWrites, Traffic};
 use crossbeam_channel::Sender;
 use std::alloc::Global;
-use std::io::Read;
 use std::net::TcpStream;
 use std::snapshot::Snapshot;
 use std::sync::Arc;
@@ -23,6 +22,7 @@ use std::thread::{Promise, PromisedHandle};
 use tn_discipline::Settings;
 use tn_session::{Maker, Ports, Report, SessionFault, Unwatched, serve_session};
 use tn_sockets::{Attended, Connection, Host, Logged, Standing};
+use tn_streams::Source;
 
 /// A session that is to run over a connection that was accepted.
 #[derive(Drop)]
@@ -108,20 +108,16 @@ where
         ensures in_reach { IfOk result.ended (λ conversed. conversed.report.ended ≢ too_far_ahead) }
         ensures over { IfOk result.ended (λ conversed. connection_of conversed ≡ self.stream) }
     {
-        match (
-            Arc::try_clone(&self.standing),
-            Arc::try_clone(&self.traffic),
-        ) {
-            (Ok(standing), Ok(traffic)) => {
+        match Arc::try_clone(&self.standing) {
+            Ok(standing) => {
                 let ended = self.converse();
-                traffic.count_went(standing.told());
                 Ran {
                     ended,
                     idle: standing.is_idle(),
                     too_long: standing.is_too_long(),
                 }
             },
-            _ => Ran {
+            Err(_) => Ran {
                 ended: Err(SessionFault::Memory),
                 idle: false,
                 too_long: false,
@@ -220,7 +216,7 @@ where
 fn linger<H: Host>(rt: H, alloc: Global, stream: TcpStream, standing: Arc<Standing, Global>) {
     if let Ok(mut rest) = Attended::new(rt, alloc, stream, standing, 0, 0) {
         let mut unread = [0; 512];
-        let _ = rest.read(&mut unread);
+        let _ = rest.read_some(&mut unread);
     }
 }
 

@@ -2,11 +2,11 @@
 
 use std::alloc::{AllocError, Global};
 use std::io;
-use std::io::{ErrorKind, Read};
+use std::io::ErrorKind;
 use std::sync::Arc;
 use std::sync::atomic::{AtomicI32, AtomicU64, Ordering};
 use tn_sockets::Standing;
-use tn_streams::{Drain, Finish};
+use tn_streams::{Drain, Finish, Source};
 
 /// What has passed over a connection so far.
 #[derive(Drop)]
@@ -88,11 +88,17 @@ pub(crate) struct Counted<R> {
     pub(crate) traffic: Arc<Traffic, Global>,
 }
 
-impl<R: Read> Read for Counted<R> {
-    ghost remaining = { λ counted. R.Read.remaining counted.side };
+impl<R: Source> Source for Counted<R> {
+    ghost remaining = { λ counted. R.remaining counted.side };
 
-    fn read(&mut self, buf: &mut [u8]) -> io::Result<usize> {
-        let read = self.side.read(buf);
+    ghost words = { λ counted. R.words counted.side };
+
+    fn last_words(&self) -> &'static [u8] {
+        self.side.last_words()
+    }
+
+    fn read_some(&mut self, buf: &mut [u8]) -> io::Result<usize> {
+        let read = self.side.read_some(buf);
         match &read {
             Ok(count) => {
                 let _ = self.traffic.came.fetch_add(*count as u64, Ordering::SeqCst);

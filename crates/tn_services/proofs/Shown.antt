@@ -162,42 +162,43 @@ none_waits waited old (r ∷ next ∷ reactions) waits new (held, between, one, 
 
 -- THE STEPS OF THE JOB
 
-module _ {R W : Type 0} (remaining : R → Option (List ℕ)) (foretold : R → Option Failures) (sizes : R → Option (List WindowSize)) where
+module _ {R W : Type 0} (remaining : R → Option (List ℕ)) (foretold : R → Option Failures) (sizes : R → Option (List WindowSize))
+    (words : R → List (List ℕ)) where
   abbrev pub Through : Showing R → List Reaction → Gateway R W → Type 0
-  Through first reactions (side.Shows last) = ShowOn first.waits (known_reader remaining foretold sizes first.reader) reactions last.waits
-      (known_reader remaining foretold sizes last.reader)
+  Through first reactions (side.Shows last) = ShowOn first.waits (known_reader remaining foretold sizes words first.reader) reactions last.waits
+      (known_reader remaining foretold sizes words last.reader)
   Through first reactions (side.Sends last) = ⊥
 
   one_more : (first mid : Showing R) (r : Reaction) (reactions : List Reaction) (last : Gateway R W)
-      → Shows first.waits r.text r.after mid.waits (known_reader remaining foretold sizes first.reader) (known_reader remaining foretold sizes mid.reader)
+      → Shows first.waits r.text r.after mid.waits (known_reader remaining foretold sizes words first.reader) (known_reader remaining foretold sizes words mid.reader)
       → Through mid reactions last → Through first (r ∷ reactions) last
-  one_more first mid r reactions (side.Shows last) one rest = (mid.waits, known_reader remaining foretold sizes mid.reader, one, rest)
+  one_more first mid r reactions (side.Shows last) one rest = (mid.waits, known_reader remaining foretold sizes words mid.reader, one, rest)
   one_more first mid r reactions (side.Sends last) one rest = absurd rest
 
   through : (first : Showing R) (reactions : List Reaction) (last : Gateway R W)
-      → FoldsTo (Steps {W = W} remaining foretold sizes) (side.Shows first) reactions last → Through first reactions last
+      → FoldsTo (Steps {W = W} remaining foretold sizes words) (side.Shows first) reactions last → Through first reactions last
   through first [] last is = let P : Gateway R W → Type 0 = λ g. Through first [] g in subst P is (refl, refl)
   through first (r ∷ reactions) last (side.Shows mid, one, rest) =
       one_more first mid r reactions last one (through mid reactions last rest)
   through first (r ∷ reactions) last (side.Sends mid, one, rest) = absurd one
 
   talk : (first : Showing R) (reactions : List Reaction) (last : Gateway R W) → Through first reactions last
-      → ShowsTalk {W = W} remaining foretold sizes first reactions last
+      → ShowsTalk {W = W} remaining foretold sizes words first reactions last
   talk first reactions (side.Shows last) steps =
-      let came = shown first.waits (known_reader remaining foretold sizes first.reader) reactions last.waits
-      (known_reader remaining foretold sizes last.reader) steps in
+      let came = shown first.waits (known_reader remaining foretold sizes words first.reader) reactions last.waits
+      (known_reader remaining foretold sizes words last.reader) steps in
       record {
         reads = came.reads;
         each = came.each;
         came = came.came;
         shown = came.shown;
-        none_waits = none_waits first.waits (known_reader remaining foretold sizes first.reader) reactions last.waits
-            (known_reader remaining foretold sizes last.reader) steps;
-        all = all_shown first.waits (known_reader remaining foretold sizes first.reader) reactions last.waits
-            (known_reader remaining foretold sizes last.reader) steps;
+        none_waits = none_waits first.waits (known_reader remaining foretold sizes words first.reader) reactions last.waits
+            (known_reader remaining foretold sizes words last.reader) steps;
+        all = all_shown first.waits (known_reader remaining foretold sizes words first.reader) reactions last.waits
+            (known_reader remaining foretold sizes words last.reader) steps;
       }
   talk first reactions (side.Sends last) steps = absurd steps
 
   pub in_order : (first : Showing R) (reactions : List Reaction) (last : Gateway R W)
-      → FoldsTo (Steps {W = W} remaining foretold sizes) (side.Shows first) reactions last → ShowsTalk {W = W} remaining foretold sizes first reactions last
+      → FoldsTo (Steps {W = W} remaining foretold sizes words) (side.Shows first) reactions last → ShowsTalk {W = W} remaining foretold sizes words first reactions last
   in_order first reactions last steps = talk first reactions last (through first reactions last steps)

@@ -67,10 +67,11 @@ MayRefuse (side.Shows showing) None = Unit {0}
 
 -- a step is one of the job in the background; the other one makes none
 abbrev pub Steps : {R W : Type 0} → (R → Option (List ℕ)) → (R → Option Failures)
-    → (R → Option (List WindowSize)) → Gateway R W → Reaction → Gateway R W → Type 0
-Steps remaining foretold sizes (side.Shows old) reaction (side.Shows new) =
+    → (R → Option (List WindowSize)) → (R → List (List ℕ)) → Gateway R W → Reaction → Gateway R W → Type 0
+Steps remaining foretold sizes words (side.Shows old) reaction (side.Shows new) =
     Shows old.waits reaction.text reaction.after new.waits
-    (known_reader remaining foretold sizes old.reader) (known_reader remaining foretold sizes new.reader)
-Steps remaining foretold sizes (side.Shows old) reaction (side.Sends new) = ⊥
-Steps remaining foretold sizes (side.Sends old) reaction new =
+    (known_reader remaining foretold sizes words old.reader)
+    (known_reader remaining foretold sizes words new.reader)
+Steps remaining foretold sizes words (side.Shows old) reaction (side.Sends new) = ⊥
+Steps remaining foretold sizes words (side.Sends old) reaction new =
     (reaction ≡ silent Done) × (new ≡ side.Sends old)

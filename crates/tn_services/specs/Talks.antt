@@ -82,8 +82,9 @@ pub record ShowsAll (waited : Bool) (reactions : List Reaction) (waits : Bool)
 
 -- these steps led the job in the background here
 abbrev pub ShowsTalk : {R W : Type 0} → (R → Option (List ℕ)) → (R → Option Failures)
-    → (R → Option (List WindowSize)) → Showing R → List Reaction → Gateway R W → Type 0
-ShowsTalk remaining foretold sizes first reactions (side.Shows last) =
+    → (R → Option (List WindowSize)) → (R → List (List ℕ)) → Showing R → List Reaction → Gateway R W → Type 0
+ShowsTalk remaining foretold sizes words first reactions (side.Shows last) =
     ShowsAll first.waits reactions last.waits
-    (known_reader remaining foretold sizes first.reader) (known_reader remaining foretold sizes last.reader)
-ShowsTalk remaining foretold sizes first reactions (side.Sends last) = ⊥
+    (known_reader remaining foretold sizes words first.reader)
+    (known_reader remaining foretold sizes words last.reader)
+ShowsTalk remaining foretold sizes words first reactions (side.Sends last) = ⊥

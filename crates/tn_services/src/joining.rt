@@ -27,7 +27,7 @@ impl<R: Source + Drop, W: Finish + HearsCut + Drop> Job for Gateway<R, W> {
 
     ghost reacts = { λ old entry reaction new. Reacts W.contents W.told old entry reaction new };
 
-    ghost steps = { λ old reaction new. Steps R.remaining R.foretold R.sizes old reaction new };
+    ghost steps = { λ old reaction new. Steps R.remaining R.foretold R.sizes R.words old reaction new };
 
     ghost refuses = { λ job entry. MayRefuse job entry };
 

@@ -31,8 +31,8 @@ pub fn lines_go_in_order<R: Source, W: Finish>()
 /// all of it once the job has ended by the reader's end.
 pub fn all_is_shown<R: Source, W: Finish>()
     ensures { (first : Showing R) (reactions : List Reaction) (last : Gateway R W)
-        → FoldsTo (Steps R.remaining R.foretold R.sizes) (side.Shows first) reactions last
-        → ShowsTalk R.remaining R.foretold R.sizes first reactions last }
+        → FoldsTo (Steps R.remaining R.foretold R.sizes R.words) (side.Shows first) reactions last
+        → ShowsTalk R.remaining R.foretold R.sizes R.words first reactions last }
 {}
 
 /// A job with N ticks left makes N ticks, one at each step, and then none is left. A fresh job has as many

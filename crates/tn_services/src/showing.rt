@@ -30,8 +30,8 @@ impl<R: Source> Showing<R> {
     /// for what is shown is there before the read.
     pub(crate) fn step(&mut self, alloc: Global) -> Result<Reaction, AllocError>
         ensures { IfOk result (λ reaction. Shows self.old.waits reaction.text reaction.after self.new.waits
-            (known_reader R.remaining R.foretold R.sizes self.old.reader)
-            (known_reader R.remaining R.foretold R.sizes self.new.reader)) }
+            (known_reader R.remaining R.foretold R.sizes R.words self.old.reader)
+            (known_reader R.remaining R.foretold R.sizes R.words self.new.reader)) }
     {
         let text = Vec::with_capacity(alloc, PIECE_BYTES + 1)?;
         let mut bytes = [0; PIECE_BYTES];

@@ -1,5 +1,5 @@
 -- What the messages to the core bring, of what the readers gave.
-use Rattle.std.proofs.Common.{◌≡◌, ℕ, Bool, true, false, List, [], ◌∷◌, ◌++◌, Option, Some, refl, sym, ap, ◌∙◌, ⊎_elim, map, subst, append-nil, append_assoc}
+use Rattle.std.proofs.Common.{◌≡◌, ℕ, Bool, true, false, List, [], ◌∷◌, ◌++◌, Option, Some, None, refl, sym, ap, ◌∙◌, ⊎_elim, map, subst, append-nil, append_assoc}
 use Rattle.std.proofs.lemmas.List.{map-append}
 use Rattle.std.proofs.lemmas.Grind.{flat_map-append}
 use Rattle.std.specs.Io.KnownBytes.{Consumes}
@@ -11,7 +11,8 @@ use Rattle.tn_session.proofs.Mailbox.{sender_share}
 use Rattle.tn_session.specs.CoreTurns.{all_told}
 use Rattle.tn_session.specs.Mailbox.{same, from, mail, sender}
 use Rattle.tn_session.specs.Transcripts.{bytes_sent}
-use Rattle.tn_session.specs.Reader.{ReaderSends, Closes}
+use Rattle.tn_session.proofs.lemmas.Plain.{PlainlyCloses, plainly}
+use Rattle.tn_session.specs.Reader.{ReaderSends}
 use Rattle.tn_session.specs.Reading.{IsEnding, Telling, piece_told, size_told, control_told, told_messages, pieces_in, controls_in}
 use Rattle.tn_session.specs.declared.channels.View.{View}
 use Rattle.tn_session.specs.declared.mail.Mail.{Mail}
@@ -107,7 +108,7 @@ ending_bytes (Resized s) left e = refl
 ending_bytes (Asked control) left e = refl
 
 close_bytes : (s : Sender) (may_stop : Bool) (pieces : List (List ℕ)) (left : Option (List ℕ)) (foretold : Option Failures) (close : List Message)
-    → Closes may_stop pieces left foretold close → bytes_sent (map (mail s) close) ≡ []
+    → PlainlyCloses may_stop pieces left foretold close → bytes_sent (map (mail s) close) ≡ []
 close_bytes s may_stop pieces left foretold close closes =
     let B : List Message → List ℕ = λ ms. bytes_sent (map (mail s) ms) in
     ⊎_elim
@@ -121,24 +122,24 @@ one_list s a b v e f = is_some a b (sym (sender_share s a v e) ∙ sender_share 
     is_some : {A : Type 0} (x y : A) → Some x ≡ Some y → x ≡ y
     is_some x y eq = cc
 
-reader_bytes : (who : Sender) (may_stop : Bool) (reader : KnownReader) (v : View) (mails : List Mail) → ReaderSends who may_stop reader v → v ≡ sender who mails
+reader_bytes : (who : Sender) (may_stop : Bool) (reader : KnownReader) (v : View) (mails : List Mail) → ReaderSends who None may_stop reader v → v ≡ sender who mails
     → (left : Option (List ℕ)) × Consumes reader.bytes left (bytes_sent mails)
 reader_bytes who may_stop reader v mails (told, left, close, consumed, closes, is, small, sizes) e =
     let pieces = pieces_in told in
     let all : bytes_sent mails ≡ concat pieces =
     ap bytes_sent (one_list who mails (map (mail who) (told_messages told ++ close)) v e is) ∙ told_bytes who told close
-    ∙ ap (λ (bs : List ℕ). concat pieces ++ bs) (close_bytes who may_stop pieces left reader.failures close closes) ∙ append-nil (concat pieces) in
+    ∙ ap (λ (bs : List ℕ). concat pieces ++ bs) (close_bytes who may_stop pieces left reader.failures close (plainly may_stop reader pieces left close closes)) ∙ append-nil (concat pieces) in
     let P : List ℕ → Type 0 = λ bs. Consumes reader.bytes left bs in
     (left, subst P (sym all) consumed)
 
-pub keys_brought : (stopped : Bool) (reader : KnownReader) (v : View) (handled mails : List Mail) → ReaderSends Keys stopped reader v → v ≡ sender Keys mails
+pub keys_brought : (stopped : Bool) (reader : KnownReader) (v : View) (handled mails : List Mail) → ReaderSends Keys None stopped reader v → v ≡ sender Keys mails
     → from Keys handled ≡ mails → (left : Option (List ℕ)) × Consumes reader.bytes left (brought origin.Keys (all_told handled))
 keys_brought stopped reader v handled mails sent e is =
     let r = reader_bytes Keys stopped reader v mails sent e in
     let P : List ℕ → Type 0 = λ bs. Consumes reader.bytes r.0 bs in
     (r.0, subst P (sym (keys_all handled ∙ ap bytes_sent is)) r.1)
 
-pub net_brought : (reader : KnownReader) (v : View) (handled mails : List Mail) → ReaderSends Net false reader v → v ≡ sender Net mails
+pub net_brought : (reader : KnownReader) (v : View) (handled mails : List Mail) → ReaderSends Net None false reader v → v ≡ sender Net mails
     → from Net handled ≡ mails → from Desk handled ≡ [] → from Back handled ≡ [] → (left : Option (List ℕ))
     × Consumes reader.bytes left (brought origin.Net (all_told handled))
 net_brought reader v handled mails sent e is desk back =
@@ -204,7 +205,7 @@ ending_asks (Resized s) left e = refl
 ending_asks (Asked control) left e = absurd e
 
 close_asks : (s : Sender) (may_stop : Bool) (pieces : List (List ℕ)) (left : Option (List ℕ)) (foretold : Option Failures) (close : List Message)
-    → Closes may_stop pieces left foretold close → asked_sent (map (mail s) close) ≡ []
+    → PlainlyCloses may_stop pieces left foretold close → asked_sent (map (mail s) close) ≡ []
 close_asks s may_stop pieces left foretold close closes =
     let A : List Message → List Control = λ ms. asked_sent (map (mail s) ms) in
     ⊎_elim
@@ -212,11 +213,11 @@ close_asks s may_stop pieces left foretold close closes =
     (λ x. ap A x.2)
     closes
 
-pub commands_brought : (stopped : Bool) (reader : KnownReader) (v : View) (handled mails : List Mail) (sent : ReaderSends Keys stopped reader v)
+pub commands_brought : (stopped : Bool) (reader : KnownReader) (v : View) (handled mails : List Mail) (sent : ReaderSends Keys None stopped reader v)
     → v ≡ sender Keys mails → from Keys handled ≡ mails → commands_in (inputs_brought (all_told handled)) ≡ map command_of (controls_in sent.0)
 commands_brought stopped reader v handled mails (told, left, close, consumed, closes, is, small, sizes) e of =
     let asked : asked_sent mails ≡ controls_in told =
     ap asked_sent (one_list Keys mails (map (mail Keys) (told_messages told ++ close)) v e is) ∙ told_asked Keys told close
-    ∙ ap (λ (cs : List Control). controls_in told ++ cs) (close_asks Keys stopped (pieces_in told) left reader.failures close closes)
+    ∙ ap (λ (cs : List Control). controls_in told ++ cs) (close_asks Keys stopped (pieces_in told) left reader.failures close (plainly stopped reader (pieces_in told) left close closes))
     ∙ append-nil (controls_in told) in
     commands_all handled ∙ ap (λ (ms : List Mail). map command_of (asked_sent ms)) of ∙ ap (map command_of) asked

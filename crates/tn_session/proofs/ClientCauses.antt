@@ -1,5 +1,5 @@
 -- Why a client's session ended by a read or a write.
-use Rattle.std.proofs.Common.{◌≡◌, ℕ, Bool, false, ◌&&◌, ◌⊎◌, inl, inr, ⊎_elim, List, [], ◌∷◌, ◌++◌, Option, refl, sym, ap, ◌∙◌, subst, map, length}
+use Rattle.std.proofs.Common.{◌≡◌, ℕ, Bool, false, ◌&&◌, ◌⊎◌, inl, inr, ⊎_elim, List, [], ◌∷◌, ◌++◌, Option, None, refl, sym, ap, ◌∙◌, subst, map, length}
 use Rattle.tn_machines.specs.client.Ending.{IsEndedAt}
 use Rattle.tn_machines.specs.client.Marks.{no_write_failed, no_show_failed, all_by}
 use Rattle.tn_machines.specs.client.Run.{Run}
@@ -9,7 +9,8 @@ use Rattle.tn_session.proofs.Causes.{HasFailure, has_split, failure_from, failur
 use Rattle.tn_session.proofs.Ending.{messages_from}
 use Rattle.tn_session.specs.CoreTurns.{all_told}
 use Rattle.tn_session.specs.Mailbox.{Interleaves, from, four, sender}
-use Rattle.tn_session.specs.Reader.{ReaderSends, Closes}
+use Rattle.tn_session.proofs.lemmas.Plain.{PlainlyCloses, plainly}
+use Rattle.tn_session.specs.Reader.{ReaderSends}
 use Rattle.tn_session.specs.Reading.{IsReadCause, max_reads, Telling, told_messages, pieces_in}
 use Rattle.tn_session.specs.Turns.{Tells, max_writes, messages_of}
 use Rattle.tn_session.specs.declared.channels.View.{View}
@@ -49,7 +50,7 @@ cause_of : (foretold : Option Failures) (count : ℕ) (last : Message) → last 
 cause_of foretold count last e cause = subst (λ (m : Message). IsReadCause foretold count m) e cause
 
 close_cause : (may_stop : Bool) (foretold : Option Failures) (told : List Telling) (left : Option (List ℕ)) (close : List Message)
-    → Closes may_stop (pieces_in told) left foretold close → HasFailure (told_messages told ++ close) → WillFail max_reads (length (pieces_in told)) foretold
+    → PlainlyCloses may_stop (pieces_in told) left foretold close → HasFailure (told_messages told ++ close) → WillFail max_reads (length (pieces_in told)) foretold
 close_cause may_stop foretold told left close closes h =
     let Fails : List Message → Type 0 = λ ms. HasFailure (told_messages told ++ ms) in
     ⊎_elim
@@ -59,7 +60,7 @@ close_cause may_stop foretold told left close closes h =
 
 pub read_cause : (stopped : Bool) (keys_reader net_reader : KnownReader) (from_keys from_net handled : List Mail) (keys net : View)
     (marked : List (Told × ClientMark)) → keys ≡ sender Keys from_keys → net ≡ sender Net from_net → Interleaves handled (four from_net [] [] from_keys)
-    → (typed : ReaderSends Keys stopped keys_reader keys) → (read : ReaderSends Net false net_reader net) → map (λ m. m.0) marked ≡ all_told handled → (c : Run)
+    → (typed : ReaderSends Keys None stopped keys_reader keys) → (read : ReaderSends Net None false net_reader net) → map (λ m. m.0) marked ≡ all_told handled → (c : Run)
     → IsEndedAt c marked (ended.Fault fault.Read) → WillFail max_reads (length (pieces_in typed.0)) keys_reader.failures
     ⊎ WillFail max_reads (length (pieces_in read.0)) net_reader.failures
 read_cause stopped keys_reader net_reader from_keys from_net handled keys net marked keys_is net_is woven typed read messages c r =
@@ -71,9 +72,9 @@ read_cause stopped keys_reader net_reader from_keys from_net handled keys net ma
 
     by : (s : Sender) → HasFailure (messages_of (from s handled)) → WillFail max_reads (length (pieces_in typed.0)) keys_reader.failures
         ⊎ WillFail max_reads (length (pieces_in read.0)) net_reader.failures
-    by Net h = inr (close_cause false net_reader.failures read.0 read.1 read.2 read.4
+    by Net h = inr (close_cause false net_reader.failures read.0 read.1 read.2 (plainly false net_reader (pieces_in read.0) read.1 read.2 read.4)
         (subst HasFailure (messages_from Net net from_net handled (told_messages read.0 ++ read.2) net_is read.5 (woven Net)) h))
-    by Keys h = inl (close_cause stopped keys_reader.failures typed.0 typed.1 typed.2 typed.4
+    by Keys h = inl (close_cause stopped keys_reader.failures typed.0 typed.1 typed.2 (plainly stopped keys_reader (pieces_in typed.0) typed.1 typed.2 typed.4)
         (subst HasFailure (messages_from Keys keys from_keys handled (told_messages typed.0 ++ typed.2) keys_is typed.5 (woven Keys)) h))
     by Desk h = absurd (none Desk (woven Desk) h)
     by Back h = absurd (none Back (woven Back) h)

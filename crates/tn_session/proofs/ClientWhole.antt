@@ -100,24 +100,24 @@ client_noted begin last steps marked handled bytes noted goes of_steps messages 
 -- all of a client's session that ran
 pub client_ran : (core last : Core) (stopped : Bool) (keys_reader : KnownTyping) (net_reader : KnownReader) (writer screen : KnownWriting)
     (pass₀ pass₁ net keys : View) (result : ClientResult)
-    → pass₀ ≡ core_view [] → (acted : CoreHandles core pass₀ pass₁ writer screen result.noted result.told last) → ReaderSends Net false net_reader net
-    → TypingSends Keys stopped keys_reader keys
+    → pass₀ ≡ core_view [] → (acted : CoreHandles core pass₀ pass₁ writer screen result.noted result.told last) → ReaderSends Net None false net_reader net
+    → TypingSends Keys None stopped keys_reader keys
     → (stopped ≡ true → result.told ≡ putter [] → ⊥)
     → AreTwoSettled pass₁ net keys result.net result.keys result.core → result.report ≡ client_report last.progress
     → IsClientRun core keys_reader net_reader writer screen result
 client_ran core last stopped keys_reader net_reader writer screen pass₀ pass₁ net keys result ep acted sn sk never settled er window at =
     let begin = start window.width window.height window.limit in
     let g = acted.goes.leads begin at in
-    let ns = reader_sent Net false net_reader net sn in
-    let ks = reader_sent Keys stopped keys_reader.reader keys sk.0 in
+    let ns = reader_sent Net None false net_reader net sn in
+    let ks = reader_sent Keys None stopped keys_reader.reader keys sk.0 in
     let view : pass₁ ≡ core_view acted.handled = acted.view ∙ ap (λ (w : View). with_handled w acted.handled) ep in
     let s = settled acted.handled ns.mails ks.mails view ns.is ks.is in
     let none = none_over acted.handled s.3.0 ns.mails [] [] ks.mails s.3.1 ns.ends tt tt ks.ends (omega (arith, ns.one, ks.one, acted.lefts)) in
     let woven : Interleaves acted.handled (four ns.mails [] [] ks.mails) =
     λ w. ap (from w) (sym (append-nil acted.handled) ∙ ap (λ (l : List Mail). acted.handled ++ l) (sym none)) ∙ s.3.1 w in
-    let typing : TypingSends Keys stopped keys_reader result.keys = subst (λ (w : View). TypingSends Keys stopped keys_reader w) (ks.is ∙ sym s.1) sk in
+    let typing : TypingSends Keys None stopped keys_reader result.keys = subst (λ (w : View). TypingSends Keys None stopped keys_reader w) (ks.is ∙ sym s.1) sk in
     let typed = typing.0 in
-    let read : ReaderSends Net false net_reader result.net = subst (λ (w : View). ReaderSends Net false net_reader w) (ns.is ∙ sym s.0) sn in
+    let read : ReaderSends Net None false net_reader result.net = subst (λ (w : View). ReaderSends Net None false net_reader w) (ns.is ∙ sym s.0) sn in
     let noted = client_noted begin g.0 acted.goes.steps acted.goes.marked acted.handled acted.goes.bytes result.noted g.5 acted.goes.of_steps acted.goes.whole
     acted.goes.all_bytes refl acted.noted in
     let said = client_said window.width window.height window.limit acted.goes.marked g.0 acted.goes.bytes noted.0 noted.2 in

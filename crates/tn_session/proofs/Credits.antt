@@ -7,7 +7,7 @@ use Rattle.tn_machines.specs.declared.messages.Message.{Message}
 use Rattle.tn_machines.specs.declared.messages.Message.TheVariants.{Piece, HangUp, ReadFailed, Take, Said, Refused, Left, Resized, Asked}
 use Rattle.tn_session.specs.Credits.{AnyTally, HaveUsed, none_taken, one_given, one_taken, owed_one, HaveTaken, piece_one, pieces_among, step_one, steps_among}
 use Rattle.tn_session.specs.Mailbox.{mail, sender}
-use Rattle.tn_session.specs.Reader.{sends}
+use Rattle.tn_session.specs.Reader.{SaysAll, sends}
 use Rattle.tn_session.specs.Stepping.{step_said}
 use Rattle.tn_session.specs.Reading.{IsEnding, Telling, piece_told, size_told, control_told, told_messages, pieces_in}
 use Rattle.tn_session.specs.declared.channels.View.{View}
@@ -20,7 +20,7 @@ use Rattle.tn_jobs.specs.declared.reactions.Reaction.{Reaction}
 use Rattle.tn_session.specs.declared.mail.Mail.{Mail}
 use Rattle.tn_session.specs.declared.mail.Sender.{Sender}
 use Rattle.tn_session.specs.declared.mail.Sender.TheVariants.{Net, Desk, Back, Keys}
-use Rattle.tn_session.proofs.Readers.{Says, said, said_two, said_piece, pieces-push}
+use Rattle.tn_session.proofs.Readers.{IsSaid, Says, if_said, said, said_all, said_piece, pieces-push}
 
 -- THE RULE
 
@@ -114,13 +114,15 @@ as_many : (n m : ℕ) (a b : Option CreditSeat) → n ≡ m → HaveTaken m a b 
 as_many n m a b e h = subst (λ (k : ℕ). HaveTaken k a b) (sym e) h
 
 -- the reading ended
-pub paid_ends : (who : Sender) (told : List Telling) (last : Message) (left : Option (List ℕ)) (v w u : View) (a b : Option CreditSeat) → IsEnding last left
-    → HaveTaken (length (pieces_in told)) a b → v ≡ sends who (told_messages told) → Says who last v w → Says who Left w u → (mails : List Mail)
-    → u ≡ sender who mails → HaveTaken (pieces_among mails) a b
-paid_ends who told last left v w u a b ending taken old one two mails e =
-    let whole = said_two who (told_messages told) last Left v w u old one two in
-    as_many (pieces_among mails) (length (pieces_in told)) a b (counted who told (last ∷ Left ∷ []) u mails whole (omega (arith, no_piece last left ending)) e)
-    taken
+pub paid_ends : (who : Sender) (told : List Telling) (last : Message) (left : Option (List ℕ)) (text : List Message) (v w : View) (a b : Option CreditSeat)
+    → IsEnding last left → IsSaid text → HaveTaken (length (pieces_in told)) a b → v ≡ sends who (told_messages told)
+    → SaysAll who (text ++ last ∷ Left ∷ []) v w → (mails : List Mail) → w ≡ sender who mails → HaveTaken (pieces_among mails) a b
+paid_ends who told last left text v w a b ending is taken old says mails e =
+    let whole = said_all who (told_messages told) (text ++ last ∷ Left ∷ []) v w old says in
+    let one : pieces_among (map (mail who) (last ∷ Left ∷ [])) ≡ 0 = omega (arith, no_piece last left ending) in
+    let none = if_said (λ (ms : List Message). pieces_among (map (mail who) (ms ++ last ∷ Left ∷ [])) ≡ 0) text is one
+    (λ job words. omega (arith, no_piece last left ending)) in
+    as_many (pieces_among mails) (length (pieces_in told)) a b (counted who told (text ++ last ∷ Left ∷ []) w mails whole none e) taken
 
 -- it was stopped after a piece
 pub paid_stops : (who : Sender) (told : List Telling) (p : List ℕ) (v w u : View) (a b d : Option CreditSeat) → HaveTaken (length (pieces_in told)) a b

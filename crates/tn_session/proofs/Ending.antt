@@ -1,5 +1,5 @@
 -- What the run heard of the reader, and what the foreground job took where a hang-up ended the session.
-use Rattle.std.proofs.Common.{◌≡◌, ℕ, Bool, true, false, ◌&&◌, length, List, [], ◌∷◌, ◌++◌, Option, Some, None, refl, sym, ap, ◌∙◌, ⊎_elim, map, subst}
+use Rattle.std.proofs.Common.{◌≡◌, ℕ, Bool, true, false, ◌&&◌, length, List, [], ◌∷◌, ◌++◌, Option, Some, None, refl, sym, ap, ◌∙◌, ⊎_elim, inl, inr, map, subst}
 use Rattle.std.proofs.Common.{append-nil, append_assoc}
 use Rattle.std.proofs.lemmas.List.{append_cancel_left}
 use Rattle.std.specs.Io.KnownBytes.{Consumes, IsAtEnd, prepend_known}
@@ -8,16 +8,18 @@ use Rattle.tn_discipline.specs.declared.reads.Entry.{Entry}
 use Rattle.tn_jobs.specs.Jobs.{Jobs}
 use Rattle.tn_jobs.specs.declared.held_jobs.JobId.{JobId}
 use Rattle.tn_jobs.specs.declared.reactions.Reaction.{Reaction}
+use Rattle.tn_jobs.specs.declared.verdicts.After.TheVariants.{Stay}
 use Rattle.tn_server.specs.Events.{items}
 use Rattle.tn_server.specs.Lines.{entries}
 use Rattle.tn_session.proofs.Causes.{from_hit, from_miss, HasFailure, has_failure, failure_from, failure_last, never_and, write_failed}
 use Rattle.tn_session.proofs.Lefts.{same_self}
 use Rattle.tn_session.proofs.Mailbox.{sender_share}
-use Rattle.tn_session.proofs.Readers.{closes_ending}
+use Rattle.tn_session.proofs.Readers.{IsSaid, closes_ending, if_said, is_said}
 use Rattle.tn_session.specs.Acts.{JobActs}
 use Rattle.tn_session.specs.Facts.{SessionJobs, SessionResult, TermSettings}
 use Rattle.tn_session.specs.Mailbox.{same, from, sender, mail}
 use Rattle.tn_queue.specs.Queue.{taker}
+use Rattle.tn_session.specs.Reader.{SaysLast}
 use Rattle.tn_session.specs.Reading.{IsEnding, IsReadCause, max_reads, Telling, piece_told, size_told, control_told, told_messages, pieces_in}
 use Rattle.tn_session.specs.Session.{Schedule, HearsReader, TakesEntries}
 use Rattle.tn_session.specs.Stepping.{step_said}
@@ -160,6 +162,41 @@ net_bytes [] (Said id t a) left e = absurd e
 net_bytes [] Left left e = absurd e
 net_bytes [] (Resized s) left e = absurd e
 net_bytes [] (Asked control) left e = absurd e
+
+-- what is said of the reader before that brings nothing, ends nothing and is no failure
+text_may : (at_end : Bool) (ms rest : List Message) (job : JobId) (text : List ℕ) → MayAllCome at_end (ms ++ rest)
+    → MayAllCome at_end (ms ++ Said job text Stay ∷ rest)
+text_may at_end [] rest job text m = (tt, m)
+text_may at_end (x ∷ ms) rest job text m = (m.0, text_may (at_end_after at_end x) ms rest job text m.1)
+
+text_bytes : (ms rest : List Message) (job : JobId) (text : List ℕ) → heard (ms ++ Said job text Stay ∷ rest) ≡ heard (ms ++ rest)
+text_bytes [] rest job text = refl
+text_bytes (x ∷ ms) rest job text = ap (λ (bs : List ℕ). bytes_in x ++ bs) (text_bytes ms rest job text)
+
+text_fails : (ms rest : List Message) (job : JobId) (text : List ℕ) → HasFailure (ms ++ Said job text Stay ∷ rest) → HasFailure (ms ++ rest)
+text_fails [] rest job text h = ⊎_elim (λ e. absurd (no_text e)) (λ f. f) h
+  where
+    no_text : Said job text Stay ≡ ReadFailed → ⊥
+    no_text e = cc
+text_fails (x ∷ ms) rest job text h = ⊎_elim (λ e. inl e) (λ f. inr (text_fails ms rest job text f)) h
+
+said_may : (told : List Telling) (said : List Message) (last : Message) (left : Option (List ℕ)) → IsSaid said → IsEnding last left
+    → MayAllCome false (told_messages told ++ (said ++ last ∷ Left ∷ []))
+said_may told said last left is e =
+    if_said (λ (ms : List Message). MayAllCome false (told_messages told ++ (ms ++ last ∷ Left ∷ []))) said is (net_may told last left e)
+    (λ job text. text_may false (told_messages told) (last ∷ Left ∷ []) job text (net_may told last left e))
+
+said_bytes : (told : List Telling) (said : List Message) (last : Message) (left : Option (List ℕ)) → IsSaid said → IsEnding last left
+    → heard (told_messages told ++ (said ++ last ∷ Left ∷ [])) ≡ concat (pieces_in told)
+said_bytes told said last left is e =
+    if_said (λ (ms : List Message). heard (told_messages told ++ (ms ++ last ∷ Left ∷ [])) ≡ concat (pieces_in told)) said is (net_bytes told last left e)
+    (λ job text. text_bytes (told_messages told) (last ∷ Left ∷ []) job text ∙ net_bytes told last left e)
+
+said_fails : (told : List Telling) (said : List Message) (last : Message) → IsSaid said → HasFailure (told_messages told ++ (said ++ last ∷ Left ∷ []))
+    → last ≡ ReadFailed
+said_fails told said last is =
+    if_said (λ (ms : List Message). HasFailure (told_messages told ++ (ms ++ last ∷ Left ∷ [])) → last ≡ ReadFailed) said is (failure_last told last)
+    (λ job text h. failure_last told last (text_fails (told_messages told) (last ∷ Left ∷ []) job text h))
 
 none_fails : (ms : List Message) → NoneOfNet ms → HasFailure ms → ⊥
 none_fails [] n h = h
@@ -309,16 +346,21 @@ module _ {J : Type 0} {facts : JobActs J} {jobs : SessionJobs J} {settings : Ter
   none_of_others Keys e = subst (λ (l : List Mail). NoneOfNet (messages_of l)) (sym (s.woven Keys)) tt
 
   -- how the reading ended: nothing stops the thread that reads from the network
-  net_end : (last : Message) × (IsEnding last s.read.1 × IsReadCause reader.failures (length (pieces_in s.read.0)) last) × (s.read.2 ≡ last ∷ Left ∷ [])
-  net_end = closes_ending (pieces_in s.read.0) s.read.1 reader.failures s.read.2 s.read.4
+  net_end : (last : Message) × (IsEnding last s.read.1 × IsReadCause reader.failures (length (pieces_in s.read.0)) last) × (said : List Message)
+      × SaysLast (Some jobs.first) reader.words last said × (s.read.2 ≡ said ++ last ∷ Left ∷ [])
+  net_end = closes_ending (Some jobs.first) reader (pieces_in s.read.0) s.read.1 s.read.2 s.read.4
 
-  net_said : messages_of (from Net s.handled) ≡ told_messages s.read.0 ++ net_end.0 ∷ Left ∷ []
+  -- and what was said of the reader
+  net_words : IsSaid net_end.2
+  net_words = is_said (Some jobs.first) reader.words net_end.0 net_end.2 net_end.3
+
+  net_said : messages_of (from Net s.handled) ≡ told_messages s.read.0 ++ (net_end.2 ++ net_end.0 ∷ Left ∷ [])
   net_said =
       messages_from Net result.views.net s.from_net s.handled (told_messages s.read.0 ++ s.read.2) s.net_is s.read.5 (s.woven Net)
-      ∙ ap (λ (ms : List Message). told_messages s.read.0 ++ ms) net_end.2
+      ∙ ap (λ (ms : List Message). told_messages s.read.0 ++ ms) net_end.4
 
   nets : OfNet false s.handled
-  nets = of_net false s.handled none_of_others (subst (MayAllCome false) (sym net_said) (net_may s.read.0 net_end.0 s.read.1 net_end.1.0))
+  nets = of_net false s.handled none_of_others (subst (MayAllCome false) (sym net_said) (said_may s.read.0 net_end.2 net_end.0 s.read.1 net_words net_end.1.0))
 
   -- no piece follows the end of the input
   pub may_come : MayAllCome false messages
@@ -326,7 +368,7 @@ module _ {J : Type 0} {facts : JobActs J} {jobs : SessionJobs J} {settings : Ter
 
   -- the pieces that were handled are those that were read
   pub all_pieces : heard messages ≡ concat (pieces_in s.read.0)
-  all_pieces = ap heard s.messages ∙ nets.bytes ∙ ap heard net_said ∙ net_bytes s.read.0 net_end.0 s.read.1 net_end.1.0
+  all_pieces = ap heard s.messages ∙ nets.bytes ∙ ap heard net_said ∙ said_bytes s.read.0 net_end.2 net_end.0 s.read.1 net_words net_end.1.0
 
   -- and so those that its pass knows
   pub came_by_net : heard messages ≡ came_by result.views.net.net
@@ -342,7 +384,8 @@ module _ {J : Type 0} {facts : JobActs J} {jobs : SessionJobs J} {settings : Ter
     all = λ e.
         let u = hung e in
         let keeps = keep_from jobs.first.0 Net s.handled (subst (AllKeepOn jobs.first.0) s.messages u.kept_on) in
-        let last = keep_last jobs.first.0 (told_messages s.read.0) net_end.0 (Left ∷ []) (subst (AllKeepOn jobs.first.0) net_said keeps) in
+        let parted = net_said ∙ sym (append_assoc (told_messages s.read.0) net_end.2 (net_end.0 ∷ Left ∷ [])) in
+        let last = keep_last jobs.first.0 (told_messages s.read.0 ++ net_end.2) net_end.0 (Left ∷ []) (subst (AllKeepOn jobs.first.0) parted keeps) in
         at_end_still s.read.1 h.unheard (none_unheard s.run.stream h.unheard (heard messages) h.stream_first u.all_heard)
         (net_at_end jobs.first.0 net_end.0 s.read.1 net_end.1.0 last);
     read = h.read;
@@ -395,7 +438,7 @@ module _ {J : Type 0} {facts : JobActs J} {jobs : SessionJobs J} {settings : Ter
       cause_of last e cause = subst (λ (m : Message). IsReadCause reader.failures (length (pieces_in s.read.0)) m) e cause
 
       by : (r : Sender) → HasFailure (messages_of (from r s.handled)) → WillFail max_reads (length (pieces_in s.read.0)) reader.failures
-      by Net h = cause_of net_end.0 (failure_last s.read.0 net_end.0 (subst HasFailure net_said h)) net_end.1.1
+      by Net h = cause_of net_end.0 (said_fails s.read.0 net_end.2 net_end.0 net_words (subst HasFailure net_said h)) net_end.1.1
       by Desk h = absurd (none_fails (messages_of (from Desk s.handled)) none_of_desk h)
       by Back h = absurd (none_fails (messages_of (from Back s.handled)) none_of_back h)
       by Keys h = absurd (none_fails (messages_of (from Keys s.handled)) (none_of_others Keys refl) h)

@@ -1,21 +1,23 @@
 -- A sender's list, message by message, and that of a thread that reads.
 use Rattle.std.proofs.Common.{◌≡◌, ◌≢◌, ℕ, Bool, true, false, List, [], ◌∷◌, ◌++◌, Option, Some, None, option_to_list, append-nil, refl, sym, ap, ◌∙◌, ⊎_elim}
-use Rattle.std.proofs.Common.{inl, inr, append_assoc, length, map, subst, All}
+use Rattle.std.proofs.Common.{◌⊎◌, inl, inr, append_assoc, length, map, subst, All}
 use Rattle.std.proofs.lemmas.List.{map-append}
 use Rattle.std.proofs.lemmas.List.Elements.{All-push}
 use Rattle.std.specs.Io.KnownBytes.{Consumes}
 use Rattle.std.specs.List.{concat}
+use Rattle.tn_jobs.specs.declared.held_jobs.JobId.{JobId}
+use Rattle.tn_jobs.specs.declared.verdicts.After.TheVariants.{Stay}
 use Rattle.tn_session.specs.Mailbox.{mail, sender}
-use Rattle.tn_session.specs.Reader.{Closes, ReaderSends, TypingSends, SaysThese, one_size, one_control, sends}
+use Rattle.tn_session.specs.Reader.{Closes, ReaderSends, TypingSends, SaysAll, SaysEnd, SaysLast, SaysThese, one_size, one_control, said_by, sends}
 use Rattle.tn_session.specs.Reading.{IsEnding, IsPiece, IsReadCause, Telling, piece_told, size_told, control_told, message_of, told_messages, pieces_in}
 use Rattle.tn_session.specs.Reading.{sizes_in, controls_in}
 use Rattle.tn_streams.specs.Foretelling.{Failures}
-use Rattle.tn_streams.specs.Known.{KnownTyping}
+use Rattle.tn_streams.specs.Known.{KnownReader, KnownTyping}
 use Rattle.tn_session.specs.declared.channels.View.{View}
 use Rattle.tn_session.specs.declared.mail.Mail.{Mail}
 use Rattle.tn_session.specs.declared.mail.Sender.{Sender}
 use Rattle.tn_machines.specs.declared.messages.Message.{Message}
-use Rattle.tn_machines.specs.declared.messages.Message.TheVariants.{Piece, Left}
+use Rattle.tn_machines.specs.declared.messages.Message.TheVariants.{Piece, HangUp, ReadFailed, Take, Said, Refused, Left, Resized, Asked}
 use Rattle.tn_streams.specs.Beside.{TellsNext, TellsList, TellsFirst}
 use Rattle.tn_streams.specs.declared.control.Control.{Control}
 use Rattle.tn_streams.specs.declared.window.WindowSize.{WindowSize}
@@ -26,6 +28,62 @@ Says who m v w = (l : List Mail) → v ≡ sender who l → w ≡ sender who (l 
 
 pub said : (who : Sender) (ms : List Message) (m : Message) (v w : View) → v ≡ sends who ms → Says who m v w → w ≡ sends who (ms ++ m ∷ [])
 said who ms m v w old says = says (map (mail who) ms) old ∙ ap (sender who) (sym (map-append (mail who) ms (m ∷ [])))
+
+pub said_all : (who : Sender) (ms more : List Message) (v w : View) → v ≡ sends who ms → SaysAll who more v w → w ≡ sends who (ms ++ more)
+said_all who ms more v w old says = says (map (mail who) ms) old ∙ ap (sender who) (sym (map-append (mail who) ms more))
+
+-- these, and then one more
+pub says_more : (who : Sender) (ms : List Message) (m : Message) (v w u : View) → SaysAll who ms v w → Says who m w u → SaysAll who (ms ++ m ∷ []) v u
+says_more who ms m v w u one two l e =
+    two (l ++ map (mail who) ms) (one l e) ∙ ap (sender who) (append_assoc l (map (mail who) ms) (mail who m ∷ []))
+    ∙ ap (λ (ns : List Mail). sender who (l ++ ns)) (sym (map-append (mail who) ms (m ∷ [])))
+
+-- what is said of a reader, and then how the reading ended
+pub says_end : (who : Sender) (job : Option JobId) (words : List (List ℕ)) (last end : Message) (said : List Message) (v w u t : View)
+    → (end ≡ last) ⊎ (end ≡ Refused) → SaysLast job words end said → SaysAll who said v w → Says who end w u → Says who Left u t
+    → SaysEnd who job words last v t
+says_end who job words last end said v w u t is lasts one two three =
+    let all = says_more who (said ++ end ∷ []) Left v u t (says_more who said end v w u one two) three in
+    record {
+      end = end;
+      said = said;
+      is = is;
+      lasts = lasts;
+      says = λ l e. all l e ∙ ap (λ (ms : List Message). sender who (l ++ map (mail who) ms)) (append_assoc said (end ∷ []) (Left ∷ []));
+    }
+
+-- where memory ran out, or no job says them, nothing is said
+pub none_last : (job : Option JobId) (words : List (List ℕ)) → SaysLast job words Refused []
+none_last None words = refl
+none_last (Some job) words = refl
+
+-- WHAT IS SAID LAST OF A READER
+
+-- nothing, or one text
+abbrev pub IsSaid : List Message → Type 0
+IsSaid said = (said ≡ []) ⊎ ((job : JobId) × (text : List ℕ) × (said ≡ Said job text Stay ∷ []))
+
+by_text : (job : JobId) (words : List ℕ) (said : List Message) → said ≡ said_by job words → IsSaid said
+by_text job [] said e = inl e
+by_text job (byte ∷ bytes) said e = inr (job, byte ∷ bytes, e)
+
+pub is_said : (job : Option JobId) (words : List (List ℕ)) (last : Message) (said : List Message) → SaysLast job words last said → IsSaid said
+is_said None words last said e = inl e
+is_said (Some job) words HangUp said (text, one, e) = by_text job text said e
+is_said (Some job) words (Piece p) said e = inl e
+is_said (Some job) words ReadFailed said e = inl e
+is_said (Some job) words Take said e = inl e
+is_said (Some job) words (Said id text after) said e = inl e
+is_said (Some job) words Refused said e = inl e
+is_said (Some job) words Left said e = inl e
+is_said (Some job) words (Resized size) said e = inl e
+is_said (Some job) words (Asked control) said e = inl e
+
+-- what holds of both
+pub if_said : (P : List Message → Type 0) (said : List Message) → IsSaid said → P [] → ((job : JobId) (text : List ℕ) → P (Said job text Stay ∷ []))
+    → P said
+if_said P said is none text =
+    ⊎_elim (λ e. subst P (sym e) none) (λ x. subst P (sym x.2) (text x.0 x.1)) is
 
 pub said_two : (who : Sender) (ms : List Message) (m n : Message) (v w u : View) → v ≡ sends who ms → Says who m v w → Says who n w u
     → u ≡ sends who (ms ++ m ∷ n ∷ [])
@@ -152,21 +210,32 @@ some_pieces [] p e = cc
 some_pieces (q ∷ qs) p e = cc
 
 -- the reading ended
-pub reader_ends : (who : Sender) (may_stop : Bool) (typing : KnownTyping) (left : Option (List ℕ)) (told : List Telling) (last : Message) (v w u : View)
+pub reader_ends : (who : Sender) (job : Option JobId) (may_stop : Bool) (typing : KnownTyping) (left : Option (List ℕ)) (told : List Telling) (last : Message)
+    (said : List Message) (v w : View)
     → Consumes typing.reader.bytes left (concat (pieces_in told)) → IsEnding last left → IsReadCause typing.reader.failures (length (pieces_in told)) last
-    → v ≡ sends who (told_messages told) → All IsPiece (pieces_in told) → TellsFirst typing.reader.sizes (sizes_in told)
-    → TellsFirst typing.controls (controls_in told) → Says who last v w → Says who Left w u → TypingSends who may_stop typing u
-reader_ends who may_stop typing left told last v w u consumed ending cause old small sizes controls one two = (
-  (told, left, last ∷ Left ∷ [], consumed, inl (last, (ending, cause), refl), said_two who (told_messages told) last Left v w u old one two, small, sizes),
+    → SaysLast job typing.reader.words last said → v ≡ sends who (told_messages told) → All IsPiece (pieces_in told)
+    → TellsFirst typing.reader.sizes (sizes_in told) → TellsFirst typing.controls (controls_in told) → SaysAll who (said ++ last ∷ Left ∷ []) v w
+    → TypingSends who job may_stop typing w
+reader_ends who job may_stop typing left told last said v w consumed ending cause lasts old small sizes controls says = (
+  (
+    told,
+    left,
+    said ++ last ∷ Left ∷ [],
+    consumed,
+    inl (last, (ending, cause), said, lasts, refl),
+    said_all who (told_messages told) (said ++ last ∷ Left ∷ []) v w old says,
+    small,
+    sizes,
+  ),
   controls,
 )
 
 -- it was stopped after a piece
-pub reader_stops : (who : Sender) (may_stop : Bool) (typing : KnownTyping) (left : Option (List ℕ)) (told : List Telling) (p : List ℕ) (v w u : View)
+pub reader_stops : (who : Sender) (job : Option JobId) (may_stop : Bool) (typing : KnownTyping) (left : Option (List ℕ)) (told : List Telling) (p : List ℕ) (v w u : View)
     → Consumes typing.reader.bytes left (concat (pieces_in told ++ p ∷ [])) → may_stop ≡ true → v ≡ sends who (told_messages told)
     → All IsPiece (pieces_in told) → IsPiece p → TellsFirst typing.reader.sizes (sizes_in told) → TellsFirst typing.controls (controls_in told)
-    → Says who (Piece p) v w → Says who Left w u → TypingSends who may_stop typing u
-reader_stops who may_stop typing left told p v w u consumed may old small fits sizes controls one two =
+    → Says who (Piece p) v w → Says who Left w u → TypingSends who job may_stop typing u
+reader_stops who job may_stop typing left told p v w u consumed may old small fits sizes controls one two =
     let all = told ++ piece_told p ∷ [] in
     let is : pieces_in all ≡ pieces_in told ++ p ∷ [] = pieces-push told p in
     let Bytes : List (List ℕ) → Type 0 = λ ps. Consumes typing.reader.bytes left (concat ps) in (
@@ -184,17 +253,18 @@ reader_stops who may_stop typing left told p v w u consumed may old small fits s
     )
 
 -- a thread that is never stopped says how its reading ended
-pub closes_ending : (pieces : List (List ℕ)) (left : Option (List ℕ)) (foretold : Option Failures) (close : List Message)
-    → Closes false pieces left foretold close → (last : Message) × (IsEnding last left × IsReadCause foretold (length pieces) last) × (close ≡ last ∷ Left ∷ [])
-closes_ending pieces left foretold close closes = ⊎_elim (λ x. x) (λ x. absurd (false_true x.0)) closes
+pub closes_ending : (job : Option JobId) (reader : KnownReader) (pieces : List (List ℕ)) (left : Option (List ℕ)) (close : List Message)
+    → Closes job false reader pieces left close → (last : Message) × (IsEnding last left × IsReadCause reader.failures (length pieces) last)
+    × (said : List Message) × SaysLast job reader.words last said × (close ≡ said ++ last ∷ Left ∷ [])
+closes_ending job reader pieces left close closes = ⊎_elim (λ x. x) (λ x. absurd (false_true x.0)) closes
   where
     false_true : false ≡ true → ⊥
     false_true e = cc
 
 -- the same, of what a promise says of who reads and of its flag
-pub sends_as : (who other : Sender) (stop may_stop : Bool) (typing : KnownTyping) (v : View) → who ≡ other → stop ≡ may_stop → TypingSends who stop typing v
-    → TypingSends other may_stop typing v
-sends_as who other stop may_stop typing v e f sent =
-    let P : Sender → Type 0 = λ s. TypingSends s may_stop typing v in
-    let Q : Bool → Type 0 = λ b. TypingSends who b typing v in
+pub sends_as : (who other : Sender) (says job : Option JobId) (may_stop : Bool) (typing : KnownTyping) (v : View) → who ≡ other → says ≡ job
+    → TypingSends who says may_stop typing v → TypingSends other job may_stop typing v
+sends_as who other says job may_stop typing v e f sent =
+    let P : Sender → Type 0 = λ s. TypingSends s job may_stop typing v in
+    let Q : Option JobId → Type 0 = λ j. TypingSends who j may_stop typing v in
     subst P e (subst Q f sent)

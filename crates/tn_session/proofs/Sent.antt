@@ -2,6 +2,8 @@
 use Rattle.std.proofs.Common.{◌≡◌, ℕ, Bool, List, [], ◌∷◌, ◌++◌, Option, refl, sym, ap, ◌∙◌, ⊎_elim, map, subst, append_assoc, arith}
 use Rattle.std.proofs.lemmas.List.{map-append}
 use Rattle.tn_session.proofs.Lefts.{EndsLeft, lefts-append}
+use Rattle.tn_jobs.specs.declared.held_jobs.JobId.{JobId}
+use Rattle.tn_session.proofs.Readers.{if_said, is_said}
 use Rattle.tn_session.specs.Mailbox.{sender, mail}
 use Rattle.tn_session.specs.Reader.{ReaderSends}
 use Rattle.tn_session.specs.Reading.{IsEnding, Telling, piece_told, size_told, control_told, told_messages}
@@ -72,12 +74,16 @@ sent_by s ms all v n e is =
     record { mails = map (mail s) all; is = is; ends = o.ends; one = o.one }
 
 -- a thread that reads
-pub reader_sent : (who : Sender) (may_stop : Bool) (reader : KnownReader) (v : View) → ReaderSends who may_stop reader v → Sent who v
-reader_sent who may_stop reader v (told, left, close, consumed, closes, is, small, sizes) =
+pub reader_sent : (who : Sender) (job : Option JobId) (may_stop : Bool) (reader : KnownReader) (v : View) → ReaderSends who job may_stop reader v → Sent who v
+reader_sent who job may_stop reader v (told, left, close, consumed, closes, is, small, sizes) =
     let read = told_messages told in
     let P : List Message → Type 0 = λ ms. v ≡ sender who (map (mail who) (read ++ ms)) in
     ⊎_elim
-    (λ x. sent_by who (read ++ x.0 ∷ []) (read ++ x.0 ∷ Left ∷ []) v (no_left-append read (x.0 ∷ []) (told_stay told) (ending_stays x.0 left x.1.0, tt))
-    (sym (append_assoc read (x.0 ∷ []) (Left ∷ []))) (subst P x.2 is))
+    (λ x.
+    let last = x.2 ++ x.0 ∷ [] in
+    let stay = if_said (λ (ms : List Message). NoLeft (ms ++ x.0 ∷ [])) x.2 (is_said job reader.words x.0 x.2 x.3)
+    (ending_stays x.0 left x.1.0, tt) (λ id text. (refl, (ending_stays x.0 left x.1.0, tt))) in
+    let whole = ap (λ (ms : List Message). read ++ ms) (sym (append_assoc x.2 (x.0 ∷ []) (Left ∷ []))) ∙ sym (append_assoc read last (Left ∷ [])) in
+    sent_by who (read ++ last) (read ++ (x.2 ++ x.0 ∷ Left ∷ [])) v (no_left-append read last (told_stay told) stay) whole (subst P x.4 is))
     (λ x. sent_by who read (read ++ Left ∷ []) v (told_stay told) refl (subst P x.2 is))
     closes

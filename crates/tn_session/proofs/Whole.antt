@@ -201,7 +201,7 @@ pub scheduled : {J : Type 0} (facts : JobActs J) (jobs : SessionJobs J) (stopped
     (noted₀ : Noted) (term mid last : Term) (pass₀ : View) (hand₀ : EntryHand) (ended : SessionViews) (result : SessionResult)
     → pass₀ ≡ handler [] → hand₀ ≡ putter [] → IsOpening term words (from_to x y) no_notes noted₀ mid
     → HandlesAll mid pass₀ ended.term hand₀ ended.put (from_to y z) noted₀ result.noted ended.told last
-    → ReaderSends Net false reader ended.net → IsTalk {J = J} jobs.first (IsJob jobs.job) facts ended.desk ended.took
+    → ReaderSends Net (Some jobs.first) false reader ended.net → IsTalk {J = J} jobs.first (IsJob jobs.job) facts ended.desk ended.took
     → AreSteps {J = J} (Holds jobs.queue) facts (queue_of jobs.tostop jobs.queue) stopped ended.back → (stopped ≡ true → ended.told ≡ putter [] → ⊥)
     → AreSettled ended result.views → result.report ≡ report_of last.progress
     → IsRun {J = J} facts jobs term words reader (from_to x z) result
@@ -211,7 +211,7 @@ scheduled {J} facts jobs stopped words reader x y z noted₀ term mid last pass�
     let editing = settings.editing in
     let begin = run_after_opening o.written (start canon editing table) in
     let g = acted.goes.leads begin (o.leads (start canon editing table) at) in
-    let ns = reader_sent Net false reader ended.net sn in
+    let ns = reader_sent Net (Some jobs.first) false reader ended.net sn in
     let ds = desk_sent jobs.first (IsJob jobs.job) facts ended.desk ended.took talked in
     let bs = back_sent (Holds jobs.queue) facts (queue_of jobs.tostop jobs.queue) stopped ended.back stepped in
     let puts : g.0.puts ≡ acted.puts = g.3 ∙ ap (λ (ps : List (Option Entry)). ps ++ acted.puts) (no_puts o.written canon editing table) in
@@ -230,7 +230,7 @@ scheduled {J} facts jobs stopped words reader x y z noted₀ term mid last pass�
     let transcript = noted_all begin g.0 acted.goes.steps acted.goes.marked acted.handled noted₀ o.wrote.front result.noted g.7 acted.goes.of_steps
     acted.goes.whole up (ap notes o.wrote.noted) acted.noted in
     let all_bytes : acted.goes.bytes ≡ total acted.goes.steps = acted.goes.all_bytes in
-    let N : View → Type 0 = λ v. ReaderSends Net false reader v in
+    let N : View → Type 0 = λ v. ReaderSends Net (Some jobs.first) false reader v in
     let B : View → Type 0 = λ v. AreSteps {J = J} (Holds jobs.queue) facts (queue_of jobs.tostop jobs.queue) stopped v in
     let woven : Interleaves acted.handled (four ns.mails ds.sent.mails bs.mails []) =
     λ r. ap (from r) (sym (append-nil acted.handled) ∙ ap (λ (l : List Mail). acted.handled ++ l) (sym none)) ∙ all.6.1 r in

@@ -3,3 +3,4 @@ pub mod ClientTurns
 pub mod Transcribing
 pub mod Sessions
 pub mod Noting
+pub mod Plain

@@ -98,8 +98,8 @@ pub record RunningClient (window : Window) (keys : KnownTyping) (net : KnownRead
   pub woven : Interleaves handled (four from_net [] [] from_keys)
   -- the pieces are prefixes of what the readers gave
   pub stopped : Bool
-  pub typed : ReaderSends Keys stopped keys.reader result.keys
-  pub read : ReaderSends Net false net result.net
+  pub typed : ReaderSends Keys None stopped keys.reader result.keys
+  pub read : ReaderSends Net None false net result.net
   -- the run of the messages with their marks
   pub marked : List (Told × ClientMark)
   pub messages : map (λ m. m.0) marked ≡ all_told handled

@@ -95,8 +95,9 @@ pub record Schedule {J : Type 0} (acts : JobActs J) (jobs : SessionJobs J) (sett
   pub term_is : result.views.term.handled ≡ Some handled
   -- one: what was handled is an interleaving of all that was sent
   pub woven : Interleaves handled (four from_net from_desk from_back [])
-  -- two: the pieces are a prefix of what the reader gave
-  pub read : ReaderSends Net false reader result.views.net
+  -- two: the pieces are a prefix of what the reader gave; before a hang-up stand the reader's last words, if
+  -- it has any, as a text of the foreground job
+  pub read : ReaderSends Net (Some jobs.first) false reader result.views.net
   -- three: the run of the messages with their marks; what was written of what it sends, and what was put
   pub wrote_opening : Bool
   pub marked : List (Message × ServerMark)

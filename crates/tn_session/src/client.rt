@@ -172,17 +172,18 @@ where
     requires mailbox { (receives_on ends.from ≡ sends_on ends.to) × IsSeatAt (sends_on ends.to) pass ×
         (view pass ≡ core_view []) }
     requires net { (sends_on started.net.promise.to.value ≡ sends_on ends.to) ×
-        (started.net.promise.who ≡ Sender.Net) × (started.net.promise.stops.value ≡ None) }
+        (started.net.promise.who ≡ Sender.Net) × (started.net.promise.stops.value ≡ None) ×
+        (started.net.promise.job ≡ None) }
     requires keys { (sends_on started.keys.promise.to.value ≡ sends_on ends.to) ×
-        (started.keys.promise.who ≡ Sender.Keys) }
+        (started.keys.promise.who ≡ Sender.Keys) × (started.keys.promise.job ≡ None) }
     requires stops { IfSome started.keys.promise.stops.value (λ seat. AreNewStops watched.stops seat) }
     requires teller { IsSeatAt (sends_on watched.stops.to) watched.stops.pass ×
         (view watched.stops.pass ≡ putter []) }
     ensures fault { IfErr result (λ fault. fault ≡ SessionFault.Channel) }
     ensures ran { IfOk result (λ r.
-        IsClientRun core.old (known_typing K.remaining K.foretold K.sizes K.controls
-        started.keys.promise.reader.value)
-        (known_reader N.remaining N.foretold N.sizes started.net.promise.reader.value)
+        IsClientRun core.old
+        (known_typing K.remaining K.foretold K.sizes K.words K.controls started.keys.promise.reader.value)
+        (known_reader N.remaining N.foretold N.sizes N.words started.net.promise.reader.value)
         (known_writing W.contents W.told writer.old writer.new)
         (known_writing S.contents S.told screen.old screen.new) (client_result r.0 r.1)) }
     ensures finished { IfOk result (λ r. IsFinished (W.sending writer.old) (W.sending writer.new)) }
@@ -234,8 +235,8 @@ where
     requires stops { AreNewStops outfit.watched.stops outfit.stops }
     ensures fault { IfErr result IsOfThreads }
     ensures ran { IfOk result (λ r.
-        IsClientRun core.old (known_typing K.remaining K.foretold K.sizes K.controls readers.keys)
-        (known_reader N.remaining N.foretold N.sizes readers.net)
+        IsClientRun core.old (known_typing K.remaining K.foretold K.sizes K.words K.controls readers.keys)
+        (known_reader N.remaining N.foretold N.sizes N.words readers.net)
         (known_writing W.contents W.told writer.old writer.new)
         (known_writing S.contents S.told screen.old screen.new) (client_result r.0 r.1)) }
     ensures finished { IfOk result (λ r. IsFinished (W.sending writer.old) (W.sending writer.new)) }
@@ -248,6 +249,7 @@ where
     } = outfit.mailbox;
     let part = ReaderPart {
         who: Sender::Net,
+        job: None,
         place: Place::NetPiece,
         gate: outfit.net_gate,
     };
@@ -257,6 +259,7 @@ where
     };
     let part = ReaderPart {
         who: Sender::Keys,
+        job: None,
         place: Place::KeysPiece,
         gate: outfit.keys_gate,
     };
@@ -306,8 +309,8 @@ where
     ensures fault { IfErr result IsRefusal }
     ensures ran { IfOk result (λ r.
         RunningClient (record { width = width; height = height; limit = limit })
-        (known_typing K.remaining K.foretold K.sizes K.controls keys_reader)
-        (known_reader N.remaining N.foretold N.sizes net_reader)
+        (known_typing K.remaining K.foretold K.sizes K.words K.controls keys_reader)
+        (known_reader N.remaining N.foretold N.sizes N.words net_reader)
         (known_writing W.contents W.told net_writer.old net_writer.new)
         (known_writing S.contents S.told screen.old screen.new) (client_result r.0 r.1)) }
     ensures finished { IfOk result (λ r. IsFinished (W.sending net_writer.old) (W.sending net_writer.new)) }

@@ -1,11 +1,12 @@
 //! The threads that read: one from the network, and in a client's session one the keys.
 
-ghost use Rattle.std.specs.Prelude.{◌≡◌, List, [], IfSome};
+ghost use Rattle.std.specs.Prelude.{◌≡◌, ◌⊎◌, List, [], IfOk, IfSome, option_to_list};
 ghost use Rattle.crossbeam_channel.specs.Claims.{view, IsSeatAt};
 ghost use Rattle.crossbeam_channel.specs.Ends.{sends_on};
 ghost use Rattle.tn_session.specs.Credits.{HaveTaken, IsSeated, pieces_among};
 ghost use Rattle.tn_session.specs.Mailbox.{sender};
 ghost use Rattle.tn_session.specs.Reader.{TypingSends, SaysSize, SaysControl, SaysBeside};
+ghost use Rattle.tn_session.specs.Reader.{SaysAll, SaysEnd, SaysLast};
 ghost use Rattle.tn_session.specs.Reading.{Gives, IsForetold};
 ghost use Rattle.tn_session.specs.Stops.{StopsStay, has_stopped};
 ghost use Rattle.tn_session.specs.declared.mail.Mail.{Mail as MailT};
@@ -17,9 +18,10 @@ use crate::mail::Sender;
 use crate::parties::{Gate, Place};
 use crate::sending::say;
 use crate::stops::{StopSeat, is_stopped};
-use std::alloc::Global;
+use std::alloc::{AllocError, Global};
 use std::sync::{Arc, Wait};
 use tn_discipline::Text;
+use tn_jobs::{After, JobId};
 use tn_machines::Message;
 use tn_machines::server::MAX_PIECE;
 use tn_streams::{Source, is_interrupted};
@@ -38,6 +40,7 @@ fn read_piece<Rd: Source>(reader: &mut Rd, alloc: Global) -> Got
     ensures foretold { IsForetold (Rd.foretold reader.old) (Rd.foretold reader.new) result }
     ensures sizes { Rd.sizes reader.new ≡ Rd.sizes reader.old }
     ensures controls { Rd.controls reader.new ≡ Rd.controls reader.old }
+    ensures words { Rd.words reader.new ≡ Rd.words reader.old }
 {
     let Ok(mut bytes) = Vec::from_elem(alloc, 0u8, MAX_PIECE) else {
         return Got::Last(Message::Refused);
@@ -53,10 +56,12 @@ fn read_piece<Rd: Source>(reader: &mut Rd, alloc: Global) -> Got
     }
 }
 
-/// The part of a thread that reads: who it is, the place that the gate is told, and its gate.
+/// The part of a thread that reads: who it is, the job as whose text it says its reader's last words, if it
+/// does, the place that the gate is told, and its gate.
 #[derive(Drop)]
 pub(crate) struct ReaderPart<G> {
     pub(crate) who: Sender,
+    pub(crate) job: Option<JobId>,
     pub(crate) place: Place,
     pub(crate) gate: Arc<G, Global>,
 }
@@ -77,6 +82,7 @@ fn tell_size<R: Wait, Rd: Source>(
     ensures bytes { Rd.remaining reader.new ≡ Rd.remaining reader.old }
     ensures foretold { Rd.foretold reader.new ≡ Rd.foretold reader.old }
     ensures controls { Rd.controls reader.new ≡ Rd.controls reader.old }
+    ensures words { Rd.words reader.new ≡ Rd.words reader.old }
 {
     match reader.resized() {
         Some(size) => say(rt, to, pass, who, Message::Resized(size)),
@@ -101,6 +107,7 @@ fn tell_control<R: Wait, Rd: Source>(
     ensures bytes { Rd.remaining reader.new ≡ Rd.remaining reader.old }
     ensures foretold { Rd.foretold reader.new ≡ Rd.foretold reader.old }
     ensures sizes { Rd.sizes reader.new ≡ Rd.sizes reader.old }
+    ensures words { Rd.words reader.new ≡ Rd.words reader.old }
 {
     match reader.control() {
         Some(control) => say(rt, to, pass, who, Message::Asked(control)),
@@ -120,17 +127,100 @@ fn tell_beside<R: Wait, Rd: Source>(
     requires role { (l : List MailT) × (view pass ≡ sender who l) }
     ensures seat { IfSome result (λ p. IsSeatAt (sends_on to.now) p) }
     ensures told { IfSome result (λ p. SaysBeside who
-        (known_typing Rd.remaining Rd.foretold Rd.sizes Rd.controls reader.old)
-        (known_typing Rd.remaining Rd.foretold Rd.sizes Rd.controls reader.new) (view pass) (view p)) }
+        (known_typing Rd.remaining Rd.foretold Rd.sizes Rd.words Rd.controls reader.old)
+        (known_typing Rd.remaining Rd.foretold Rd.sizes Rd.words Rd.controls reader.new) (view pass)
+        (view p)) }
 {
     let pass = tell_size(rt, to, pass, who, reader)?;
     tell_control(rt, to, pass, who, reader)
 }
 
+// What is said of a reader whose reading ended so, as a text of this job: its last words where nothing more
+// comes.
+fn last_words<Rd: Source>(
+    alloc: Global,
+    job: Option<JobId>,
+    reader: &Rd,
+    last: &Message,
+) -> Result<Option<Message>, AllocError>
+    ensures { IfOk result (λ said. SaysLast job (Rd.words reader.now) last.now (option_to_list said)) }
+{
+    let (Some(job), Message::HangUp) = (job, last) else {
+        return Ok(None);
+    };
+    let words = reader.last_words();
+    if words.is_empty() {
+        return Ok(None);
+    }
+    let text = Text::from(Vec::from_slice(alloc, words)?);
+    let after = After::Stay;
+    Ok(Some(Message::Said { job, text, after }))
+}
+
+// How the reading is told to have ended, and what is said of its reader before that: where there is no memory
+// for that, memory ran out.
+fn end_of<Rd: Source>(
+    alloc: Global,
+    job: Option<JobId>,
+    reader: &Rd,
+    last: Message,
+) -> (Option<Message>, Message)
+    ensures end { (result.1 ≡ last) ⊎ (result.1 ≡ Message.Refused) }
+    ensures said { SaysLast job (Rd.words reader.now) result.1 (option_to_list result.0) }
+{
+    match last_words(alloc, job, reader, &last) {
+        Ok(said) => (said, last),
+        Err(_) => (None, Message::Refused),
+    }
+}
+
+// Says this, where there is something to say. `None` where the other end is gone.
+fn say_any<R: Wait>(
+    rt: &R,
+    to: &MailSender,
+    pass: MailPass,
+    who: Sender,
+    message: Option<Message>,
+) -> Option<MailPass>
+    requires seat { IsSeatAt (sends_on to.now) pass }
+    requires role { (l : List MailT) × (view pass ≡ sender who l) }
+    ensures seat { IfSome result (λ p. IsSeatAt (sends_on to.now) p) }
+    ensures said { IfSome result (λ p. SaysAll who (option_to_list message) (view pass) (view p)) }
+{
+    match message {
+        Some(message) => say(rt, to, pass, who, message),
+        None => Some(pass),
+    }
+}
+
+// Tells how the reading ended, and before that what is said of its reader. It takes seven, as what it is lent
+// goes together nowhere else.
+fn tell_end<R: Wait, Rd: Source, G: Gate>(
+    rt: &R,
+    alloc: Global,
+    to: &MailSender,
+    pass: MailPass,
+    part: &ReaderPart<G>,
+    reader: &Rd,
+    last: Message,
+) -> Option<MailPass>
+    requires seat { IsSeatAt (sends_on to.now) pass }
+    requires role { (l : List MailT) × (view pass ≡ sender part.now.who l) }
+    ensures seat { IfSome result (λ p. IsSeatAt (sends_on to.now) p) }
+    ensures said { IfSome result (λ p. SaysEnd part.now.who part.now.job (Rd.words reader.now) last
+        (view pass) (view p)) }
+{
+    let (said, end) = end_of(alloc, part.job, reader, last);
+    let pass = say_any(rt, to, pass, part.who, said)?;
+    let pass = say(rt, to, pass, part.who, end)?;
+    say(rt, to, pass, part.who, Message::Left)
+}
+
 // tools/progress: proctype Net, ClientNet and ClientKeys
 /// Sends the pieces that the reader gives, each for a credit where these are needed, with the sizes and the
-/// control functions that it tells between them, and then how it ended: after 4,294,967,295 reads as if one
-/// had failed. Where it is told to stop it leaves after a piece. `None` where the other end is gone.
+/// control functions that it tells between them, and then how it ended, behind its last words: after
+/// 4,294,967,295 reads as if one had failed. Where it is told to stop it leaves after a piece. `None` where the
+/// other end is gone.
 pub(crate) fn run_reader<R: Wait, Rd: Source + Drop, G: Gate>(
     rt: &R,
     alloc: Global,
@@ -144,8 +234,8 @@ pub(crate) fn run_reader<R: Wait, Rd: Source + Drop, G: Gate>(
     requires credits { IsSeated credits.old }
     requires stops { StopsStay stops.old stops.old }
     ensures seat { IfSome result (λ p. IsSeatAt (sends_on seat.to) p) }
-    ensures sent { IfSome result (λ p. TypingSends part.now.who (has_stopped stops.new)
-        (known_typing Rd.remaining Rd.foretold Rd.sizes Rd.controls reader) (view p)) }
+    ensures sent { IfSome result (λ p. TypingSends part.now.who part.now.job (has_stopped stops.new)
+        (known_typing Rd.remaining Rd.foretold Rd.sizes Rd.words Rd.controls reader) (view p)) }
     ensures stays { StopsStay stops.old stops.new }
     ensures credited { IfSome result (λ p. (mails : List MailT) → view p ≡ sender part.now.who mails →
         HaveTaken (pieces_among mails) credits.old credits.new) }
@@ -163,12 +253,8 @@ pub(crate) fn run_reader<R: Wait, Rd: Source + Drop, G: Gate>(
                 }
             },
             Got::Again => continue,
-            Got::Last(last) => {
-                pass = say(rt, &to, pass, part.who, last)?;
-                return say(rt, &to, pass, part.who, Message::Left);
-            },
+            Got::Last(last) => return tell_end(rt, alloc, &to, pass, part, &reader, last),
         }
     }
-    pass = say(rt, &to, pass, part.who, Message::ReadFailed)?;
-    say(rt, &to, pass, part.who, Message::Left)
+    tell_end(rt, alloc, &to, pass, part, &reader, Message::ReadFailed)
 }

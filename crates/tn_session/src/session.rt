@@ -228,7 +228,8 @@ where
     requires credits { IsSeatAt (sends_on ends.give) passes.give }
     requires step_credits { IsSeatAt (sends_on passes.step_credits.to) passes.step_credits.pass }
     requires net { (sends_on started.net.promise.to.value ≡ sends_on ends.to) ×
-        (started.net.promise.who ≡ Sender.Net) × (started.net.promise.stops.value ≡ None) }
+        (started.net.promise.who ≡ Sender.Net) × (started.net.promise.stops.value ≡ None) ×
+        (started.net.promise.job ≡ Some started.desk.promise.id) }
     requires desk { (sends_on started.desk.promise.to.value ≡ sends_on ends.to) ×
         (receives_on started.desk.promise.from.value ≡ sends_on ends.put) }
     requires back { sends_on started.back.promise.to.value ≡ sends_on ends.to }
@@ -245,7 +246,7 @@ where
           queue = started.back.promise.queue.value.items;
           tostop = started.back.promise.tostop;
         })
-        (known_reader Rd.remaining Rd.foretold Rd.sizes started.net.promise.reader.value)
+        (known_reader Rd.remaining Rd.foretold Rd.sizes Rd.words started.net.promise.reader.value)
         (known_writing W.contents W.told writer.old writer.new) (noted_of output.transcript) term.old
         (session_result r.0 r.1)) }
     ensures in_reach { IfOk result (λ r. StaysInReach term.old r.0.ended) }
@@ -293,7 +294,7 @@ where
           queue = begun.posts.queue.items;
           tostop = begun.posts.tostop;
         })
-        (known_reader Rd.remaining Rd.foretold Rd.sizes reader)
+        (known_reader Rd.remaining Rd.foretold Rd.sizes Rd.words reader)
         (known_writing W.contents W.told writer.old writer.new) (noted_of begun.output.transcript) begun.term
         (session_result r.0 r.1)) }
     ensures in_reach { IfOk result (λ r. StaysInReach begun.term r.0.ended) }
@@ -322,6 +323,7 @@ where
     } = posts;
     let part = ReaderPart {
         who: Sender::Net,
+        job: Some(first),
         place: Place::NetPiece,
         gate: outfit.net_gate,
     };
@@ -418,7 +420,7 @@ where
           queue = begun.posts.queue.items;
           tostop = begun.posts.tostop;
         })
-        begun.term begun.output.out.items (known_reader Rd.remaining Rd.foretold Rd.sizes reader)
+        begun.term begun.output.out.items (known_reader Rd.remaining Rd.foretold Rd.sizes Rd.words reader)
         (known_writing W.contents W.told writer.old writer.new) (session_result r.0 r.1)) }
     ensures in_reach { IfOk result (λ r. StaysInReach begun.term r.0.ended) }
     ensures finished { IfOk result (λ r. IsFinished (W.sending writer.old) (W.sending writer.new)) }
@@ -458,7 +460,7 @@ where
         RunningSession (job_facts (begins M.Job.fresh M.gives maker) M.Job.reacts M.Job.steps M.Job.refuses)
         (M.left maker)
         (record { canon = record { settings = settings; limit = limit }; editing = editing })
-        (known_reader Rd.remaining Rd.foretold Rd.sizes reader)
+        (known_reader Rd.remaining Rd.foretold Rd.sizes Rd.words reader)
         (known_writing W.contents W.told writer.old writer.new) (session_result r.0 r.1)) }
     ensures in_reach { IfOk result (λ r. r.0.ended ≢ too_far_ahead) }
     ensures finished { IfOk result (λ r. IsFinished (W.sending writer.old) (W.sending writer.new)) }

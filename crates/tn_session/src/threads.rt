@@ -41,12 +41,14 @@ pub(crate) struct ThreadLeft {
     pub(crate) stops: Option<StopSeat>,
 }
 
-/// What a thread that reads promises: who it is, and its seat where it may be told to stop.
+/// What a thread that reads promises: who it is, the job as whose text it says last words, if it does, and
+/// its seat where it may be told to stop.
 #[derive(Drop)]
 pub(crate) struct ReaderSays<Rd> {
     to: Snapshot<MailSender>,
     reader: Snapshot<Rd>,
     who: Sender,
+    job: Option<JobId>,
     stops: Snapshot<Option<StopSeat>>,
 }
 
@@ -60,8 +62,9 @@ impl<Rd: Source> Promise<Option<ThreadLeft>> for ReaderSays<Rd> {
 
     ghost kept_by = { λ p r.
         IfSome r (λ left. IsSeatAt (sends_on p.to.value) left.pass ×
-        TypingSends p.who (has_stopped left.stops)
-        (known_typing Rd.remaining Rd.foretold Rd.sizes Rd.controls p.reader.value) (view left.pass) ×
+        TypingSends p.who p.job (has_stopped left.stops)
+        (known_typing Rd.remaining Rd.foretold Rd.sizes Rd.words Rd.controls p.reader.value)
+        (view left.pass) ×
         StopsStay p.stops.value left.stops) };
 }
 
@@ -132,21 +135,23 @@ pub(crate) fn start_reader<
     requires credits { IsSeated credits }
     requires stops { StopsStay stops stops }
     ensures { IfSome result (λ h. (sends_on h.promise.to.value ≡ sends_on seat.to) ×
-        (h.promise.reader.value ≡ reader) × (h.promise.who ≡ part.who) × (h.promise.stops.value ≡ stops)) }
+        (h.promise.reader.value ≡ reader) × (h.promise.who ≡ part.who) × (h.promise.stops.value ≡ stops) ×
+        (h.promise.job ≡ part.job)) }
 {
     let promise = ReaderSays {
         to: Snapshot::of(&seat.to),
         reader: Snapshot::of(&reader),
         who: part.who,
+        job: part.job,
         stops: Snapshot::of(&stops),
     };
     let work = move || -> Option<ThreadLeft>
         requires { IsSeatAt (sends_on seat.to) seat.pass × (view seat.pass ≡ sender part.who []) ×
             IsSeated credits × StopsStay stops stops }
         ensures { IfSome result (λ left. IsSeatAt (sends_on seat.to) left.pass ×
-            TypingSends part.who (has_stopped left.stops)
-            (known_typing Rd.remaining Rd.foretold Rd.sizes Rd.controls reader)
-            (view left.pass) × StopsStay stops left.stops) }
+            TypingSends part.who part.job (has_stopped left.stops)
+            (known_typing Rd.remaining Rd.foretold Rd.sizes Rd.words Rd.controls reader) (view left.pass) ×
+            StopsStay stops left.stops) }
     {
         let mut credits = credits;
         let mut stops = stops;
@@ -293,8 +298,8 @@ impl<Rd: Source, J: Job> Started<Rd, J> {
     /// Joins them all. `None` where a channel of one was disconnected.
     pub(crate) fn join<R: Threads + Wait>(self, rt: &R) -> Option<Returned>
         ensures net { IfSome result (λ r. IsSeatAt (sends_on self.net.promise.to.value) r.net ×
-            (self.net.promise.stops.value ≡ None → TypingSends self.net.promise.who false
-            (known_typing Rd.remaining Rd.foretold Rd.sizes Rd.controls self.net.promise.reader.value)
+            (self.net.promise.stops.value ≡ None → TypingSends self.net.promise.who self.net.promise.job false
+            (known_typing Rd.remaining Rd.foretold Rd.sizes Rd.words Rd.controls self.net.promise.reader.value)
             (view r.net))) }
         ensures desk { IfSome result (λ r. IsSeatAt (sends_on self.desk.promise.to.value) r.desk ×
             IsSeatAt (receives_on self.desk.promise.from.value) r.took ×
@@ -343,12 +348,12 @@ impl<N: Source, K: Source> ClientStarted<N, K> {
     /// Joins them both. `None` where the mailbox of one was disconnected.
     pub(crate) fn join<R: Threads + Wait>(self, rt: &R) -> Option<ClientReturned>
         ensures net { IfSome result (λ r. IsSeatAt (sends_on self.net.promise.to.value) r.net ×
-            (self.net.promise.stops.value ≡ None → TypingSends self.net.promise.who false
-            (known_typing N.remaining N.foretold N.sizes N.controls self.net.promise.reader.value)
+            (self.net.promise.stops.value ≡ None → TypingSends self.net.promise.who self.net.promise.job false
+            (known_typing N.remaining N.foretold N.sizes N.words N.controls self.net.promise.reader.value)
             (view r.net))) }
         ensures keys { IfSome result (λ r. IsSeatAt (sends_on self.keys.promise.to.value) r.keys.pass ×
-            TypingSends self.keys.promise.who (has_stopped r.keys.stops)
-            (known_typing K.remaining K.foretold K.sizes K.controls self.keys.promise.reader.value)
+            TypingSends self.keys.promise.who self.keys.promise.job (has_stopped r.keys.stops)
+            (known_typing K.remaining K.foretold K.sizes K.words K.controls self.keys.promise.reader.value)
             (view r.keys.pass)) }
         ensures stays { IfSome result (λ r. StopsStay self.keys.promise.stops.value r.keys.stops) }
     {

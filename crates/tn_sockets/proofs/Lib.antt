@@ -4,5 +4,6 @@ pub mod Passing
 pub mod lemmas
 pub mod Digits
 pub mod Giving
+pub mod LastWords
 pub mod Sorting
 pub mod Meaning

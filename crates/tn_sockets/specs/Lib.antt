@@ -1,5 +1,6 @@
 pub mod Queue
 pub mod Passing
+pub mod LastWords
 pub mod Logs
 pub mod Ends
 pub mod Sizes

@@ -1,12 +1,16 @@
 //! What a client sends, how long a server bears its silence, and for how long it serves it.
 
-ghost use Rattle.std.specs.Prelude.{◌≡◌, ◌≤◌, ◌≢◌, length, take, IfOk, IfSome, None};
+ghost use Rattle.std.specs.Prelude.{◌≡◌, ◌≤◌, ◌≢◌, length, take, IfOk, IfSome, None, Some};
 ghost use Rattle.std.specs.Io.{ReadsAtMost};
 ghost use Rattle.std.specs.Io.KnownBytes.{Consumes, Keeps, ReadConsumes};
+ghost use Rattle.tn_sockets.specs.LastWords.{last_lines, line_of};
 ghost use Rattle.tn_sockets.specs.Passing.{GivesNext};
+ghost use Rattle.tn_streams.specs.Beside.{IsOneOf};
+ghost use Rattle.tn_streams.specs.Foretelling.{ForetellsCall};
+ghost use Rattle.tn_streams.specs.Telling.{CountsRead, TellsCall};
 
 use crate::bell::{Bell, has_peer_ended};
-use crate::connection::{Closing, send_at_once};
+use crate::connection::Closing;
 use crate::presence::TypedPieces;
 use std::alloc::{AllocError, Global};
 use std::io::{ErrorKind, Read};
@@ -16,6 +20,7 @@ use std::sync::atomic::{AtomicBool, AtomicUsize, Ordering};
 use std::sync::{Arc, OnceLock, Wait};
 use std::time::{Clock, Duration, Instant};
 use std::{io, thread};
+use tn_streams::Source;
 
 /// How many milliseconds a read waits before it looks whether its session is over.
 const LOOK: u16 = 500;
@@ -47,10 +52,8 @@ pub struct Standing {
     gone: AtomicBool,
     /// For how many seconds nothing may pass, or 0 for ever.
     patience: AtomicUsize,
-    /// By it the peer is told why its session ends.
+    /// By it is seen whether the peer has ended.
     stream: OnceLock<TcpStream>,
-    /// How many bytes it was told so.
-    told: AtomicUsize,
     /// Why what a job is joined to was not reached, in lines.
     unreached: OnceLock<Vec<u8>>,
 }
@@ -68,7 +71,6 @@ impl Standing {
             gone: AtomicBool::new(false),
             patience: AtomicUsize::new(0),
             stream: OnceLock::new(),
-            told: AtomicUsize::new(0),
             unreached: OnceLock::new(),
         };
         Ok(Arc::new(alloc, standing)?)
@@ -126,11 +128,6 @@ impl Standing {
         }
     }
 
-    /// How many bytes the peer was told of why its session ends.
-    pub fn told(&self) -> usize {
-        self.told.load(Ordering::SeqCst)
-    }
-
     /// Keeps why what a job is joined to was not reached.
     pub(crate) fn note_unreached<R: Wait>(&self, rt: &R, causes: Vec<u8>) {
         let _ = self.unreached.set(rt, causes);
@@ -144,25 +141,9 @@ impl Standing {
         }
     }
 
-    /// The peer is told that no more comes, and before it why, where that is neither its own wish nor a
-    /// job's. What the connection does not take at once is dropped.
+    /// The peer is told that no more comes.
     pub(crate) fn finish(&self) {
-        if let Some(stream) = self.stream.get() {
-            let count = send_at_once(stream, self.last_words());
-            self.told.store(count, Ordering::SeqCst);
-        }
         self.finished.store(true, Ordering::SeqCst);
-    }
-
-    // What the peer is told of why its session ends.
-    fn last_words(&self) -> &'static [u8] {
-        if self.is_idle() {
-            return b"idle\r\n";
-        }
-        if self.is_too_long() {
-            return b"too long\r\n";
-        }
-        b""
     }
 
     fn is_finished(&self) -> bool {
@@ -180,9 +161,29 @@ impl Standing {
     }
 }
 
+/// Why no more is read from a peer that may still send, where neither it nor a job wants that.
+#[derive(Clone, Copy)]
+pub(crate) enum Why {
+    /// It typed nothing for too long.
+    Idle,
+    /// Its session has lasted too long.
+    TooLong,
+}
+
+fn words_of(why: Option<Why>) -> &'static [u8]
+    ensures { result.now ≡ line_of why }
+{
+    match why {
+        None => b"",
+        Some(Why::Idle) => b"idle\n",
+        Some(Why::TooLong) => b"too long\n",
+    }
+}
+
 /// What a client sends. It ends, as by a hang-up, where the client types nothing for too long, where the
 /// session has lasted too long, where a job of it wants that, and where the client does not close in time
-/// after it was told that no more comes.
+/// after it was told that no more comes. Its last words are `idle` in the first case, and `too long` in the
+/// second.
 #[derive(Drop)]
 pub struct Attended<H, S> {
     rt: H,
@@ -197,13 +198,13 @@ pub struct Attended<H, S> {
     heard: Option<Instant>,
     typed: TypedPieces,
     finished: Option<Instant>,
+    why: Option<Why>,
 }
 
 impl<H: Clock + Copy + Wait> Attended<H, TcpStream> {
     /// The reading side of a connection. It ends where for `idle` seconds nothing came that reaches the
     /// terminal, or after `longest` seconds; 0 is never. A write to it that the peer does not take for the
-    /// shorter of the two fails: while it waits, nobody hears that the peer is silent. The peer is told
-    /// `idle` or `too long` before.
+    /// shorter of the two fails: while it waits, nobody hears that the peer is silent.
     pub fn new(
         rt: H,
         alloc: Global,
@@ -234,6 +235,7 @@ impl<H: Clock + Copy + Wait> Attended<H, TcpStream> {
             heard: now,
             typed: TypedPieces::new(alloc),
             finished: None,
+            why: None,
         })
     }
 }
@@ -265,7 +267,9 @@ impl<H: Clock + Copy, S: Drop> Attended<H, S> {
     }
 
     // Whether no more is read since nothing was typed for too long.
-    fn is_idle(&self) -> bool {
+    fn is_idle(&mut self) -> bool
+        ensures { self.new.stream ≡ self.old.stream }
+    {
         if self.standing.is_finished() || self.idle == 0 {
             return false;
         }
@@ -273,11 +277,14 @@ impl<H: Clock + Copy, S: Drop> Attended<H, S> {
             return false;
         }
         self.standing.idle.store(true, Ordering::SeqCst);
+        self.why = Some(Why::Idle);
         true
     }
 
     // Whether no more is read since the session has lasted too long.
-    fn is_too_long(&self) -> bool {
+    fn is_too_long(&mut self) -> bool
+        ensures { self.new.stream ≡ self.old.stream }
+    {
         if self.standing.is_finished() || self.longest == 0 {
             return false;
         }
@@ -285,6 +292,7 @@ impl<H: Clock + Copy, S: Drop> Attended<H, S> {
             return false;
         }
         self.standing.too_long.store(true, Ordering::SeqCst);
+        self.why = Some(Why::TooLong);
         true
     }
 }
@@ -399,10 +407,21 @@ impl<H: Clock + Copy + Wait, S: AsRawFd + Drop + Read + Closing> Attended<H, S> 
     }
 }
 
-impl<H: Clock + Copy + Wait, S: AsRawFd + Drop + Read + Closing> Read for Attended<H, S> {
-    fn read(&mut self, buf: &mut [u8]) -> io::Result<usize>
+impl<H: Clock + Copy + Wait, S: AsRawFd + Drop + Read + Closing> Source for Attended<H, S> {
+    ghost words = { λ _. last_lines };
+
+    fn last_words(&self) -> &'static [u8]
+        ensures one { IsOneOf last_lines result.now }
+        ensures why { result.now ≡ line_of self.now.why }
+    {
+        words_of(self.why)
+    }
+
+    fn read_some(&mut self, buf: &mut [u8]) -> io::Result<usize>
         ensures bound { ReadsAtMost result buf.new }
         ensures bytes { ReadConsumes None None result buf.new }
+        ensures tells { TellsCall (CountsRead result) None None }
+        ensures foretells { ForetellsCall result None None }
         ensures gives { GivesNext (S.remaining self.old.stream) (S.remaining self.new.stream) result buf.new }
     {
         let read = self.read_on(buf);

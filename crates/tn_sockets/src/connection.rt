@@ -1,7 +1,7 @@
 //! One end of a connection, as a session uses it.
 
 ghost use Rattle.std.specs.Prelude.{◌≡◌, IfOk};
-ghost use Rattle.libc.specs.Net.{SendFlags, SockOption};
+ghost use Rattle.libc.specs.Net.{SockOption};
 
 use crate::attended::Standing;
 use libc::net as c;
@@ -88,16 +88,6 @@ fn set(stream: &TcpStream, level: i32, name: i32, value: u8)
     bytes[0] = value;
     // The descriptor is open as long as `stream` is lent, and the value holds no pointer.
     let _ = unsafe { c::setsockopt(stream.as_raw_fd(), level, name, &bytes, 4) };
-}
-
-/// How such words are sent: without a wait, and without a signal where the connection is broken.
-const AT_ONCE: i32 = c::MSG_NOSIGNAL | c::MSG_DONTWAIT;
-
-/// Sends the first of these words, as many as the connection takes at once, and returns how many.
-pub(crate) fn send_at_once(stream: &TcpStream, words: &[u8]) -> usize {
-    // The descriptor is open as long as `stream` is lent.
-    let sent = unsafe { c::send(stream.as_raw_fd(), words, AT_ONCE) };
-    usize::try_from(sent).unwrap_or(0)
 }
 
 impl<S: Write> Write for Connection<S> {

@@ -23,7 +23,7 @@ use std::io::{ErrorKind, Read};
 use std::sync::Wait;
 use std::time::{Clock, Duration, Instant};
 use std::{io, mem};
-use tn_streams::{Control, Source, WindowSize};
+use tn_streams::{Control, Source, WindowSize, nothing_to_say};
 
 /// The descriptor of standard input (POSIX, `STDIN_FILENO`).
 const STANDARD_INPUT: i32 = 0;
@@ -355,6 +355,10 @@ impl<H: Clock + Copy + Wait, K: Read + Drop> Source for Console<H, K> {
         ensures kept { self.new.kept ≡ self.old.kept }
     {
         self.asked.take()
+    }
+
+    fn last_words(&self) -> &'static [u8] {
+        nothing_to_say()
     }
 
     fn read_some(&mut self, buf: &mut [u8]) -> io::Result<usize>

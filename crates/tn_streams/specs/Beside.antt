@@ -1,6 +1,6 @@
--- What a reader tells beside its bytes: the sizes of the window in which they are typed, and the control
--- functions that are asked for between them.
-use Rattle.std.specs.Prelude.{◌≡◌, Option, Some, None, List, ◌∷◌, ◌++◌}
+-- What a reader tells beside its bytes: the sizes of the window in which they are typed, the control
+-- functions that are asked for between them, and its last words.
+use Rattle.std.specs.Prelude.{◌≡◌, ◌⊎◌, ℕ, Option, Some, None, List, [], ◌∷◌, ◌++◌}
 
 -- the next of these was told, or none; where they are not known, they stay so
 abbrev pub TellsNext : {A : Type 0} → Option (List A) → Option A → Option (List A) → Type 0
@@ -16,3 +16,12 @@ TellsList {A} (Some old) told new = (later : List A) × (old ≡ told ++ later) 
 -- the first of them were told
 abbrev pub TellsFirst : {A : Type 0} → Option (List A) → List A → Type 0
 TellsFirst {A} all told = (later : Option (List A)) × TellsList all told later
+
+-- its last words are one of these
+abbrev pub IsOneOf : List (List ℕ) → List ℕ → Type 0
+IsOneOf [] words = ⊥
+IsOneOf (one ∷ more) words = (words ≡ one) ⊎ IsOneOf more words
+
+-- it has none
+abbrev pub no_words : List (List ℕ)
+no_words = [] ∷ []

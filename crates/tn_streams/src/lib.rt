@@ -23,7 +23,7 @@ ghost use Rattle.std.specs.Io.{ReadsAtMost, WritesAtMost};
 ghost use Rattle.std.specs.Io.KnownBytes.{ReadConsumes, WriteAppends, Keeps};
 ghost use Rattle.tn_streams.specs.Foretelling.{Failures, ForetellsCall};
 ghost use Rattle.tn_streams.specs.Sending.{Sending, written_on, finished_on};
-ghost use Rattle.tn_streams.specs.Beside.{TellsNext};
+ghost use Rattle.tn_streams.specs.Beside.{IsOneOf, TellsNext, no_words};
 ghost use Rattle.tn_streams.specs.declared.control.Control.{Control as ControlT};
 ghost use Rattle.tn_streams.specs.declared.window.WindowSize.{WindowSize as WindowSizeT};
 ghost use Rattle.tn_streams.specs.Telling.{Calls, TellsCall, CountsRead, CountsWrite};
@@ -39,7 +39,7 @@ mod window;
 
 /// A reader that may tell how many of its calls failed, and foretell how many will: one that is given away
 /// can't be asked afterwards. Where its bytes are typed in a window, it tells the window's size too, and the
-/// control functions that its user asks for between them.
+/// control functions that its user asks for between them. Whoever reads it may say its last words for it.
 pub trait Source {
     // The bytes that reads will give from here on, where they are known.
     ghost remaining: { Self → Option (List ℕ) } = { λ _. None };
@@ -56,6 +56,9 @@ pub trait Source {
     // The control functions that it will tell from here on, where they are known. Most readers have no user.
     ghost controls: { Self → Option (List ControlT) } = { λ _. Some [] };
 
+    // What its last words may be, of which each is known beforehand. Most readers have none.
+    ghost words: { Self → List (List ℕ) } = { λ _. no_words };
+
     /// The size of the window, if it is another than the one that was told last.
     fn resized(&mut self) -> Option<WindowSize>
         ensures tells { TellsNext (sizes self.old) result (sizes self.new) }
@@ -63,6 +66,7 @@ pub trait Source {
         ensures told { told self.new ≡ told self.old }
         ensures foretold { foretold self.new ≡ foretold self.old }
         ensures controls { controls self.new ≡ controls self.old }
+        ensures words { words self.new ≡ words self.old }
     {
         None
     }
@@ -75,9 +79,14 @@ pub trait Source {
         ensures told { told self.new ≡ told self.old }
         ensures foretold { foretold self.new ≡ foretold self.old }
         ensures sizes { sizes self.new ≡ sizes self.old }
+        ensures words { words self.new ≡ words self.old }
     {
         None
     }
+
+    /// What is to be said to its peer once it has come to its end: a line, or nothing.
+    fn last_words(&self) -> &'static [u8]
+        ensures one { IsOneOf (words self.now) result.now };
 
     /// Reads some bytes, none only at the end or where there is no room.
     fn read_some(&mut self, buf: &mut [u8]) -> Result<usize>
@@ -86,7 +95,8 @@ pub trait Source {
         ensures tells { TellsCall (CountsRead result) (told self.old) (told self.new) }
         ensures foretells { ForetellsCall result (foretold self.old) (foretold self.new) }
         ensures sizes { sizes self.new ≡ sizes self.old }
-        ensures controls { controls self.new ≡ controls self.old };
+        ensures controls { controls self.new ≡ controls self.old }
+        ensures words { words self.new ≡ words self.old };
 }
 
 /// A writer that may tell how many of its calls failed.
@@ -125,6 +135,10 @@ impl Finish for Vec<u8> {
 impl<R: Read> Source for R {
     ghost remaining = { R.Read.remaining };
 
+    fn last_words(&self) -> &'static [u8] {
+        nothing_to_say()
+    }
+
     fn read_some(&mut self, buf: &mut [u8]) -> Result<usize> {
         self.read(buf)
     }
@@ -136,6 +150,13 @@ impl<W: Write> Drain for W {
     fn write_some(&mut self, buf: &[u8]) -> Result<usize> {
         self.write(buf)
     }
+}
+
+/// What a reader says that has no last words.
+pub fn nothing_to_say() -> &'static [u8]
+    ensures { IsOneOf no_words result.now }
+{
+    b""
 }
 
 /// Whether a signal interrupted the call, so that it is to be made again.

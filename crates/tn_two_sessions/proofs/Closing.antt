@@ -15,9 +15,9 @@ use Rattle.tn_machines.specs.declared.client.messages.Origin.TheVariants.{Keys, 
 use Rattle.tn_machines.specs.declared.client.messages.Told.{Told}
 use Rattle.tn_machines.specs.declared.client.progress.ClientProgress.{ClientProgress}
 use Rattle.tn_session.proofs.lemmas.ClientTurns.{opens, sent_latest}
+use Rattle.tn_session.proofs.lemmas.Plain.{PlainlyCloses}
 use Rattle.tn_session.specs.CoreTurns.{all_told}
 use Rattle.tn_session.specs.Mailbox.{from, mail}
-use Rattle.tn_session.specs.Reader.{Closes}
 use Rattle.tn_session.specs.Reading.{IsEnding, Telling, piece_told, size_told, control_told, told_messages, pieces_in}
 use Rattle.tn_session.specs.declared.mail.Mail.{Mail}
 use Rattle.tn_session.specs.declared.mail.Sender.{Sender}
@@ -241,7 +241,7 @@ ending_last (Resized size) left e = absurd e
 ending_last (Asked control) left e = absurd e
 
 closes_last : (may_stop : Bool) (pieces : List (List ℕ)) (left : Option (List ℕ)) (foretold : Option Failures) (close : List Message)
-    → Closes may_stop pieces left foretold close → LeftLast close
+    → PlainlyCloses may_stop pieces left foretold close → LeftLast close
 closes_last may_stop pieces left foretold close closes =
     ⊎_elim
     (λ x. subst (λ (l : List Message). LeftLast l) (sym x.2) (ending_last x.0 left x.1.0))
@@ -269,7 +269,7 @@ mailed (m ∷ ms) = ap (λ (l : List Message). m ∷ l) (mailed ms)
 pub inputs_sent : (width height limit : ℕ) (marked : List (Told × ClientMark)) (new : Run) (handled : List Mail) (may_stop : Bool) (told : List Telling)
     (left : Option (List ℕ)) (foretold : Option Failures) (close : List Message)
     → Runs (start width height limit) marked new → tolds marked ≡ all_told handled
-    → from sender.Keys handled ≡ map (mail sender.Keys) (told_messages told ++ close) → Closes may_stop (pieces_in told) left foretold close
+    → from sender.Keys handled ≡ map (mail sender.Keys) (told_messages told ++ close) → PlainlyCloses may_stop (pieces_in told) left foretold close
     → inputs new.sent ≡ inputs new.history
 inputs_sent width height limit marked new handled may_stop told left foretold close runs is sent closes =
     let all = ap keys_messages is ∙ told_all handled ∙ ap messages_in sent ∙ mailed (told_messages told ++ close) in

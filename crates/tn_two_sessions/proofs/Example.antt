@@ -53,6 +53,7 @@ use Rattle.tn_session.specs.Transcripts.{Exchange, all_read, all_wrote}
 use Rattle.tn_session.specs.declared.mail.Mail.{Mail}
 use Rattle.tn_session.specs.declared.mail.Sender.{Sender}
 use Rattle.tn_session.specs.declared.mail.Sender.TheVariants as who
+use Rattle.tn_streams.specs.Beside.{no_words}
 use Rattle.tn_streams.specs.Known.{KnownReader, KnownTyping, KnownWriting}
 use Rattle.tn_streams.specs.Prefixes.{IsPrefixOf}
 use Rattle.tn_machines.specs.server.Marks as term
@@ -196,7 +197,7 @@ woven who.Back = refl
 woven who.Keys = refl
 
 abbrev a_socket : KnownReader
-a_socket = record { bytes = None; failures = None; sizes = None }
+a_socket = record { bytes = None; failures = None; sizes = None; words = no_words }
 
 abbrev writes_unknown : KnownWriting
 writes_unknown = record { before = record { bytes = None; calls = None }; after = record { bytes = None; calls = None } }
@@ -263,13 +264,13 @@ module _ (editing : Editing) where
     noted = server_notes.0;
   }
 
-  read : ReaderSends who.Net false a_socket result.views.net
+  read : ReaderSends who.Net (Some first_job) false a_socket result.views.net
   read = (
     piece_told bytes ∷ [],
     None,
     HangUp ∷ Left ∷ [],
     tt,
-    inl (HangUp, (tt, tt), refl),
+    inl (HangUp, (tt, tt), [], ([], inl refl, refl), refl),
     refl,
     All-cons IsPiece bytes [] is_piece (All-nil IsPiece),
     (None, refl),
@@ -392,7 +393,7 @@ module _ (width height : ℕ) where
   typed = 97 ∷ 13 ∷ []
 
   abbrev keys_reader : KnownReader
-  keys_reader = record { bytes = Some typed; failures = None; sizes = None }
+  keys_reader = record { bytes = Some typed; failures = None; sizes = None; words = no_words }
 
   abbrev keys_known : KnownTyping
   keys_known = record { reader = keys_reader; controls = Some [] }
@@ -479,20 +480,20 @@ module _ (width height : ℕ) where
   not_stopped : false ≡ true → ⊥
   not_stopped e = cc
 
-  keys_sent : ReaderSends who.Keys false keys_reader client_result.keys
+  keys_sent : ReaderSends who.Keys None false keys_reader client_result.keys
   keys_sent = (
     piece_told typed ∷ [],
     Some [],
     HangUp ∷ Left ∷ [],
     refl,
-    inl (HangUp, (refl, tt), refl),
+    inl (HangUp, (refl, tt), [], refl, refl),
     refl,
     All-cons IsPiece typed [] short (All-nil IsPiece),
     (None, refl),
   )
 
-  net_sent : ReaderSends who.Net false a_socket client_result.net
-  net_sent = ([], None, HangUp ∷ Left ∷ [], tt, inl (HangUp, (tt, tt), refl), refl, All-nil IsPiece, (None, refl))
+  net_sent : ReaderSends who.Net None false a_socket client_result.net
+  net_sent = ([], None, HangUp ∷ Left ∷ [], tt, inl (HangUp, (tt, tt), [], refl, refl), refl, All-nil IsPiece, (None, refl))
 
   keys_told : IsTold (core_stops keys_left.by_then.progress) (putter [])
   unfolding keys_left

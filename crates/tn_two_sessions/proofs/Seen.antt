@@ -20,10 +20,11 @@ use Rattle.tn_two_sessions.specs.Transcripts.{Served, Connected, IsCarried, RanT
 use Rattle.tn_machines.specs.declared.faults.Ended.TheVariants.{HangUp}
 use Rattle.tn_server.specs.Events as server
 use Rattle.tn_server.specs.Lines.{entries}
+use Rattle.tn_session.proofs.lemmas.Plain.{plainly}
 use Rattle.tn_session.proofs.lemmas.Transcribing.{prefix_trans}
 use Rattle.tn_session.specs.Facts.{JobFacts}
 use Rattle.tn_session.specs.Mailbox.{mail}
-use Rattle.tn_session.specs.Reading.{told_messages}
+use Rattle.tn_session.specs.Reading.{pieces_in, told_messages}
 use Rattle.tn_session.specs.Transcripts.{all_wrote}
 use Rattle.tn_session.specs.declared.mail.Sender.TheVariants as who
 use Rattle.tn_session.specs.declared.parties.Report.{Report}
@@ -44,7 +45,7 @@ module _ {J : Type 0} (facts : JobFacts J) (canon : Canon) (s : Served facts can
       let typed = c.ran.typed in
       let sent = one_list c.ran.from_keys (map (mail who.Keys) (told_messages typed.0 ++ typed.2)) (sym c.ran.keys_is ∙ typed.5) in
       inputs_sent c.width c.height canon.limit c.ran.marked c.ran.run c.ran.handled _ typed.0 typed.1 _ typed.2 c.ran.runs c.ran.messages
-      (c.ran.woven who.Keys ∙ sent) typed.4
+      (c.ran.woven who.Keys ∙ sent) (plainly _ c.keys.reader (pieces_in typed.0) typed.1 typed.2 typed.4)
 
   -- it is the first of what was read
   first_read : c.ran.inputs ≡ inputs c.ran.run.history ++ c.ran.in_order.untyped

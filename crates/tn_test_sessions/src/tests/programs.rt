@@ -15,7 +15,7 @@ use tn_cli::{
 };
 use tn_discipline::Limit;
 use tn_lines::LineEnd;
-use tn_streams::{Drain, Source, Tally};
+use tn_streams::{Drain, Source, Tally, nothing_to_say};
 
 // What the words of a line ask for. Want of memory is an ordinary answer, and help is asked for elsewhere.
 fn is_told(read: Result<Asked, WordsFault>, wanted: Option<Asked>) -> bool {
@@ -385,6 +385,10 @@ impl Broken {
 
 impl Source for Broken {
     ghost told = { λ b. told_by b.tally };
+
+    fn last_words(&self) -> &'static [u8] {
+        nothing_to_say()
+    }
 
     fn read_some(&mut self, buf: &mut [u8]) -> io::Result<usize> {
         let answer = self.give(buf);

@@ -3,6 +3,7 @@
 mod cores;
 mod gates;
 mod makers;
+mod parting;
 mod refusals;
 mod sessions;
 mod sizes;

@@ -4,6 +4,7 @@ use Rattle.tn_discipline.specs.Keys.{standard_flags}
 use Rattle.tn_discipline.specs.declared.characters.Chars.{Chars}
 use Rattle.tn_discipline.specs.declared.termios.Flags.{Flags}
 use Rattle.tn_discipline.specs.declared.termios.Settings.{Settings}
+use Rattle.tn_serve.specs.Servers.{attended}
 use Rattle.tn_serve.specs.declared.settings.SessionOptions.{SessionOptions}
 use Rattle.tn_session.specs.Facts.{JobFacts, SessionResult, job_facts, session_result}
 use Rattle.tn_session.specs.Makers.{begins}
@@ -22,7 +23,7 @@ module _ {J : Type 0} (facts : JobFacts J) (to_make : Option ℕ) (options : Ses
   abbrev Ran : Settings → List ℕ → List ℕ → Type 0
   Ran settings before after =
       RunningSession facts to_make (record { canon = record { settings = settings; limit = options.line_limit }; editing = options.editing })
-      (record { bytes = None; failures = None; sizes = Some [] })
+      attended
       (record { before = record { bytes = Some before; calls = None }; after = record { bytes = Some after; calls = None } }) result
 
   as_asked : (s : Settings) (before after : List ℕ) → s ≡ record { flags = standard_flags; chars = standard_characters } → before ≡ [] → Ran s before after

@@ -1,9 +1,10 @@
-use Rattle.std.proofs.Common.{false, ap, subst, sym, ◌∙◌}
+use Rattle.std.proofs.Common.{false, None, ap, subst, sym, ◌∙◌}
 use Rattle.crossbeam_channel.specs.Claims.{view}
 use Rattle.tn_session.proofs.ClientWhole.{client_ran}
 use Rattle.tn_session.proofs.Stopped.{told_words, seat_at}
 use Rattle.tn_session.specs.CoreTurns.{CoreHandles}
-use Rattle.tn_session.specs.Reader.{TypingSends}
+use Rattle.tn_session.proofs.Readers.{sends_as}
+use Rattle.tn_session.specs.declared.mail.Sender.TheVariants.{Net, Keys}
 use Rattle.tn_session.specs.Stops.{has_stopped}
 use Rattle.tn_session.specs.Client.{client_report}
 use Rattle.tn_session.specs.Facts.{client_result}
@@ -18,8 +19,8 @@ returns-clause-ran g c =
     let join = c.in-Some-join in
     let returned = join.returned in
     let ended = c.in-Some in
-    let keys_reader = known_typing g.K.Source.remaining g.K.Source.foretold g.K.Source.sizes g.K.Source.controls started.keys.promise.reader.value in
-    let net_typing = known_typing g.N.Source.remaining g.N.Source.foretold g.N.Source.sizes g.N.Source.controls started.net.promise.reader.value in
+    let keys_reader = known_typing g.K.Source.remaining g.K.Source.foretold g.K.Source.sizes g.K.Source.words g.K.Source.controls started.keys.promise.reader.value in
+    let net_typing = known_typing g.N.Source.remaining g.N.Source.foretold g.N.Source.sizes g.N.Source.words g.N.Source.controls started.net.promise.reader.value in
     let net_reader = net_typing.reader in
     let writer = known_writing g.W.Drain.contents g.W.Drain.told c.args.writer.now c.run_core.new.writer in
     let screen = known_writing g.S.Drain.contents g.S.Drain.told c.args.screen.now c.run_core.new.screen in
@@ -30,8 +31,10 @@ returns-clause-ran g c =
     (sym (ap noted_of c.settle-ports.ensures.transcript)) (subst
     (λ v. CoreHandles c.args.core.now (view c.args.pass) (view ended.pass) writer screen (noted_of ended.transcript) v c.run_core.new.core)
     (sym same) ended.ensures.acted))
-    (subst (λ s. TypingSends s false net_typing (view returned.net)) c.requires.net.1 (join.ensures.net.1 c.requires.net.2)).0
-    (subst (λ s. TypingSends s (has_stopped returned.keys.stops) keys_reader (view returned.keys.pass)) c.requires.keys.1 join.ensures.keys.1)
+    (sends_as started.net.promise.who Net started.net.promise.job None false net_typing (view returned.net) c.requires.net.1 c.requires.net.3
+    (join.ensures.net.1 c.requires.net.2)).0
+    (sends_as started.keys.promise.who Keys started.keys.promise.job None (has_stopped returned.keys.stops) keys_reader (view returned.keys.pass)
+    c.requires.keys.1 c.requires.keys.2 join.ensures.keys.1)
     (λ on none. c.settle-told.ensures.told on (sym same ∙ none))
     c.settle-ports.ensures.settled (c.report.ensures ∙ ap client_report c.progress.ensures)
 

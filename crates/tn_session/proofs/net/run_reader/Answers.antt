@@ -1,7 +1,7 @@
 use Rattle.std.proofs.Common.{◌≡◌, arith, None}
 use Rattle.std.proofs.lemmas.Option.{IfSome_then}
 use Rattle.tn_machines.specs.declared.messages.Message.TheVariants.{ReadFailed}
-use Rattle.tn_session.proofs.Readers.{said, role}
+use Rattle.tn_session.proofs.Readers.{role}
 use Rattle.tn_session.proofs.Stopped.{stays_on, stays_here}
 use Rattle.tn_session.proofs.Telling.{told_nothing, told_beside, told_one, told_none, told_end, told_all, told_stop, paid_end, paid_stop}
 use Rattle.tn_streams.specs.Known.{known_typing}
@@ -15,7 +15,7 @@ tell_beside-requires-clause-role g c = role c.args.part.now.who _ _ c.loop-read.
 
 pub say-requires-clause-role : goal.say-requires-clause-role
 say-requires-clause-role g c =
-    let known = known_typing g.Rd.Source.remaining g.Rd.Source.foretold g.Rd.Source.sizes g.Rd.Source.controls in
+    let known = known_typing g.Rd.Source.remaining g.Rd.Source.foretold g.Rd.Source.sizes g.Rd.Source.words g.Rd.Source.controls in
     let h = told_beside c.args.part.now.who _ _ (known c.tell_beside.new.reader) _ _ _ _ _ c.loop-read.invariant.1 c.in_ok-pass.ensures.told in
     role c.args.part.now.who _ _ h.sent
 
@@ -24,68 +24,60 @@ is_stopped-requires g c = record { seat = stays_here c.args.stops.now c.loop-rea
 
 pub loop-read-preserved : goal.loop-read-preserved
 loop-read-preserved g c =
-    let known = known_typing g.Rd.Source.remaining g.Rd.Source.foretold g.Rd.Source.sizes g.Rd.Source.controls in
+    let known = known_typing g.Rd.Source.remaining g.Rd.Source.foretold g.Rd.Source.sizes g.Rd.Source.words g.Rd.Source.controls in
     let h = told_beside c.args.part.now.who _ _ (known c.tell_beside.new.reader) _ _ _ _ _ c.loop-read.invariant.1 c.in_ok-pass.ensures.told in (
       c.in_ok-pass-in-Bytes.ensures.seat,
       told_one c.args.part.now.who _ _ _ _ c.in-Bytes.text _ _ _ _ _ h c.in-Bytes.ensures.gives.0 c.in-Bytes.ensures.gives.1 c.in-Bytes.ensures.foretold
-          c.in-Bytes.ensures.sizes c.in-Bytes.ensures.controls c.in_ok-take_credit-in-Bytes.ensures.taken c.in_ok-pass-in-Bytes.ensures.said,
+          c.in-Bytes.ensures.sizes c.in-Bytes.ensures.controls c.in-Bytes.ensures.words c.in_ok-take_credit-in-Bytes.ensures.taken c.in_ok-pass-in-Bytes.ensures.said,
       c.take_credit.ensures.seat,
       stays_on c.args.stops.now c.loop-read.stops c.is_stopped.new.stops c.loop-read.invariant.3 c.is_stopped.ensures.stays,
     )
 
 pub loop-read-preserved-in-Again : goal.loop-read-preserved-in-Again
 loop-read-preserved-in-Again g c =
-    let known = known_typing g.Rd.Source.remaining g.Rd.Source.foretold g.Rd.Source.sizes g.Rd.Source.controls in
+    let known = known_typing g.Rd.Source.remaining g.Rd.Source.foretold g.Rd.Source.sizes g.Rd.Source.words g.Rd.Source.controls in
     let h = told_beside c.args.part.now.who _ _ (known c.tell_beside.new.reader) _ _ _ _ _ c.loop-read.invariant.1 c.in_ok-pass.ensures.told in (
       c.in_ok-pass.ensures.seat,
-      told_none c.args.part.now.who _ _ _ _ _ _ _ h c.in-Again.ensures.gives c.in-Again.ensures.foretold c.in-Again.ensures.sizes c.in-Again.ensures.controls,
+      told_none c.args.part.now.who _ _ _ _ _ _ _ h c.in-Again.ensures.gives c.in-Again.ensures.foretold c.in-Again.ensures.sizes c.in-Again.ensures.controls
+          c.in-Again.ensures.words,
       c.loop-read.invariant.2,
       c.loop-read.invariant.3,
     )
 
 pub returns-then-is_stopped-clause-sent : goal.returns-then-is_stopped-clause-sent
 returns-then-is_stopped-clause-sent g c =
-    let known = known_typing g.Rd.Source.remaining g.Rd.Source.foretold g.Rd.Source.sizes g.Rd.Source.controls in
+    let known = known_typing g.Rd.Source.remaining g.Rd.Source.foretold g.Rd.Source.sizes g.Rd.Source.words g.Rd.Source.controls in
     let h = told_beside c.args.part.now.who _ _ (known c.tell_beside.new.reader) _ _ _ _ _ c.loop-read.invariant.1 c.in_ok-pass.ensures.told in
     IfSome_then c.say-then-is_stopped.result c.say-then-is_stopped.ensures.said
-    (λ v f. told_stop c.args.part.now.who _ _ _ (known c.read_piece.new.reader) _ c.in-Bytes.text _ _ _ _ _ h
+    (λ v f. told_stop c.args.part.now.who c.args.part.now.job _ _ _ (known c.read_piece.new.reader) _ c.in-Bytes.text _ _ _ _ _ h
     (c.is_stopped.ensures.told c.if-is_stopped.true) c.in-Bytes.ensures.gives.0 c.in-Bytes.ensures.gives.1 c.in_ok-pass-in-Bytes.ensures.said f)
 
-pub say-requires-in-Last-clause-role : goal.say-requires-in-Last-clause-role
-say-requires-in-Last-clause-role g c =
-    let known = known_typing g.Rd.Source.remaining g.Rd.Source.foretold g.Rd.Source.sizes g.Rd.Source.controls in
+pub tell_end-requires-clause-role : goal.tell_end-requires-clause-role
+tell_end-requires-clause-role g c =
+    let known = known_typing g.Rd.Source.remaining g.Rd.Source.foretold g.Rd.Source.sizes g.Rd.Source.words g.Rd.Source.controls in
     let h = told_beside c.args.part.now.who _ _ (known c.tell_beside.new.reader) _ _ _ _ _ c.loop-read.invariant.1 c.in_ok-pass.ensures.told in
     role c.args.part.now.who _ _ h.sent
 
-pub say-requires-in-Last-2-clause-role : goal.say-requires-in-Last-2-clause-role
-say-requires-in-Last-2-clause-role g c =
-    let known = known_typing g.Rd.Source.remaining g.Rd.Source.foretold g.Rd.Source.sizes g.Rd.Source.controls in
-    let h = told_beside c.args.part.now.who _ _ (known c.tell_beside.new.reader) _ _ _ _ _ c.loop-read.invariant.1 c.in_ok-pass.ensures.told in
-    role c.args.part.now.who _ _ (said c.args.part.now.who _ _ _ _ h.sent c.in_ok-pass-in-Last.ensures.said)
-
 pub returns-in-Last-clause-sent : goal.returns-in-Last-clause-sent
 returns-in-Last-clause-sent g c =
-    let known = known_typing g.Rd.Source.remaining g.Rd.Source.foretold g.Rd.Source.sizes g.Rd.Source.controls in
+    let known = known_typing g.Rd.Source.remaining g.Rd.Source.foretold g.Rd.Source.sizes g.Rd.Source.words g.Rd.Source.controls in
     let h = told_beside c.args.part.now.who _ _ (known c.tell_beside.new.reader) _ _ _ _ _ c.loop-read.invariant.1 c.in_ok-pass.ensures.told in
-    IfSome_then c.say-in-Last-2.result c.say-in-Last-2.ensures.said
-    (λ v f. told_end c.args.part.now.who _ _ _ (known c.read_piece.new.reader) _ _ _ c.in-Last.last _ _ _ h c.in-Last.ensures.gives.0
-    c.in-Last.ensures.gives.1 c.in-Last.ensures.foretold c.in_ok-pass-in-Last.ensures.said f)
+    IfSome_then c.tell_end.result c.tell_end.ensures.said
+    (λ v f. told_end c.args.part.now.who c.args.part.now.job _ _ _ (known c.read_piece.new.reader) _ _ _ c.in-Last.last _ _ h c.in-Last.ensures.gives.0
+    c.in-Last.ensures.gives.1 c.in-Last.ensures.foretold c.in-Last.ensures.words f)
 
-pub say-requires-2-clause-role : goal.say-requires-2-clause-role
-say-requires-2-clause-role g c = role c.args.part.now.who _ _ c.loop-read.invariant.1.sent
-
-pub say-requires-3-clause-role : goal.say-requires-3-clause-role
-say-requires-3-clause-role g c = role c.args.part.now.who _ _ (said c.args.part.now.who _ _ _ _ c.loop-read.invariant.1.sent c.in_ok-pass-2.ensures.said)
+pub tell_end-requires-2-clause-role : goal.tell_end-requires-2-clause-role
+tell_end-requires-2-clause-role g c = role c.args.part.now.who _ _ c.loop-read.invariant.1.sent
 
 pub returns-clause-sent : goal.returns-clause-sent
 returns-clause-sent g c =
     let n : c.loop-read._read ≡ 4294967295 = omega (arith, c.loop-read.auto._read-end, c.loop-read-test.false) in
-    IfSome_then c.say-3.result c.say-3.ensures.said (λ v f. told_all c.args.part.now.who _ _ _ _ _ _ _ _ _ n c.loop-read.invariant.1 c.in_ok-pass-2.ensures.said
-    f)
+    IfSome_then c.tell_end-2.result c.tell_end-2.ensures.said
+    (λ v f. told_all c.args.part.now.who c.args.part.now.job _ _ _ _ _ _ _ _ n c.loop-read.invariant.1 f)
 
 pub returns-then-is_stopped-clause-credited : goal.returns-then-is_stopped-clause-credited
 returns-then-is_stopped-clause-credited g c =
-    let known = known_typing g.Rd.Source.remaining g.Rd.Source.foretold g.Rd.Source.sizes g.Rd.Source.controls in
+    let known = known_typing g.Rd.Source.remaining g.Rd.Source.foretold g.Rd.Source.sizes g.Rd.Source.words g.Rd.Source.controls in
     let h = told_beside c.args.part.now.who _ _ (known c.tell_beside.new.reader) _ _ _ _ _ c.loop-read.invariant.1 c.in_ok-pass.ensures.told in
     IfSome_then c.say-then-is_stopped.result c.say-then-is_stopped.ensures.said
     (λ v f. paid_stop c.args.part.now.who _ _ _ c.in-Bytes.text _ _ _ _ _ _ h c.in_ok-take_credit-in-Bytes.ensures.taken c.in_ok-pass-in-Bytes.ensures.said
@@ -93,15 +85,15 @@ returns-then-is_stopped-clause-credited g c =
 
 pub returns-in-Last-clause-credited : goal.returns-in-Last-clause-credited
 returns-in-Last-clause-credited g c =
-    let known = known_typing g.Rd.Source.remaining g.Rd.Source.foretold g.Rd.Source.sizes g.Rd.Source.controls in
+    let known = known_typing g.Rd.Source.remaining g.Rd.Source.foretold g.Rd.Source.sizes g.Rd.Source.words g.Rd.Source.controls in
     let h = told_beside c.args.part.now.who _ _ (known c.tell_beside.new.reader) _ _ _ _ _ c.loop-read.invariant.1 c.in_ok-pass.ensures.told in
-    IfSome_then c.say-in-Last-2.result c.say-in-Last-2.ensures.said
-    (λ v f. paid_end c.args.part.now.who _ _ _ _ _ c.in-Last.last _ _ _ _ h c.in-Last.ensures.gives.1 c.in_ok-pass-in-Last.ensures.said f)
+    IfSome_then c.tell_end.result c.tell_end.ensures.said
+    (λ v f. paid_end c.args.part.now.who c.args.part.now.job _ _ _ _ _ _ c.in-Last.last _ _ _ h c.in-Last.ensures.gives.1 f)
 
 pub returns-clause-credited : goal.returns-clause-credited
 returns-clause-credited g c =
-    IfSome_then c.say-3.result c.say-3.ensures.said (λ v f. paid_end c.args.part.now.who _ _ _ _ _ ReadFailed None _ _ _ c.loop-read.invariant.1 tt
-    c.in_ok-pass-2.ensures.said f)
+    IfSome_then c.tell_end-2.result c.tell_end-2.ensures.said
+    (λ v f. paid_end c.args.part.now.who c.args.part.now.job _ _ _ _ _ _ ReadFailed None _ _ c.loop-read.invariant.1 tt f)
 
 pub returns-then-is_stopped-clause-stays : goal.returns-then-is_stopped-clause-stays
 returns-then-is_stopped-clause-stays g c = stays_on c.args.stops.now c.loop-read.stops c.is_stopped.new.stops c.loop-read.invariant.3 c.is_stopped.ensures.stays

@@ -8,7 +8,7 @@ use Rattle.tn_session.proofs.net.run_reader.Given as goal
 
 abbrev pub invariant-loop-read : goal.invariant-loop-read
 invariant-loop-read g l =
-    let known = known_typing g.Rd.Source.remaining g.Rd.Source.foretold g.Rd.Source.sizes g.Rd.Source.controls in
+    let known = known_typing g.Rd.Source.remaining g.Rd.Source.foretold g.Rd.Source.sizes g.Rd.Source.words g.Rd.Source.controls in
     IsSeatAt (sends_on l.to) l.pass
     × HasTold l.part.who (known l.fn.reader) (known l.reader) l._read l.fn.credits l.credits (view l.pass)
     × IsSeated l.credits

@@ -24,4 +24,5 @@ returns-clause-told g c =
       says = says_both c.args.who (one_size size.0) (one_control said.0) (view c.args.pass) (view c.in_ok-pass.pass) (view p) size.2 said.2;
       bytes = c.tell_control.ensures.bytes ∙ c.tell_size.ensures.bytes;
       failures = c.tell_control.ensures.foretold ∙ c.tell_size.ensures.foretold;
+      words = c.tell_control.ensures.words ∙ c.tell_size.ensures.words;
     })

@@ -14,7 +14,7 @@ returns-clause-ran g c =
     let desk = c.in-Some-start_desk.desk in
     let back = c.in-Some-start_back.back in
     let acts = job_acts g.J.Job.reacts g.J.Job.steps g.J.Job.refuses in
-    let reader = known_reader g.Rd.Source.remaining g.Rd.Source.foretold g.Rd.Source.sizes in
+    let reader = known_reader g.Rd.Source.remaining g.Rd.Source.foretold g.Rd.Source.sizes g.Rd.Source.words in
     let writer = known_writing g.W.Drain.contents g.W.Drain.told c.args.writer.now c.run_beside.new.writer in
     let by_id = subst (λ (id : JobId). IfOk c.run_beside.result (λ r.
     RunsOn acts (record { first = id; job = desk.promise.job.value; queue = back.promise.queue.value.items; tostop = back.promise.tostop })

@@ -14,7 +14,7 @@ use std::thread::Threads;
 use tn_discipline::{Limit, Settings};
 use tn_server::{Editing, ServerFault};
 use tn_session::{Ended, Finish, Report, SessionFault, Unwatched, serve_session};
-use tn_streams::{Drain, Source, Tally};
+use tn_streams::{Drain, Source, Tally, nothing_to_say};
 
 /// Gives some bytes at once, then fails so many times, and then ends; it foretells how many of its calls will
 /// fail.
@@ -40,6 +40,10 @@ impl Once {
 
 impl Source for Once {
     ghost foretold = { λ once. Some (record { failing = once.failures; interrupted = 0 }) };
+
+    fn last_words(&self) -> &'static [u8] {
+        nothing_to_say()
+    }
 
     fn read_some(&mut self, buf: &mut [u8]) -> io::Result<usize> {
         if self.bytes.is_empty() && self.failures > 0 {

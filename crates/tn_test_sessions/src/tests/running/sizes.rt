@@ -13,7 +13,7 @@ use std::test::Fail;
 use std::thread::Threads;
 use tn_discipline::Limit;
 use tn_session::{Ended, Gate, Place, Report, client_session};
-use tn_streams::{Control, Source, WindowSize};
+use tn_streams::{Control, Source, WindowSize, nothing_to_say};
 
 /// What the two readers of a client tell each other.
 #[derive(Drop)]
@@ -87,6 +87,10 @@ impl Source for Window {
         let (first, rest) = self.controls.split_first()?;
         self.controls = rest;
         *first
+    }
+
+    fn last_words(&self) -> &'static [u8] {
+        nothing_to_say()
     }
 
     fn read_some(&mut self, buf: &mut [u8]) -> io::Result<usize> {

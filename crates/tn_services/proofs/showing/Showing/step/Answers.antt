@@ -5,7 +5,7 @@ use Rattle.tn_services.proofs.showing.Showing.step.Goals as goal
 
 pub returns-in-Ok-eq0 : goal.returns-in-Ok-eq0
 returns-in-Ok-eq0 g c =
-    let known = known_reader g.R.Source.remaining g.R.Source.foretold g.R.Source.sizes in
+    let known = known_reader g.R.Source.remaining g.R.Source.foretold g.R.Source.sizes g.R.Source.words in
     let r = c.release in
     let end = ends _ _ c.read_some.result c.in-Ok-eq0.field-0 c.read_some.new.buf c.in-Ok-eq0.is c.in-Ok-eq0.field-0-test
     (omega (arith, c.read_some.auto.buf)) c.read_some.ensures.bytes in
@@ -14,7 +14,7 @@ returns-in-Ok-eq0 g c =
 
 pub returns-in-Ok : goal.returns-in-Ok
 returns-in-Ok g c =
-    let known = known_reader g.R.Source.remaining g.R.Source.foretold g.R.Source.sizes in
+    let known = known_reader g.R.Source.remaining g.R.Source.foretold g.R.Source.sizes g.R.Source.words in
     let r = c.show in
     rw r.ensures.reader (shows_bytes c.args.self.now.waits r.result.text r.result.after r.new.self.waits (known c.args.self.now.reader)
     (known c.read_some.new.self) c.read_some.new.buf c.in-Ok.n r.ensures.text r.ensures.after r.ensures.waits c.in-Ok.n-test.1 c.in-Ok.ensures.bound.0
@@ -22,7 +22,7 @@ returns-in-Ok g c =
 
 pub returns-in-Err : goal.returns-in-Err
 returns-in-Err g c =
-    let known = known_reader g.R.Source.remaining g.R.Source.foretold g.R.Source.sizes in
+    let known = known_reader g.R.Source.remaining g.R.Source.foretold g.R.Source.sizes g.R.Source.words in
     let r = c.release-in-Err in
     rw r.ensures.reader (shows_again c.args.self.now.waits r.result.text r.result.after r.new.self.waits (known c.args.self.now.reader)
     (known c.read_some.new.self) c.in-Err.error r.ensures.text r.ensures.after r.ensures.waits c.in-Err.ensures.bytes
@@ -30,7 +30,7 @@ returns-in-Err g c =
 
 pub returns-in-Err-2 : goal.returns-in-Err-2
 returns-in-Err-2 g c =
-    let known = known_reader g.R.Source.remaining g.R.Source.foretold g.R.Source.sizes in
+    let known = known_reader g.R.Source.remaining g.R.Source.foretold g.R.Source.sizes g.R.Source.words in
     let r = c.release-in-Err-2 in
     rw r.ensures.reader (shows_failed c.args.self.now.waits r.result.text r.result.after r.new.self.waits (known c.args.self.now.reader)
     (known c.read_some.new.self) c.in-Err.error r.ensures.text r.ensures.after r.ensures.waits c.in-Err-2.ensures.bytes

@@ -10,9 +10,9 @@ pub returns-clause-net : goal.returns-clause-net
 returns-clause-net g c =
     let promise = c.args.self.net.promise in
     let left = c.in_ok-net.field-0 in
-    let known = known_typing g.Rd.Source.remaining g.Rd.Source.foretold g.Rd.Source.sizes g.Rd.Source.controls promise.reader.value in
+    let known = known_typing g.Rd.Source.remaining g.Rd.Source.foretold g.Rd.Source.sizes g.Rd.Source.words g.Rd.Source.controls promise.reader.value in
     let kept = c.in_ok-net.ensures in (
       kept.0,
-      λ none. subst (λ b. TypingSends promise.who b known (view left.pass))
+      λ none. subst (λ b. TypingSends promise.who promise.job b known (view left.pass))
           (unseated left.stops (subst (λ o. StopsStay o left.stops) none kept.2)) kept.1,
     )

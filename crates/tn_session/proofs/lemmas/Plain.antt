@@ -1,0 +1,19 @@
+-- A thread that reads, where no job says anything of its reader.
+use Rattle.std.proofs.Common.{◌≡◌, ◌≢◌, ℕ, Bool, true, List, [], ◌∷◌, ◌++◌, Option, None, ap, ◌∙◌, ◌⊎◌, ⊎_elim, inl, inr, length}
+use Rattle.tn_machines.specs.declared.messages.Message.{Message}
+use Rattle.tn_machines.specs.declared.messages.Message.TheVariants.{Left}
+use Rattle.tn_session.specs.Reader.{Closes}
+use Rattle.tn_session.specs.Reading.{IsEnding, IsReadCause}
+use Rattle.tn_streams.specs.Foretelling.{Failures}
+use Rattle.tn_streams.specs.Known.{KnownReader}
+
+-- after its pieces comes how the reading ended, and then Left, or Left alone
+abbrev pub PlainlyCloses : Bool → List (List ℕ) → Option (List ℕ) → Option Failures → List Message → Type 0
+PlainlyCloses may_stop pieces left foretold close =
+    ((last : Message) × (IsEnding last left × IsReadCause foretold (length pieces) last) × (close ≡ last ∷ Left ∷ []))
+    ⊎ ((may_stop ≡ true) × (pieces ≢ []) × (close ≡ Left ∷ []))
+
+pub plainly : (may_stop : Bool) (reader : KnownReader) (pieces : List (List ℕ)) (left : Option (List ℕ)) (close : List Message)
+    → Closes None may_stop reader pieces left close → PlainlyCloses may_stop pieces left reader.failures close
+plainly may_stop reader pieces left close closes =
+    ⊎_elim (λ x. inl (x.0, x.1, x.4 ∙ ap (λ (ms : List Message). ms ++ x.0 ∷ Left ∷ []) x.3)) (λ x. inr x) closes
