@@ -1,6 +1,7 @@
 -- What holds of each state that a server's session can reach.
 use Rattle.std.proofs.Common.{◌≡◌, ℕ, zero, suc, ◌+◌, ◌*◌, ◌≤◌}
-use Rattle.tn_progress.specs.Server.{one, End, nothing_comes, no_memory, Net, handing, net_tells, net_leaves, net_gone, is_done, is_refused, Cause, stops, none_comes}
+use Rattle.tn_progress.specs.Server.{one, End, nothing_comes, no_memory, Net, handing, net_tells, net_leaves, net_gone, is_done, is_refused, Cause, stops}
+use Rattle.tn_progress.specs.Server.{none_comes}
 use Rattle.tn_progress.specs.Server.{Desk, asking, waiting, desk_leaves, desk_gone, Back, back_waits, back_leaves, back_gone, Term, writing, joining, ended}
 use Rattle.tn_progress.specs.Server.{State, Sizes, waiting_mails}
 

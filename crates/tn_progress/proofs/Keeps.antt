@@ -1,14 +1,16 @@
 -- Each step of a server's session keeps what holds.
 use Rattle.std.proofs.Common.{arith, ◌≡◌, ℕ, zero, suc, ◌+◌, ◌<◌, ◌≤◌, Bool, true, false, ◌||◌, refl, sym, subst}
 use Rattle.tn_progress.proofs.Invariant.{Holds, many}
-use Rattle.tn_progress.specs.Server.{one, nothing_comes, no_memory, Net, reading, holding, handing, net_says, net_tells, net_leaves, is_done, is_refused, Desk, asking}
+use Rattle.tn_progress.specs.Server.{one, nothing_comes, no_memory, Net, reading, holding, handing, net_says, net_tells, net_leaves, is_done, is_refused, Desk}
+use Rattle.tn_progress.specs.Server.{asking}
 use Rattle.tn_progress.specs.Server.{waiting, answering, desk_says, desk_tells, desk_leaves, Back, back_waits, stepping, back_says, back_tells, back_leaves}
 use Rattle.tn_progress.specs.Server.{Term, receiving, writing, joining, Kind, piece, words, ending, take, said, step, done, refusal, left, State, Sizes, start}
 use Rattle.tn_progress.specs.Server.{count_of}
 use Rattle.tn_progress.specs.ServerSteps.{Choice, gives, refused_first, refused_last, Own, takes_credit, hands_piece, says_words, tells_end, net_left}
 use Rattle.tn_progress.specs.ServerSteps.{asks_entry}
 use Rattle.tn_progress.specs.ServerSteps.{takes_entry, takes_end, says_answer, tells_stop, desk_left, takes_step_credit, says_step, is_stopped, tells_refusal}
-use Rattle.tn_progress.specs.ServerSteps.{back_left, handles, writes_nothing, joins, finishes, Outer, brings, has_words, is_read_out, answers, takes_no_more, steps}
+use Rattle.tn_progress.specs.ServerSteps.{back_left, handles, writes_nothing, joins, finishes, Outer, brings, has_words, is_read_out, answers, takes_no_more}
+use Rattle.tn_progress.specs.ServerSteps.{steps}
 use Rattle.tn_progress.specs.ServerSteps.{refuses, has_no_job, writes, MayGo, gone_on, MayBeLet, let_on, waits_behind, handled, written, is_few, broken, paid}
 use Rattle.tn_progress.specs.ServerSteps.{Reached, at_start, goes_on, let_go}
 

@@ -2,9 +2,11 @@
 use Rattle.std.proofs.Common.{arith, ℕ, zero, suc, ◌+◌, ◌*◌, ◌<◌, ◌≤◌, Bool, true, false, ◌||◌, sym, ap, subst}
 use Rattle.tn_progress.proofs.Invariant.{is_waiting, last_of}
 use Rattle.tn_progress.proofs.Keeps.{holds}
-use Rattle.tn_progress.specs.Server.{one, nothing_comes, no_memory, Net, reading, holding, handing, net_says, net_tells, net_leaves, net_gone, is_done, is_refused, Desk}
+use Rattle.tn_progress.specs.Server.{one, nothing_comes, no_memory, Net, reading, holding, handing, net_says, net_tells, net_leaves, net_gone, is_done}
+use Rattle.tn_progress.specs.Server.{is_refused, Desk}
 use Rattle.tn_progress.specs.Server.{asking, waiting, answering, desk_says, desk_tells, desk_leaves, desk_gone, Back, back_waits, stepping, back_says}
-use Rattle.tn_progress.specs.Server.{back_tells, back_leaves, back_gone, Term, receiving, writing, joining, ended, Kind, piece, words, ending, take, said, step, done}
+use Rattle.tn_progress.specs.Server.{back_tells, back_leaves, back_gone, Term, receiving, writing, joining, ended, Kind, piece, words, ending, take, said, step}
+use Rattle.tn_progress.specs.Server.{done}
 use Rattle.tn_progress.specs.Server.{refusal, left, State, Sizes, waiting_mails, count_of}
 use Rattle.tn_progress.specs.ServerSteps.{Choice, gives, refused_first, refused_last, Own, takes_credit, hands_piece, says_words, tells_end, net_left}
 use Rattle.tn_progress.specs.ServerSteps.{asks_entry}

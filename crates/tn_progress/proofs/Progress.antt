@@ -1,13 +1,17 @@
 -- A server's session goes on by itself, or waits for the network, for its foreground job or for a write.
 use Rattle.std.proofs.Common.{arith, ◌≡◌, ◌≢◌, ℕ, zero, suc, ◌+◌, ◌<◌, ◌≤◌, Bool, true, false, ◌⊎◌, inl, inr, refl, ap, subst}
-use Rattle.tn_progress.proofs.Invariant.{Holds, may_have_said, net_left_in, desk_left_in, back_left_in, is_waiting, has_step_credit, has_ended, has_failed, done_by}
+use Rattle.tn_progress.proofs.Invariant.{Holds, may_have_said, net_left_in, desk_left_in, back_left_in, is_waiting, has_step_credit, has_ended, has_failed}
+use Rattle.tn_progress.proofs.Invariant.{done_by}
 use Rattle.tn_progress.proofs.Invariant.{refused_by, desk_by, has_answer, is_leaving, is_handing}
 use Rattle.tn_progress.proofs.Keeps.{holds}
-use Rattle.tn_progress.specs.Server.{one, End, nothing_comes, no_memory, Net, reading, holding, handing, net_says, net_tells, net_leaves, net_gone, is_done, is_refused}
+use Rattle.tn_progress.specs.Server.{one, End, nothing_comes, no_memory, Net, reading, holding, handing, net_says, net_tells, net_leaves, net_gone, is_done}
+use Rattle.tn_progress.specs.Server.{is_refused}
 use Rattle.tn_progress.specs.Server.{Cause, stops, none_comes, Desk, asking, waiting, answering, desk_says, desk_tells, desk_leaves, desk_gone, Back}
-use Rattle.tn_progress.specs.Server.{back_waits, stepping, back_says, back_tells, back_leaves, back_gone, Term, receiving, writing, joining, ended, Kind, piece, words}
+use Rattle.tn_progress.specs.Server.{back_waits, stepping, back_says, back_tells, back_leaves, back_gone, Term, receiving, writing, joining, ended, Kind, piece}
+use Rattle.tn_progress.specs.Server.{words}
 use Rattle.tn_progress.specs.Server.{ending, take, said, step, done, refusal, left, Box, State, Sizes, HasRoom, waiting_mails, count_of}
-use Rattle.tn_progress.specs.ServerSteps.{gives, Own, takes_credit, hands_piece, says_words, tells_end, net_left, asks_entry, takes_entry, takes_end, says_answer}
+use Rattle.tn_progress.specs.ServerSteps.{gives, Own, takes_credit, hands_piece, says_words, tells_end, net_left, asks_entry, takes_entry, takes_end}
+use Rattle.tn_progress.specs.ServerSteps.{says_answer}
 use Rattle.tn_progress.specs.ServerSteps.{tells_stop, desk_left, takes_step_credit, says_step, is_stopped, tells_refusal, back_left, handles, joins, finishes}
 use Rattle.tn_progress.specs.ServerSteps.{MayGo, gone_on, Goes, WaitsFor, for_network, for_job, for_write, brings, answers, writes, let_on, IsLet, waits_behind}
 use Rattle.tn_progress.specs.ServerSteps.{NeverGetsStuck, PutsNeverWait, FewMailsWait}

@@ -1,6 +1,7 @@
 -- What the threads of a server's session may do next.
 use Rattle.std.specs.Prelude.{◌≡◌, ◌≢◌, ℕ, zero, suc, ◌+◌, ◌-◌, ◌*◌, ◌<◌, ◌≤◌, Bool, true, false, ◌||◌, ◌⊎◌}
-use Rattle.tn_progress.specs.Server.{one, End, nothing_comes, reading, holding, handing, net_says, net_tells, net_leaves}
+use Rattle.tn_progress.specs.Server.{one, End, nothing_comes, reading, holding, handing, net_says, net_tells}
+use Rattle.tn_progress.specs.Server.{net_leaves}
 use Rattle.tn_progress.specs.Server.{net_gone, words}
 use Rattle.tn_progress.specs.Server.{Stop, Cause, stops, none_comes, asking, waiting, answering, desk_says}
 use Rattle.tn_progress.specs.Server.{desk_tells, desk_leaves, desk_gone, back_waits, stepping, back_says}

@@ -190,7 +190,8 @@ impl<J: Job, M: Maker<Job = J>, O: Asked<M>> Running<J, M, O> {
             (live_of (vec_items self.old.started) (λ s. s.caller.number)) }
         ensures each { StillCounts
             (server_of (facts_of J.fresh M.gives J.reacts J.steps J.refuses) M.left O.options O.made O.turned)
-            self.old.whole self.old.faulted self.old.refused self.new.whole self.new.faulted self.new.refused }
+            self.old.whole self.old.faulted self.old.refused self.new.whole self.new.faulted
+            self.new.refused }
     {
         let Started {
             caller,
@@ -238,7 +239,8 @@ impl<J: Job, M: Maker<Job = J>, O: Asked<M>> Running<J, M, O> {
             × (self.new.refused ≡ self.old.refused) }
         ensures each { StillCounts
             (server_of (facts_of J.fresh M.gives J.reacts J.steps J.refuses) M.left O.options O.made O.turned)
-            self.old.whole self.old.faulted self.old.refused self.new.whole self.new.faulted self.new.refused }
+            self.old.whole self.old.faulted self.old.refused self.new.whole self.new.faulted
+            self.new.refused }
     {
         self.faulted += 1;
         self.accepted += 1;
@@ -261,7 +263,8 @@ impl<J: Job, M: Maker<Job = J>, O: Asked<M>> Running<J, M, O> {
         ensures counts { (self.new.whole ≡ self.old.whole) × (self.new.faulted ≡ self.old.faulted) }
         ensures each { StillCounts
             (server_of (facts_of J.fresh M.gives J.reacts J.steps J.refuses) M.left O.options O.made O.turned)
-            self.old.whole self.old.faulted self.old.refused self.new.whole self.new.faulted self.new.refused }
+            self.old.whole self.old.faulted self.old.refused self.new.whole self.new.faulted
+            self.new.refused }
     {
         self.refused += 1;
         self.accepted += 1;

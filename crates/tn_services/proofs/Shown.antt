@@ -170,7 +170,8 @@ module _ {R W : Type 0} (remaining : R → Option (List ℕ)) (foretold : R → 
   Through first reactions (side.Sends last) = ⊥
 
   one_more : (first mid : Showing R) (r : Reaction) (reactions : List Reaction) (last : Gateway R W)
-      → Shows first.waits r.text r.after mid.waits (known_reader remaining foretold sizes words first.reader) (known_reader remaining foretold sizes words mid.reader)
+      → Shows first.waits r.text r.after mid.waits (known_reader remaining foretold sizes words first.reader)
+      (known_reader remaining foretold sizes words mid.reader)
       → Through mid reactions last → Through first (r ∷ reactions) last
   one_more first mid r reactions (side.Shows last) one rest = (mid.waits, known_reader remaining foretold sizes words mid.reader, one, rest)
   one_more first mid r reactions (side.Sends last) one rest = absurd rest
@@ -200,5 +201,6 @@ module _ {R W : Type 0} (remaining : R → Option (List ℕ)) (foretold : R → 
   talk first reactions (side.Sends last) steps = absurd steps
 
   pub in_order : (first : Showing R) (reactions : List Reaction) (last : Gateway R W)
-      → FoldsTo (Steps {W = W} remaining foretold sizes words) (side.Shows first) reactions last → ShowsTalk {W = W} remaining foretold sizes words first reactions last
+      → FoldsTo (Steps {W = W} remaining foretold sizes words) (side.Shows first) reactions last →
+      ShowsTalk {W = W} remaining foretold sizes words first reactions last
   in_order first reactions last steps = talk first reactions last (through first reactions last steps)

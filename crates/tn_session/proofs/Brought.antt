@@ -1,5 +1,6 @@
 -- What the messages to the core bring, of what the readers gave.
-use Rattle.std.proofs.Common.{◌≡◌, ℕ, Bool, true, false, List, [], ◌∷◌, ◌++◌, Option, Some, None, refl, sym, ap, ◌∙◌, ⊎_elim, map, subst, append-nil, append_assoc}
+use Rattle.std.proofs.Common.{◌≡◌, ℕ, Bool, true, false, List, [], ◌∷◌, ◌++◌, Option, Some, None, refl, sym, ap, ◌∙◌, ⊎_elim, map, subst, append-nil}
+use Rattle.std.proofs.Common.{append_assoc}
 use Rattle.std.proofs.lemmas.List.{map-append}
 use Rattle.std.proofs.lemmas.Grind.{flat_map-append}
 use Rattle.std.specs.Io.KnownBytes.{Consumes}
@@ -122,17 +123,20 @@ one_list s a b v e f = is_some a b (sym (sender_share s a v e) ∙ sender_share 
     is_some : {A : Type 0} (x y : A) → Some x ≡ Some y → x ≡ y
     is_some x y eq = cc
 
-reader_bytes : (who : Sender) (may_stop : Bool) (reader : KnownReader) (v : View) (mails : List Mail) → ReaderSends who None may_stop reader v → v ≡ sender who mails
+reader_bytes : (who : Sender) (may_stop : Bool) (reader : KnownReader) (v : View) (mails : List Mail) → ReaderSends who None may_stop reader v → v
+    ≡ sender who mails
     → (left : Option (List ℕ)) × Consumes reader.bytes left (bytes_sent mails)
 reader_bytes who may_stop reader v mails (told, left, close, consumed, closes, is, small, sizes) e =
     let pieces = pieces_in told in
     let all : bytes_sent mails ≡ concat pieces =
     ap bytes_sent (one_list who mails (map (mail who) (told_messages told ++ close)) v e is) ∙ told_bytes who told close
-    ∙ ap (λ (bs : List ℕ). concat pieces ++ bs) (close_bytes who may_stop pieces left reader.failures close (plainly may_stop reader pieces left close closes)) ∙ append-nil (concat pieces) in
+    ∙ ap (λ (bs : List ℕ). concat pieces ++ bs) (close_bytes who may_stop pieces left reader.failures close (plainly may_stop reader pieces left close closes))
+    ∙ append-nil (concat pieces) in
     let P : List ℕ → Type 0 = λ bs. Consumes reader.bytes left bs in
     (left, subst P (sym all) consumed)
 
-pub keys_brought : (stopped : Bool) (reader : KnownReader) (v : View) (handled mails : List Mail) → ReaderSends Keys None stopped reader v → v ≡ sender Keys mails
+pub keys_brought : (stopped : Bool) (reader : KnownReader) (v : View) (handled mails : List Mail) → ReaderSends Keys None stopped reader v → v
+    ≡ sender Keys mails
     → from Keys handled ≡ mails → (left : Option (List ℕ)) × Consumes reader.bytes left (brought origin.Keys (all_told handled))
 keys_brought stopped reader v handled mails sent e is =
     let r = reader_bytes Keys stopped reader v mails sent e in
@@ -218,6 +222,7 @@ pub commands_brought : (stopped : Bool) (reader : KnownReader) (v : View) (handl
 commands_brought stopped reader v handled mails (told, left, close, consumed, closes, is, small, sizes) e of =
     let asked : asked_sent mails ≡ controls_in told =
     ap asked_sent (one_list Keys mails (map (mail Keys) (told_messages told ++ close)) v e is) ∙ told_asked Keys told close
-    ∙ ap (λ (cs : List Control). controls_in told ++ cs) (close_asks Keys stopped (pieces_in told) left reader.failures close (plainly stopped reader (pieces_in told) left close closes))
+    ∙ ap (λ (cs : List Control). controls_in told ++ cs) (close_asks Keys stopped (pieces_in told) left reader.failures close
+    (plainly stopped reader (pieces_in told) left close closes))
     ∙ append-nil (controls_in told) in
     commands_all handled ∙ ap (λ (ms : List Mail). map command_of (asked_sent ms)) of ∙ ap (map command_of) asked

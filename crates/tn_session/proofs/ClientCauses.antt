@@ -50,7 +50,8 @@ cause_of : (foretold : Option Failures) (count : ℕ) (last : Message) → last 
 cause_of foretold count last e cause = subst (λ (m : Message). IsReadCause foretold count m) e cause
 
 close_cause : (may_stop : Bool) (foretold : Option Failures) (told : List Telling) (left : Option (List ℕ)) (close : List Message)
-    → PlainlyCloses may_stop (pieces_in told) left foretold close → HasFailure (told_messages told ++ close) → WillFail max_reads (length (pieces_in told)) foretold
+    → PlainlyCloses may_stop (pieces_in told) left foretold close → HasFailure (told_messages told ++ close) →
+    WillFail max_reads (length (pieces_in told)) foretold
 close_cause may_stop foretold told left close closes h =
     let Fails : List Message → Type 0 = λ ms. HasFailure (told_messages told ++ ms) in
     ⊎_elim
@@ -60,7 +61,8 @@ close_cause may_stop foretold told left close closes h =
 
 pub read_cause : (stopped : Bool) (keys_reader net_reader : KnownReader) (from_keys from_net handled : List Mail) (keys net : View)
     (marked : List (Told × ClientMark)) → keys ≡ sender Keys from_keys → net ≡ sender Net from_net → Interleaves handled (four from_net [] [] from_keys)
-    → (typed : ReaderSends Keys None stopped keys_reader keys) → (read : ReaderSends Net None false net_reader net) → map (λ m. m.0) marked ≡ all_told handled → (c : Run)
+    → (typed : ReaderSends Keys None stopped keys_reader keys) → (read : ReaderSends Net None false net_reader net) → map (λ m. m.0) marked ≡ all_told handled
+    → (c : Run)
     → IsEndedAt c marked (ended.Fault fault.Read) → WillFail max_reads (length (pieces_in typed.0)) keys_reader.failures
     ⊎ WillFail max_reads (length (pieces_in read.0)) net_reader.failures
 read_cause stopped keys_reader net_reader from_keys from_net handled keys net marked keys_is net_is woven typed read messages c r =

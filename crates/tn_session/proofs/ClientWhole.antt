@@ -115,7 +115,8 @@ client_ran core last stopped keys_reader net_reader writer screen pass₀ pass�
     let none = none_over acted.handled s.3.0 ns.mails [] [] ks.mails s.3.1 ns.ends tt tt ks.ends (omega (arith, ns.one, ks.one, acted.lefts)) in
     let woven : Interleaves acted.handled (four ns.mails [] [] ks.mails) =
     λ w. ap (from w) (sym (append-nil acted.handled) ∙ ap (λ (l : List Mail). acted.handled ++ l) (sym none)) ∙ s.3.1 w in
-    let typing : TypingSends Keys None stopped keys_reader result.keys = subst (λ (w : View). TypingSends Keys None stopped keys_reader w) (ks.is ∙ sym s.1) sk in
+    let typing : TypingSends Keys None stopped keys_reader result.keys = subst (λ (w : View). TypingSends Keys None stopped keys_reader w)
+    (ks.is ∙ sym s.1) sk in
     let typed = typing.0 in
     let read : ReaderSends Net None false net_reader result.net = subst (λ (w : View). ReaderSends Net None false net_reader w) (ns.is ∙ sym s.0) sn in
     let noted = client_noted begin g.0 acted.goes.steps acted.goes.marked acted.handled acted.goes.bytes result.noted g.5 acted.goes.of_steps acted.goes.whole

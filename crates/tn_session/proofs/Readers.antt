@@ -231,7 +231,8 @@ reader_ends who job may_stop typing left told last said v w consumed ending caus
 )
 
 -- it was stopped after a piece
-pub reader_stops : (who : Sender) (job : Option JobId) (may_stop : Bool) (typing : KnownTyping) (left : Option (List ℕ)) (told : List Telling) (p : List ℕ) (v w u : View)
+pub reader_stops : (who : Sender) (job : Option JobId) (may_stop : Bool) (typing : KnownTyping) (left : Option (List ℕ)) (told : List Telling) (p : List ℕ)
+    (v w u : View)
     → Consumes typing.reader.bytes left (concat (pieces_in told ++ p ∷ [])) → may_stop ≡ true → v ≡ sends who (told_messages told)
     → All IsPiece (pieces_in told) → IsPiece p → TellsFirst typing.reader.sizes (sizes_in told) → TellsFirst typing.controls (controls_in told)
     → Says who (Piece p) v w → Says who Left w u → TypingSends who job may_stop typing u

@@ -138,7 +138,8 @@ told_all who job may_stop old now calls a b v w is h s =
     h.sent h.small (now.reader.sizes, h.sizes) (now.controls, h.controls) s.says
 
 -- it was stopped after a piece
-pub told_stop : (who : Sender) (job : Option JobId) (may_stop : Bool) (old now new : KnownTyping) (calls : ℕ) (p : List ℕ) (a b : Option CreditSeat) (v w u : View)
+pub told_stop : (who : Sender) (job : Option JobId) (may_stop : Bool) (old now new : KnownTyping) (calls : ℕ) (p : List ℕ) (a b : Option CreditSeat)
+    (v w u : View)
     → HasTold who old now calls a b v → may_stop ≡ true → Consumes now.reader.bytes new.reader.bytes p → IsPiece p → Says who (Piece p) v w → Says who Left w u
     → TypingSends who job may_stop old u
 told_stop who job may_stop old now new calls p a b v w u h may gives fits one two =

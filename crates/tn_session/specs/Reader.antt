@@ -1,5 +1,6 @@
 -- What a thread that reads sends, whichever it is.
-use Rattle.std.specs.Prelude.{◌≡◌, ◌≢◌, ℕ, Bool, true, List, Option, None, Some, [], ◌∷◌, ◌++◌, ◌⊎◌, length, map}
+use Rattle.std.specs.Prelude.{◌≡◌, ◌≢◌, ℕ, Bool, IsTrue, List, Option, None, Some, [], ◌∷◌, ◌++◌, ◌⊎◌, length}
+use Rattle.std.specs.Prelude.{map}
 use Rattle.std.specs.Prelude.{option_to_list, All}
 use Rattle.std.specs.Io.KnownBytes.{Consumes}
 use Rattle.std.specs.List.{concat}
@@ -37,7 +38,7 @@ abbrev pub Closes : Option JobId → Bool → KnownReader → List (List ℕ) �
 Closes job may_stop reader pieces left close =
     ((last : Message) × (IsEnding last left × IsReadCause reader.failures (length pieces) last)
     × (said : List Message) × SaysLast job reader.words last said × (close ≡ said ++ last ∷ Left ∷ []))
-    ⊎ ((may_stop ≡ true) × (pieces ≢ []) × (close ≡ Left ∷ []))
+    ⊎ (IsTrue may_stop × (pieces ≢ []) × (close ≡ Left ∷ []))
 
 abbrev pub sends : Sender → List Message → View
 sends who messages = sender who (map (mail who) messages)

@@ -299,7 +299,8 @@ impl<Rd: Source, J: Job> Started<Rd, J> {
     pub(crate) fn join<R: Threads + Wait>(self, rt: &R) -> Option<Returned>
         ensures net { IfSome result (λ r. IsSeatAt (sends_on self.net.promise.to.value) r.net ×
             (self.net.promise.stops.value ≡ None → TypingSends self.net.promise.who self.net.promise.job false
-            (known_typing Rd.remaining Rd.foretold Rd.sizes Rd.words Rd.controls self.net.promise.reader.value)
+            (known_typing Rd.remaining Rd.foretold Rd.sizes Rd.words Rd.controls
+            self.net.promise.reader.value)
             (view r.net))) }
         ensures desk { IfSome result (λ r. IsSeatAt (sends_on self.desk.promise.to.value) r.desk ×
             IsSeatAt (receives_on self.desk.promise.from.value) r.took ×

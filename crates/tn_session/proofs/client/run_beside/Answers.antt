@@ -19,8 +19,10 @@ returns-clause-ran g c =
     let join = c.in-Some-join in
     let returned = join.returned in
     let ended = c.in-Some in
-    let keys_reader = known_typing g.K.Source.remaining g.K.Source.foretold g.K.Source.sizes g.K.Source.words g.K.Source.controls started.keys.promise.reader.value in
-    let net_typing = known_typing g.N.Source.remaining g.N.Source.foretold g.N.Source.sizes g.N.Source.words g.N.Source.controls started.net.promise.reader.value in
+    let keys_reader = known_typing g.K.Source.remaining g.K.Source.foretold g.K.Source.sizes g.K.Source.words g.K.Source.controls
+    started.keys.promise.reader.value in
+    let net_typing = known_typing g.N.Source.remaining g.N.Source.foretold g.N.Source.sizes g.N.Source.words g.N.Source.controls
+    started.net.promise.reader.value in
     let net_reader = net_typing.reader in
     let writer = known_writing g.W.Drain.contents g.W.Drain.told c.args.writer.now c.run_core.new.writer in
     let screen = known_writing g.S.Drain.contents g.S.Drain.told c.args.screen.now c.run_core.new.screen in

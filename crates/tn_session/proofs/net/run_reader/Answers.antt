@@ -28,7 +28,8 @@ loop-read-preserved g c =
     let h = told_beside c.args.part.now.who _ _ (known c.tell_beside.new.reader) _ _ _ _ _ c.loop-read.invariant.1 c.in_ok-pass.ensures.told in (
       c.in_ok-pass-in-Bytes.ensures.seat,
       told_one c.args.part.now.who _ _ _ _ c.in-Bytes.text _ _ _ _ _ h c.in-Bytes.ensures.gives.0 c.in-Bytes.ensures.gives.1 c.in-Bytes.ensures.foretold
-          c.in-Bytes.ensures.sizes c.in-Bytes.ensures.controls c.in-Bytes.ensures.words c.in_ok-take_credit-in-Bytes.ensures.taken c.in_ok-pass-in-Bytes.ensures.said,
+          c.in-Bytes.ensures.sizes c.in-Bytes.ensures.controls c.in-Bytes.ensures.words c.in_ok-take_credit-in-Bytes.ensures.taken
+          c.in_ok-pass-in-Bytes.ensures.said,
       c.take_credit.ensures.seat,
       stays_on c.args.stops.now c.loop-read.stops c.is_stopped.new.stops c.loop-read.invariant.3 c.is_stopped.ensures.stays,
     )

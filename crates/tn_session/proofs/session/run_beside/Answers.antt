@@ -23,7 +23,8 @@ returns-clause-ran g c began words first opened settings table at ew =
     let join = c.in-Some-join in
     let returned = join.returned in
     let ended = c.in-Some in
-    let typing = known_typing g.Rd.Source.remaining g.Rd.Source.foretold g.Rd.Source.sizes g.Rd.Source.words g.Rd.Source.controls started.net.promise.reader.value in
+    let typing = known_typing g.Rd.Source.remaining g.Rd.Source.foretold g.Rd.Source.sizes g.Rd.Source.words g.Rd.Source.controls
+    started.net.promise.reader.value in
     let reader = typing.reader in
     let writer = known_writer g.W.Drain.contents g.W.Drain.told in
     scheduled (job_acts g.J.Job.reacts g.J.Job.steps g.J.Job.refuses)
@@ -44,7 +45,8 @@ returns-clause-ran g c began words first opened settings table at ew =
     HandlesAll c.args.term.now (view c.args.passes.mails) (view ended.passes.mails) (view c.args.passes.hand) (view ended.passes.hand)
     (record { before = writer c.args.writer.now; after = writer c.run_term.new.writer }) (noted_of c.args.output.transcript) n
     (view c.run_term.new.watched.stops.pass) c.run_term.new.term) (sym (ap noted_of c.settle-ports.ensures.transcript)) ended.ensures.acted)
-    (sends_as started.net.promise.who Net started.net.promise.job (Some started.desk.promise.id) false typing (view returned.net) c.requires.net.1 c.requires.net.3
+    (sends_as started.net.promise.who Net started.net.promise.job (Some started.desk.promise.id) false typing
+    (view returned.net) c.requires.net.1 c.requires.net.3
     (join.ensures.net.1 c.requires.net.2)).0 join.ensures.desk.2
     join.ensures.back.1 c.settle-ports.ensures.stopped
     c.settle-ports.ensures.settled (c.report.ensures ∙ ap report_of c.progress.ensures)

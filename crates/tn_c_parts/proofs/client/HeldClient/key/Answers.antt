@@ -30,17 +30,20 @@ returns-in-Err-NotOn c =
 pub returns-in-Err-Char-NotSettable : goal.returns-in-Err-Char-NotSettable
 returns-in-Err-Char-NotSettable c =
     key_refused c.args.key code.NotSettable _ _ (λ e. cc)
-    (client_told (call_fault c.args.self.now.end) c.in-Err-Char-NotSettable.field-0 (fault.Char char.NotSettable) (c.in-Err-Char-NotSettable.field-0-is ∙ ap fault.Char c.in-Err-Char-NotSettable.field-0-0-is) c.in-Err-Char-NotSettable.ensures.failed)
+    (client_told (call_fault c.args.self.now.end) c.in-Err-Char-NotSettable.field-0 (fault.Char char.NotSettable)
+    (c.in-Err-Char-NotSettable.field-0-is ∙ ap fault.Char c.in-Err-Char-NotSettable.field-0-0-is) c.in-Err-Char-NotSettable.ensures.failed)
     c.in-Err-Char-NotSettable.ensures.err (λ e. absurd (cc))
 
 pub returns-in-Err-Char-Reserved : goal.returns-in-Err-Char-Reserved
 returns-in-Err-Char-Reserved c =
     key_refused c.args.key code.Reserved _ _ (λ e. cc)
-    (client_told (call_fault c.args.self.now.end) c.in-Err-Char-Reserved.field-0 (fault.Char char.Reserved) (c.in-Err-Char-Reserved.field-0-is ∙ ap fault.Char c.in-Err-Char-Reserved.field-0-0-is) c.in-Err-Char-Reserved.ensures.failed)
+    (client_told (call_fault c.args.self.now.end) c.in-Err-Char-Reserved.field-0 (fault.Char char.Reserved)
+    (c.in-Err-Char-Reserved.field-0-is ∙ ap fault.Char c.in-Err-Char-Reserved.field-0-0-is) c.in-Err-Char-Reserved.ensures.failed)
     c.in-Err-Char-Reserved.ensures.err (λ e. absurd (cc))
 
 pub returns-in-Err-Char-Taken : goal.returns-in-Err-Char-Taken
 returns-in-Err-Char-Taken c =
     key_refused c.args.key code.Taken _ _ (λ e. cc)
-    (client_told (call_fault c.args.self.now.end) c.in-Err-Char-Taken.field-0 (fault.Char char.Taken) (c.in-Err-Char-Taken.field-0-is ∙ ap fault.Char c.in-Err-Char-Taken.field-0-0-is) c.in-Err-Char-Taken.ensures.failed)
+    (client_told (call_fault c.args.self.now.end) c.in-Err-Char-Taken.field-0 (fault.Char char.Taken)
+    (c.in-Err-Char-Taken.field-0-is ∙ ap fault.Char c.in-Err-Char-Taken.field-0-0-is) c.in-Err-Char-Taken.ensures.failed)
     c.in-Err-Char-Taken.ensures.err (λ e. absurd (cc))
