@@ -68,13 +68,6 @@ returns-in-Err-Pty-Memory-clause-call c =
       refused = inr (server_told (char_fault_at c.args.self.now.end c.args.func c.args.value) c.in-Err-Pty-Memory.field-0 (fault.Pty pty.Memory)
           (c.in-Err-Pty-Memory.field-0-is ∙ ap fault.Pty c.in-Err-Pty-Memory.field-0-0-is) c.in-Err-Pty-Memory.ensures.fault);
       err = search rules;
-<<<<<<< HEAD
-      grows = λ _ _ _. absurd (never_pty c.args.self.now.end.failed
-          (char_fault c.args.self.now.end.table c.args.func c.args.value) c.in-Err-Pty-Memory.field-0 c.in-Err-Pty-Memory.field-0-0
-          c.in-Err-Pty-Memory.field-0-is
-          c.in-Err-Pty-Memory.ensures.fault);
-=======
->>>>>>> 1705668959673f9869abcb51ac0aa0c5d18f2169
       full = λ _ _ _. absurd
           (never_pty c.args.self.now.end.failed (char_fault c.args.self.now.end.table c.args.func c.args.value) c.in-Err-Pty-Memory.field-0
           c.in-Err-Pty-Memory.field-0-0 c.in-Err-Pty-Memory.field-0-is c.in-Err-Pty-Memory.ensures.fault);
