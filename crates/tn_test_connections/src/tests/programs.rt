@@ -3,7 +3,7 @@
 use std::alloc::{AllocError, Global};
 use std::io::{self, Cursor, ErrorKind, Write};
 use std::sync::Arc;
-use tn_program::{Link, Origin, OwnCharacters, Streams, own_characters, run_words};
+use tn_program::{Link, KeySource, OwnCharacters, Streams, own_characters, run_words};
 
 /// Takes all that is written, or fails.
 #[derive(Drop)]
@@ -68,7 +68,7 @@ fn faults_are_told(rt: HostRuntime) {
         let mut errors = Vec::new(alloc);
         let mut writer = Paper { open: *open };
         let streams = Streams {
-            origin: Origin::Reader,
+            origin: KeySource::Reader,
             reader: Cursor::new(*b"a\n"),
             sizes: None,
             stands: None,
@@ -100,7 +100,7 @@ fn the_line_of_a_fault_is_told(rt: HostRuntime) {
         let mut output = Vec::new(alloc);
         let mut errors = Vec::new(alloc);
         let streams = Streams {
-            origin: Origin::Reader,
+            origin: KeySource::Reader,
             reader: *script,
             sizes: None,
             stands: None,
@@ -146,7 +146,7 @@ fn what_of_a_stream_is_not_printed_is_told(rt: HostRuntime) {
         let mut output = Vec::new(alloc);
         let mut errors = Vec::new(alloc);
         let streams = Streams {
-            origin: Origin::Reader,
+            origin: KeySource::Reader,
             reader: *stream,
             sizes: None,
             stands: None,
