@@ -21,7 +21,7 @@ use std::process::ExitCode;
 use std::sync::Arc;
 use std::{env, io, str};
 use tn_program::{
-    Link, OWN_LENGTH, Origin, OwnCharacters, Screen, Streams, own_characters, run_words,
+    KeySource, Link, OWN_LENGTH, OwnCharacters, Screen, Streams, own_characters, run_words,
 };
 
 mod outlet;
@@ -48,11 +48,11 @@ const MAX_PATH: usize = 4_096;
 /// The status when out of memory before anything is run.
 const NO_MEMORY: u8 = 1;
 
-fn origin_of(rt: &HostRuntime) -> Origin {
+fn origin_of(rt: &HostRuntime) -> KeySource {
     let mut value = [0; 1];
     match rt.var(TERMINAL, &mut value) {
-        Err(FillError::NotPresent) => Origin::Input,
-        _ => Origin::Terminal(own_of(rt)),
+        Err(FillError::NotPresent) => KeySource::Input,
+        _ => KeySource::Terminal(own_of(rt)),
     }
 }
 
@@ -89,10 +89,10 @@ fn stands_of<R: Env + Files<File = File>>(rt: &R) -> Option<File> {
 }
 
 // The terminal that keys are typed at, though standard output may be a file.
-fn terminal_of<R: Files<File = File>>(rt: &R, origin: Origin) -> Option<File> {
+fn terminal_of<R: Files<File = File>>(rt: &R, origin: KeySource) -> Option<File> {
     match origin {
-        Origin::Terminal(_) => OpenOptions::new().write(true).open(rt, TERMINAL_PATH).ok(),
-        Origin::Reader | Origin::Input => None,
+        KeySource::Terminal(_) => OpenOptions::new().write(true).open(rt, TERMINAL_PATH).ok(),
+        KeySource::Reader | KeySource::Input => None,
     }
 }
 
