@@ -21,7 +21,7 @@ use std::process::ExitCode;
 use std::sync::Arc;
 use std::{env, io, str};
 use tn_program::{
-    Link, OWN_LENGTH, KeySource, OwnCharacters, Screen, Streams, own_characters, run_words,
+    KeySource, Link, OWN_LENGTH, OwnCharacters, Screen, Streams, own_characters, run_words,
 };
 
 mod outlet;

@@ -1,13 +1,15 @@
 //! Standard output, whose reader may leave.
 
-ghost use Rattle.std.specs.Prelude.{None};
+ghost use Rattle.std.specs.Io.{WritesAtMost};
+ghost use Rattle.std.specs.Io.KnownBytes.{WriteAppends};
+ghost use Rattle.tn.specs.Outlets.{HandsOn, held_by};
 
 use std::io;
 use std::io::{ErrorKind, Write};
 
 /// The screen of a session. Where its reader has left, as `head` does, what is still written is dropped: the
-/// screen has ended the connection then, and the session ends as by a hang-up. Of what it holds nothing is
-/// known.
+/// screen has ended the connection then, and the session ends as by a hang-up. So of what a session's holds
+/// nothing is known beforehand; any other holds what is written to it.
 #[derive(Drop)]
 pub(crate) struct Outlet<S> {
     pub(crate) screen: S,
@@ -16,9 +18,15 @@ pub(crate) struct Outlet<S> {
 }
 
 impl<S: Write> Write for Outlet<S> {
-    ghost contents = { λ _. None };
+    ghost contents = { λ outlet. held_by outlet.is_session (S.Write.contents outlet.screen) };
 
-    fn write(&mut self, buf: &[u8]) -> io::Result<usize> {
+    fn write(&mut self, buf: &[u8]) -> io::Result<usize>
+        ensures bound { WritesAtMost result buf.now }
+        ensures bytes { WriteAppends (held_by self.old.is_session (S.contents self.old.screen))
+            (held_by self.new.is_session (S.contents self.new.screen)) result buf.now }
+        ensures hands_on { HandsOn self.old.is_session (S.contents self.old.screen)
+            (S.contents self.new.screen) result buf.now }
+    {
         match self.screen.write(buf) {
             Err(error) if self.is_session && error.kind() == ErrorKind::BrokenPipe => Ok(buf.len()),
             wrote => wrote,

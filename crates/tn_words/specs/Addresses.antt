@@ -1,6 +1,5 @@
 -- Hosts and ports, as the command line writes them.
-use Rattle.std.specs.Prelude.{◌≡◌, ◌≢◌, ◌≤◌, ◌⊎◌, ◌==◌, eqb, ◌&&◌, ◌||◌, ℕ, Bool, IsTrue, IsFalse, not}
-use Rattle.std.specs.Prelude.{Option}
+use Rattle.std.specs.Prelude.{◌≡◌, ◌≢◌, ◌≤◌, ◌⊎◌, ◌==◌, eqb, ◌&&◌, ◌||◌, ℕ, Bool, true, false, not, Option}
 use Rattle.std.specs.Prelude.{None, Some, List, [], ◌∷◌, ◌++◌, codes}
 use Rattle.std.specs.List.{after_first, ends_with, list_any, starts_with}
 use Rattle.tn_words.specs.Numbers.{Writes}
@@ -40,5 +39,5 @@ has_port text =
 
 -- the text writes a host alone, or a host with a port
 abbrev pub WritesPlace : List ℕ → List ℕ → Option ℕ → Type 0
-WritesPlace text host None = IsFalse (has_port text) × WritesHost text host
-WritesPlace text host (Some port) = IsTrue (has_port text) × WritesAddress text host port
+WritesPlace text host None = (has_port text ≡ false) × WritesHost text host
+WritesPlace text host (Some port) = (has_port text ≡ true) × WritesAddress text host port

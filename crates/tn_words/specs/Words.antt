@@ -1,6 +1,5 @@
 -- What words ask for, of the command line that `tn` takes.
-use Rattle.std.specs.Prelude.{◌≡◌, ◌≢◌, ◌⊎◌, ◌<◌, ◌≤◌, ◌||◌, ⊤, ℕ, Bool, true, IsTrue, false, IsFalse}
-use Rattle.std.specs.Prelude.{if◌then◌else◌}
+use Rattle.std.specs.Prelude.{◌≡◌, ◌≢◌, ◌⊎◌, ◌<◌, ◌≤◌, ◌||◌, ⊤, ℕ, Bool, true, false, if◌then◌else◌}
 use Rattle.std.specs.Prelude.{unwrap_or, Option, Some, None, MatchOption, is_some, option_map, List, []}
 use Rattle.std.specs.Prelude.{length, codes, string_bytes}
 use Rattle.std.specs.Option.{option_map_or}
@@ -43,14 +42,14 @@ is_given name rows = is_some (first_of name rows)
 
 -- the option has this number of its range, or it is not given
 abbrev pub MayHaveNumber : List Row → Text → ℕ → ℕ → Option ℕ → Type 0
-MayHaveNumber rows name least most None = IsFalse (is_given name rows)
+MayHaveNumber rows name least most None = is_given name rows ≡ false
 MayHaveNumber rows name least most (Some number) = HasNumber rows name least most number
 
 -- The option of this name, which takes no value, was given or not.
 pub record HasFlag (rows : List Row) (name : Text) (flag : Bool) : Type 0 where
-  pub given : one_of name rows ≡ Some (codes "true") → IsTrue flag
-  pub not_given : one_of name rows ≡ Some (codes "false") → IsFalse flag
-  pub unknown : one_of name rows ≡ None → IsFalse flag
+  pub given : one_of name rows ≡ Some (codes "true") → flag ≡ true
+  pub not_given : one_of name rows ≡ Some (codes "false") → flag ≡ false
+  pub unknown : one_of name rows ≡ None → flag ≡ false
 
 -- the option of this name has this text
 abbrev pub HasText : List Row → Text → Text → Type 0
@@ -64,7 +63,7 @@ pub record HasAddress (rows : List Row) (address : Address) : Type 0 where
 
 -- the same, or it is not given
 abbrev pub MayHaveAddress : List Row → Option Address → Type 0
-MayHaveAddress rows None = IsFalse (is_given (codes "to") rows)
+MayHaveAddress rows None = is_given (codes "to") rows ≡ false
 MayHaveAddress rows (Some address) = HasAddress rows address
 
 -- the option of this name, which takes no value, was given
@@ -117,7 +116,7 @@ pub record IsPath (text : Text) : Type 0 where
 
 -- the option of this name has this path, or it is not given
 abbrev pub MayHavePath : List Row → Text → Option Text → Type 0
-MayHavePath rows name None = IsFalse (is_given name rows)
+MayHavePath rows name None = is_given name rows ≡ false
 MayHavePath rows name (Some path) = HasText rows name path × IsPath path
 
 pub record AsksServe (rows : List Row) (asked : ServeWords) : Type 0 where
@@ -257,10 +256,10 @@ AreWrong words =
 -- why words give no run: they are not taken, or name none; where memory runs out, they may be any
 abbrev pub Refuses : List Text → WordsFault → Type 0
 Refuses words (fault.Usage detail) =
-    (IsFalse (takes tn words) × AreWrong words) ⊎ AsksNothing (subcommand_of tn words)
+    ((takes tn words ≡ false) × AreWrong words) ⊎ AsksNothing (subcommand_of tn words)
 Refuses words fault.Memory = ⊤
-Refuses words (fault.Help text) = IsFalse (takes tn words) × AsksForHelp words
-Refuses words fault.Version = IsFalse (takes tn words) × AsksForVersion words
+Refuses words (fault.Help text) = (takes tn words ≡ false) × AsksForHelp words
+Refuses words fault.Version = (takes tn words ≡ false) × AsksForVersion words
 
 -- what an error of the parse is told as
 abbrev pub TellsKind : ErrorKind → WordsFault → Type 0

@@ -1,6 +1,6 @@
 //! The command line that `tn` takes, as `clap` reads it.
 
-ghost use Rattle.std.specs.Prelude.{◌≡◌, IsFalse, IfOk, codes, pos};
+ghost use Rattle.std.specs.Prelude.{◌≡◌, false, IfOk, codes, pos};
 ghost use Rattle.tn_words.specs.Commands.{tn, alone, offline, plain, serve, connect, whole_rule};
 ghost use Rattle.tn_words.specs.Commands.{with_default, flag_rule};
 ghost use Rattle.tn_words.specs.Commands.{host_rule, line_rule, maybe_port_rule, number_rule, place_rule};
@@ -183,7 +183,7 @@ fn bare_command<'a>(alloc: Global) -> Command<'a>
 
 fn local_command<'a>(alloc: Global) -> Command<'a>
     ensures shape { shape_of result ≡ plain (codes "local") }
-    ensures local { IsFalse ((out-Command result).has_globals) }
+    ensures local { (out-Command result).has_globals ≡ false }
 {
     described(
         alloc,
@@ -199,7 +199,7 @@ fn local_command<'a>(alloc: Global) -> Command<'a>
 
 fn replay_command<'a>(alloc: Global) -> Command<'a>
     ensures shape { shape_of result ≡ plain (codes "replay") }
-    ensures local { IsFalse ((out-Command result).has_globals) }
+    ensures local { (out-Command result).has_globals ≡ false }
 {
     described(
         alloc,
@@ -214,7 +214,7 @@ fn replay_command<'a>(alloc: Global) -> Command<'a>
 
 fn decode_command<'a>(alloc: Global) -> Command<'a>
     ensures shape { shape_of result ≡ plain (codes "decode") }
-    ensures local { IsFalse ((out-Command result).has_globals) }
+    ensures local { (out-Command result).has_globals ≡ false }
 {
     described(
         alloc,
@@ -229,7 +229,7 @@ fn decode_command<'a>(alloc: Global) -> Command<'a>
 
 fn world_command<'a>(alloc: Global) -> Command<'a>
     ensures shape { shape_of result ≡ plain (codes "world") }
-    ensures local { IsFalse ((out-Command result).has_globals) }
+    ensures local { (out-Command result).has_globals ≡ false }
 {
     described(
         alloc,
@@ -261,7 +261,7 @@ fn world_command<'a>(alloc: Global) -> Command<'a>
 
 fn serve_command<'a>(alloc: Global) -> Result<Command<'a>, AllocError>
     ensures shape { IfOk result (λ command. shape_of command ≡ serve) }
-    ensures local { IfOk result (λ command. IsFalse ((out-Command command).has_globals)) }
+    ensures local { IfOk result (λ command. (out-Command command).has_globals ≡ false) }
 {
     let command = described(
         alloc,
@@ -273,8 +273,7 @@ fn serve_command<'a>(alloc: Global) -> Result<Command<'a>, AllocError>
          (^\\) `quit`, and a stop (^Z) `tstp`. One connection more than a limit is told `full` and \
          closed.\n\n\
          It ends by itself, with status 0, once it has taken as many connections as were asked for and \
-         each of their sessions has ended; with `--forever` it serves until it is stopped,
-             and with `--until` \
+         each of their sessions has ended; with `--forever` it serves until it is stopped, and with `--until` \
          until a file is there.",
         "Example:\n  tn serve --port 2323 --count 2\n\nAnd in another terminal, one after the other:\n  \
          tn connect --port 2323\n  telnet 127.0.0.1 2323",
@@ -286,14 +285,14 @@ fn serve_command<'a>(alloc: Global) -> Result<Command<'a>, AllocError>
 }
 
 fn with_server_options<'a>(alloc: Global, command: Command<'a>) -> Result<Command<'a>, AllocError>
-    requires { IsFalse ((out-Command command).has_globals) }
+    requires { (out-Command command).has_globals ≡ false }
     ensures app { IfOk result (λ new. app_of new
         ≡ with_rule (with_rule (with_rule (with_rule (with_rule (with_rule
         (with_rule (app_of command.entry) host_rule) port_rule)
         (with_default (whole_rule (codes "limit") 1 64) (codes "8")))
         (with_default (whole_rule (codes "per-host") 1 64) (codes "64")))
         (whole_rule (codes "count") 1 1000000)) (flag_rule (codes "forever"))) (text_rule (codes "until"))) }
-    ensures local { IfOk result (λ new. IsFalse ((out-Command new).has_globals)) }
+    ensures local { IfOk result (λ new. (out-Command new).has_globals ≡ false) }
 {
     let command = command
         .arg(host_option(alloc))?
@@ -325,14 +324,14 @@ fn with_server_options<'a>(alloc: Global, command: Command<'a>) -> Result<Comman
 }
 
 fn with_session_options<'a>(alloc: Global, command: Command<'a>) -> Result<Command<'a>, AllocError>
-    requires { IsFalse ((out-Command command).has_globals) }
+    requires { (out-Command command).has_globals ≡ false }
     ensures app { IfOk result (λ new. app_of new
         ≡ with_rule (with_rule (with_rule (with_rule (with_rule (with_rule
         (app_of command.entry) (with_default (whole_rule (codes "ticks") 0 1000) (codes "0"))) line_rule)
         (with_default (whole_rule (codes "idle") 0 86400) (codes "0")))
         (with_default (whole_rule (codes "longest") 0 86400) (codes "0"))) (flag_rule (codes "local")))
         (flag_rule (codes "verbose"))) }
-    ensures local { IfOk result (λ new. IsFalse ((out-Command new).has_globals)) }
+    ensures local { IfOk result (λ new. (out-Command new).has_globals ≡ false) }
 {
     let command = command
         .arg(whole_option(
@@ -368,11 +367,11 @@ fn with_session_options<'a>(alloc: Global, command: Command<'a>) -> Result<Comma
 }
 
 fn with_gateway_options<'a>(alloc: Global, command: Command<'a>) -> Result<Command<'a>, AllocError>
-    requires { IsFalse ((out-Command command).has_globals) }
+    requires { (out-Command command).has_globals ≡ false }
     ensures app { IfOk result (λ new. app_of new
         ≡ with_rule (with_rule (with_rule (with_rule (app_of command.entry)
         (text_rule (codes "to"))) (flag_rule (codes "crlf"))) (flag_rule (codes "cr"))) (text_rule (codes "line-cut"))) }
-    ensures local { IfOk result (λ new. IsFalse ((out-Command new).has_globals)) }
+    ensures local { IfOk result (λ new. (out-Command new).has_globals ≡ false) }
 {
     let command = command
         .arg(text_option(
@@ -403,7 +402,7 @@ fn with_gateway_options<'a>(alloc: Global, command: Command<'a>) -> Result<Comma
 
 fn connect_command<'a>(alloc: Global) -> Result<Command<'a>, AllocError>
     ensures shape { IfOk result (λ command. shape_of command ≡ connect) }
-    ensures local { IfOk result (λ command. IsFalse ((out-Command command).has_globals)) }
+    ensures local { IfOk result (λ command. (out-Command command).has_globals ≡ false) }
 {
     let command = described(
         alloc,
@@ -426,9 +425,9 @@ fn connect_command<'a>(alloc: Global) -> Result<Command<'a>, AllocError>
 
 fn with_connect_options<'a>(alloc: Global, command: Command<'a>) -> Result<Command<'a>, AllocError>
     requires app { app_of command ≡ new_app (codes "connect") }
-    requires local { IsFalse ((out-Command command).has_globals) }
+    requires local { (out-Command command).has_globals ≡ false }
     ensures shape { IfOk result (λ command. shape_of command ≡ connect) }
-    ensures local { IfOk result (λ command. IsFalse ((out-Command command).has_globals)) }
+    ensures local { IfOk result (λ command. (out-Command command).has_globals ≡ false) }
 {
     let command = with_places(alloc, command)?;
     let command = with_window_options(alloc, command)?;
@@ -439,10 +438,10 @@ fn with_connect_options<'a>(alloc: Global, command: Command<'a>) -> Result<Comma
 
 // Where to connect to.
 fn with_places<'a>(alloc: Global, command: Command<'a>) -> Result<Command<'a>, AllocError>
-    requires { IsFalse ((out-Command command).has_globals) }
+    requires { (out-Command command).has_globals ≡ false }
     ensures app { IfOk result (λ new. app_of new ≡ with_rule (with_rule (with_rule
         (app_of command.entry) (place_rule (codes "host"))) (number_rule (codes "at") 1 65535)) maybe_port_rule) }
-    ensures local { IfOk result (λ new. IsFalse ((out-Command new).has_globals)) }
+    ensures local { IfOk result (λ new. (out-Command new).has_globals ≡ false) }
 {
     let command = command
         .arg(host_place(alloc))?
@@ -455,10 +454,10 @@ fn with_places<'a>(alloc: Global, command: Command<'a>) -> Result<Command<'a>, A
 }
 
 fn with_window_options<'a>(alloc: Global, command: Command<'a>) -> Result<Command<'a>, AllocError>
-    requires { IsFalse ((out-Command command).has_globals) }
+    requires { (out-Command command).has_globals ≡ false }
     ensures app { IfOk result (λ new. app_of new ≡ with_rule (with_rule (with_rule (app_of command.entry)
         (whole_rule (codes "width") 0 65535)) (whole_rule (codes "height") 0 65535)) line_rule) }
-    ensures local { IfOk result (λ new. IsFalse ((out-Command new).has_globals)) }
+    ensures local { IfOk result (λ new. (out-Command new).has_globals ≡ false) }
 {
     let command = command
         .arg(optional_number(
@@ -476,11 +475,11 @@ fn with_window_options<'a>(alloc: Global, command: Command<'a>) -> Result<Comman
 }
 
 fn with_terminal_options<'a>(alloc: Global, command: Command<'a>) -> Result<Command<'a>, AllocError>
-    requires { IsFalse ((out-Command command).has_globals) }
+    requires { (out-Command command).has_globals ≡ false }
     ensures app { IfOk result (λ new. app_of new ≡ with_rule (with_rule (with_rule (with_rule (with_rule
         (app_of command.entry) (text_rule (codes "escape"))) (text_rule (codes "keys")))
         (text_rule (codes "trace"))) wait_rule) (flag_rule (codes "quiet"))) }
-    ensures local { IfOk result (λ new. IsFalse ((out-Command new).has_globals)) }
+    ensures local { IfOk result (λ new. (out-Command new).has_globals ≡ false) }
 {
     let command = command
         .arg(escape_option(alloc))?
@@ -507,10 +506,10 @@ fn with_terminal_options<'a>(alloc: Global, command: Command<'a>) -> Result<Comm
 }
 
 fn with_plain_options<'a>(alloc: Global, command: Command<'a>) -> Result<Command<'a>, AllocError>
-    requires { IsFalse ((out-Command command).has_globals) }
+    requires { (out-Command command).has_globals ≡ false }
     ensures app { IfOk result (λ new. app_of new ≡ with_rule (with_rule (with_rule (app_of command.entry)
         (flag_rule (codes "plain"))) (flag_rule (codes "lf"))) (flag_rule (codes "cr"))) }
-    ensures local { IfOk result (λ new. IsFalse ((out-Command new).has_globals)) }
+    ensures local { IfOk result (λ new. (out-Command new).has_globals ≡ false) }
 {
     let command = command
         .arg(flag_option(
@@ -532,7 +531,7 @@ fn described<'a>(
     after: &'static str,
 ) -> Command<'a>
     ensures app { app_of result ≡ new_app name.now }
-    ensures local { IsFalse ((out-Command result).has_globals) }
+    ensures local { (out-Command result).has_globals ≡ false }
 {
     Command::new(alloc, name)
         .about(about)
@@ -543,7 +542,7 @@ fn described<'a>(
 // An argument that takes a whole number.
 fn number_place<'a>(alloc: Global, whole: Whole) -> Arg<'a>
     ensures rule { rule_of result ≡ number_rule whole.name.now whole.least whole.most }
-    ensures local { IsFalse result.global }
+    ensures local { result.global ≡ false }
 {
     Arg::new(alloc, whole.name)
         .value_name("N")
@@ -553,7 +552,7 @@ fn number_place<'a>(alloc: Global, whole: Whole) -> Arg<'a>
 // An option that does.
 fn number_option<'a>(alloc: Global, whole: Whole) -> Arg<'a>
     ensures rule { rule_of result ≡ whole_rule whole.name.now whole.least whole.most }
-    ensures local { IsFalse result.global }
+    ensures local { result.global ≡ false }
 {
     number_place(alloc, whole).long(whole.name)
 }
@@ -574,7 +573,7 @@ fn whole_option<'a>(
 ) -> Arg<'a>
     ensures rule { rule_of result
         ≡ with_default (whole_rule whole.name.now whole.least whole.most) default.now }
-    ensures local { IsFalse result.global }
+    ensures local { result.global ≡ false }
 {
     number_option(alloc, whole)
         .default_value(default)
@@ -584,7 +583,7 @@ fn whole_option<'a>(
 // An option for a port that need not be given.
 fn port_option<'a>(alloc: Global, help: &'static str) -> Arg<'a>
     ensures rule { rule_of result ≡ maybe_port_rule }
-    ensures local { IsFalse result.global }
+    ensures local { result.global ≡ false }
 {
     number_option(alloc, PORT)
         .short('p')
@@ -595,7 +594,7 @@ fn port_option<'a>(alloc: Global, help: &'static str) -> Arg<'a>
 // How long to wait at the end of the keys.
 fn wait_option<'a>(alloc: Global) -> Arg<'a>
     ensures rule { rule_of result ≡ wait_rule }
-    ensures local { IsFalse result.global }
+    ensures local { result.global ≡ false }
 {
     number_place(alloc, WAIT)
         .short('q')
@@ -606,7 +605,7 @@ fn wait_option<'a>(alloc: Global) -> Arg<'a>
 
 fn required_port<'a>(alloc: Global, help: &'static str) -> Arg<'a>
     ensures rule { rule_of result ≡ port_rule }
-    ensures local { IsFalse result.global }
+    ensures local { result.global ≡ false }
 {
     port_option(alloc, help).required(true)
 }
@@ -614,7 +613,7 @@ fn required_port<'a>(alloc: Global, help: &'static str) -> Arg<'a>
 // An option for a number that need not be given.
 fn optional_number<'a>(alloc: Global, whole: Whole, help: &'static str) -> Arg<'a>
     ensures rule { rule_of result ≡ whole_rule whole.name.now whole.least whole.most }
-    ensures local { IsFalse result.global }
+    ensures local { result.global ≡ false }
 {
     number_option(alloc, whole).help(help)
 }
@@ -627,7 +626,7 @@ fn text_option<'a>(
     help: &'static str,
 ) -> Arg<'a>
     ensures rule { rule_of result ≡ text_rule name.now }
-    ensures local { IsFalse result.global }
+    ensures local { result.global ≡ false }
 {
     Arg::new(alloc, name)
         .long(name)
@@ -638,7 +637,7 @@ fn text_option<'a>(
 // The address to listen on, or a name that has one.
 fn host_option<'a>(alloc: Global) -> Arg<'a>
     ensures rule { rule_of result ≡ host_rule }
-    ensures local { IsFalse result.global }
+    ensures local { result.global ≡ false }
 {
     text_option(
         alloc,
@@ -652,7 +651,7 @@ fn host_option<'a>(alloc: Global) -> Arg<'a>
 // The host to connect to, which has no name before it.
 fn host_place<'a>(alloc: Global) -> Arg<'a>
     ensures rule { rule_of result ≡ place_rule (codes "host") }
-    ensures local { IsFalse result.global }
+    ensures local { result.global ≡ false }
 {
     Arg::new(alloc, HOST).value_name("HOST").help(
         "The host to connect to, a name or an address, or HOST:PORT or [ADDRESS]:PORT; without it this \
@@ -663,7 +662,7 @@ fn host_place<'a>(alloc: Global) -> Arg<'a>
 // The port behind that host.
 fn port_place<'a>(alloc: Global) -> Arg<'a>
     ensures rule { rule_of result ≡ number_rule (codes "at") 1 65535 }
-    ensures local { IsFalse result.global }
+    ensures local { result.global ≡ false }
 {
     number_place(alloc, AT).value_name("PORT").help(
         "The port to connect to, which is 23 where a HOST is given and no port",
@@ -672,7 +671,7 @@ fn port_place<'a>(alloc: Global) -> Arg<'a>
 
 fn escape_option<'a>(alloc: Global) -> Arg<'a>
     ensures rule { rule_of result ≡ text_rule (codes "escape") }
-    ensures local { IsFalse result.global }
+    ensures local { result.global ≡ false }
 {
     text_option(
         alloc,
@@ -685,7 +684,7 @@ fn escape_option<'a>(alloc: Global) -> Arg<'a>
 
 fn line_option<'a>(alloc: Global) -> Arg<'a>
     ensures rule { rule_of result ≡ line_rule }
-    ensures local { IsFalse result.global }
+    ensures local { result.global ≡ false }
 {
     whole_option(
         alloc,
@@ -698,7 +697,7 @@ fn line_option<'a>(alloc: Global) -> Arg<'a>
 // An option without a value.
 fn flag_option<'a>(alloc: Global, name: &'static str, help: &'static str) -> Arg<'a>
     ensures rule { rule_of result ≡ flag_rule name.now }
-    ensures local { IsFalse result.global }
+    ensures local { result.global ≡ false }
 {
     Arg::new(alloc, name)
         .long(name)

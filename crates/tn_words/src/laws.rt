@@ -1,6 +1,6 @@
 //! Facts about the definitions alone.
 
-ghost use Rattle.std.specs.Prelude.{◌≡◌, ℕ, List, IsTrue, IsFalse, [], ◌∷◌, None, Option, Some, codes};
+ghost use Rattle.std.specs.Prelude.{◌≡◌, ℕ, List, true, false, [], ◌∷◌, None, Option, Some, codes};
 ghost use Rattle.clap.specs.Words.{subcommand_of, takes};
 ghost use Rattle.tn_words.specs.Addresses.{WritesAddress, WritesPlace};
 ghost use Rattle.tn_words.specs.Commands.{tn};
@@ -17,17 +17,17 @@ pub fn names_ask()
     ensures replay { AskFor (codes "tn" ∷ codes "replay" ∷ []) Replay }
     ensures decode { AskFor (codes "tn" ∷ codes "decode" ∷ []) Decode }
     ensures world { AskFor (codes "tn" ∷ codes "world" ∷ []) World }
-    ensures local_taken { IsTrue (takes tn (codes "tn" ∷ codes "local" ∷ [])) }
-    ensures replay_taken { IsTrue (takes tn (codes "tn" ∷ codes "replay" ∷ [])) }
-    ensures decode_taken { IsTrue (takes tn (codes "tn" ∷ codes "decode" ∷ [])) }
-    ensures world_taken { IsTrue (takes tn (codes "tn" ∷ codes "world" ∷ [])) }
+    ensures local_taken { takes tn (codes "tn" ∷ codes "local" ∷ []) ≡ true }
+    ensures replay_taken { takes tn (codes "tn" ∷ codes "replay" ∷ []) ≡ true }
+    ensures decode_taken { takes tn (codes "tn" ∷ codes "decode" ∷ []) ≡ true }
+    ensures world_taken { takes tn (codes "tn" ∷ codes "world" ∷ []) ≡ true }
 {}
 
 /// An extra word is not accepted, nor is no subcommand; `--help` and `help` ask for help, and `--version`
 /// for the version.
 pub fn other_words()
-    ensures more { IsFalse (takes tn (codes "tn" ∷ codes "local" ∷ codes "x" ∷ [])) }
-    ensures none { IsFalse (takes tn (codes "tn" ∷ [])) }
+    ensures more { takes tn (codes "tn" ∷ codes "local" ∷ codes "x" ∷ []) ≡ false }
+    ensures none { takes tn (codes "tn" ∷ []) ≡ false }
     ensures help { AsksForHelp (codes "tn" ∷ codes "--help" ∷ []) }
     ensures help_word { AsksForHelp (codes "tn" ∷ codes "help" ∷ []) }
     ensures its_help { AsksForHelp (codes "tn" ∷ codes "local" ∷ codes "-h" ∷ []) }
@@ -39,15 +39,15 @@ pub fn other_words()
 /// in an option.
 pub fn hosts_and_ports()
     ensures host { AskForHost (codes "tn" ∷ codes "connect" ∷ codes "::1" ∷ []) (codes "::1") 23 }
-    ensures host_taken { IsTrue (takes tn (codes "tn" ∷ codes "connect" ∷ codes "::1" ∷ [])) }
+    ensures host_taken { takes tn (codes "tn" ∷ codes "connect" ∷ codes "::1" ∷ []) ≡ true }
     ensures port { AskForHost (codes "tn" ∷ codes "connect" ∷ codes "-p" ∷ codes "7" ∷ [])
         (codes "127.0.0.1") 7 }
-    ensures port_taken { IsTrue (takes tn (codes "tn" ∷ codes "connect" ∷ codes "-p" ∷ codes "7" ∷ [])) }
+    ensures port_taken { takes tn (codes "tn" ∷ codes "connect" ∷ codes "-p" ∷ codes "7" ∷ []) ≡ true }
     ensures both { AskForHost (codes "tn" ∷ codes "connect" ∷ codes "h" ∷ codes "--port=7" ∷ [])
         (codes "h") 7 }
     ensures behind { AskForHost (codes "tn" ∷ codes "connect" ∷ codes "[::1]" ∷ codes "7" ∷ [])
         (codes "::1") 7 }
-    ensures behind_taken { IsTrue (takes tn (codes "tn" ∷ codes "connect" ∷ codes "[::1]" ∷ codes "7" ∷ [])) }
+    ensures behind_taken { takes tn (codes "tn" ∷ codes "connect" ∷ codes "[::1]" ∷ codes "7" ∷ []) ≡ true }
     ensures within { AskForHost (codes "tn" ∷ codes "connect" ∷ codes "[::1]:7" ∷ []) (codes "::1") 7 }
     ensures neither { AsksNothing (subcommand_of tn (codes "tn" ∷ codes "connect" ∷ [])) }
     ensures two { AsksNothing (subcommand_of tn (codes "tn" ∷ codes "connect" ∷ codes "h:7" ∷ codes "7" ∷ [])) }
@@ -60,7 +60,7 @@ pub fn options()
     ensures none { (asked : ConnectWords)
         → AskFor (codes "tn" ∷ codes "connect" ∷ codes "::1" ∷ []) (Connect asked)
         → (asked.width ≡ None) × (asked.height ≡ None) × (asked.escape ≡ escape.Key 29)
-        × (asked.trace ≡ None) × (asked.wait ≡ 0) × IsFalse asked.quiet × (asked.plain ≡ None) }
+        × (asked.trace ≡ None) × (asked.wait ≡ 0) × (asked.quiet ≡ false) × (asked.plain ≡ None) }
     ensures wait { (asked : ConnectWords)
         → AskFor (codes "tn" ∷ codes "connect" ∷ codes "h" ∷ codes "-q" ∷ codes "2" ∷ []) (Connect asked)
         → asked.wait ≡ 2 }

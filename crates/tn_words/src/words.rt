@@ -1,7 +1,6 @@
 //! The words of the command line.
 
-ghost use Rattle.std.specs.Prelude.{◌≡◌, ◌≤◌, ℕ, List, ⊤, true, IsTrue, false, IsFalse, None, Option, Some};
-ghost use Rattle.std.specs.Prelude.{IfOk, IfErr};
+ghost use Rattle.std.specs.Prelude.{◌≡◌, ◌≤◌, ℕ, List, ⊤, true, false, None, Option, Some, IfOk, IfErr};
 ghost use Rattle.std.specs.Prelude.{IfSome, codes, map, option_map, string_bytes, unwrap_or};
 ghost use Rattle.clap.specs.Words.{Text, kind_of, rows_of, first_of, found_of, subcommand_rows_of};
 ghost use Rattle.tn_words.specs.Words.{AskFor, AsksConnect, AsksCount, AsksIn, AsksNothing, AsksPlace};
@@ -295,8 +294,8 @@ fn until_of(alloc: Global, words: &ArgMatches<'_>) -> Result<Option<String>, Wor
 }
 
 fn is_path(text: &str) -> bool
-    ensures path { IsTrue result → IsPath text.now }
-    ensures none { IsFalse result → ¬ IsPath text.now }
+    ensures path { result ≡ true → IsPath text.now }
+    ensures none { result ≡ false → ¬ IsPath text.now }
 {
     if text.is_empty() {
         return false;
