@@ -38,8 +38,8 @@ returns-in-Asked-clause-err c =
     let done = shows_err c.ask.result (Stops (Asked c.in-Asked.control)) seen c.ask.ensures.err in
     subst (λ (m : Message). OnErr c.ask.result (Stops m seen)) (sym c.in-Asked.is) done
 
-pub returns-in_default : goal.returns-in_default
-returns-in_default c = record {
+pub returns : goal.returns
+returns c = record {
   ok = does_step c.args.told c.args.self.now c.step.new.self _ _
       (is_plain c.args.told.message c.in_default.not-Piece c.in_default.not-Resized c.in_default.not-Asked) c.requires c.step.ensures;
   err = tt;
