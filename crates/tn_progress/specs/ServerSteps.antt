@@ -1,5 +1,6 @@
 -- What the threads of a server's session may do next.
-use Rattle.std.specs.Prelude.{◌≡◌, ◌≢◌, ℕ, zero, suc, ◌+◌, ◌-◌, ◌*◌, ◌<◌, ◌≤◌, Bool, true, false, ◌||◌, ◌⊎◌}
+use Rattle.std.specs.Prelude.{◌≡◌, ◌≢◌, ℕ, zero, suc, ◌+◌, ◌-◌, ◌*◌, ◌<◌, ◌≤◌, Bool, true, IsTrue, false}
+use Rattle.std.specs.Prelude.{◌||◌, ◌⊎◌}
 use Rattle.tn_progress.specs.Server.{one, End, nothing_comes, reading, holding, handing, net_says, net_tells}
 use Rattle.tn_progress.specs.Server.{net_leaves}
 use Rattle.tn_progress.specs.Server.{net_gone, words}
