@@ -2,7 +2,7 @@
 use Rattle.std.proofs.Common.{arith, ◌≡◌, ◌≢◌, ℕ, zero, suc, ◌+◌, ◌<◌, ◌≤◌, Bool, true, false, ◌⊎◌, inl, inr, refl, ap, subst}
 use Rattle.tn_progress.proofs.Invariant.{Holds, may_have_said, net_left_in, desk_left_in, back_left_in, is_waiting, has_step_credit, has_ended, has_failed}
 use Rattle.tn_progress.proofs.Invariant.{done_by}
-use Rattle.tn_progress.proofs.Invariant.{refused_by, desk_by, has_answer, is_leaving, is_handing}
+use Rattle.tn_progress.proofs.Invariant.{refused_by, desk_by, has_answer, is_leaving}
 use Rattle.tn_progress.proofs.Keeps.{holds}
 use Rattle.tn_progress.specs.Server.{one, End, nothing_comes, no_memory, Net, reading, holding, handing, net_says, net_tells, net_leaves, net_gone, is_done}
 use Rattle.tn_progress.specs.Server.{is_refused}

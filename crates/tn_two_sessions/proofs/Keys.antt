@@ -8,7 +8,7 @@ use Rattle.tn_client.specs.Events.{History, begun, next, got, resized, proposed}
 use Rattle.tn_client.specs.Events as client
 use Rattle.tn_client.specs.declared.commands.UserCommand.{UserCommand}
 use Rattle.tn_client.specs.declared.commands.UserCommand.TheVariants as user
-use Rattle.tn_machines.specs.client.Bringing.{Input, key_typed, command_sent, key_in, keys_in, command_in, commands_in, inputs}
+use Rattle.tn_machines.specs.client.Bringing.{Input, key_typed, command_sent, keys_in, commands_in, inputs}
 use Rattle.tn_machines.specs.client.Commands.{command_of}
 use Rattle.tn_discipline.proofs.lemmas.Histories.{entries-all}
 use Rattle.tn_discipline.proofs.lemmas.KeyRoles.{roles_of-append}

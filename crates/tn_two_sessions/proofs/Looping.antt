@@ -4,7 +4,6 @@ use Rattle.std.proofs.Common.{append_assoc, append-nil}
 use Rattle.std.proofs.lemmas.List.{map-append}
 use Rattle.std.proofs.lemmas.Fn.{FoldsTo-push}
 use Rattle.std.specs.List.{FoldsTo}
-use Rattle.tn_client.specs.Events as client
 use Rattle.tn_client.specs.Replies as client_says
 use Rattle.tn_client.proofs.lemmas.Fitting.{sent-fits}
 use Rattle.tn_machines.proofs.lemmas.client.Bringing.{in_order}
@@ -234,7 +233,7 @@ module _ (canon : Canon) (editing : Editing) (jobs : Jobs) (width height : ℕ) 
       let q = one.turn.leads h.server at in
       let x : Exchange = record { read = bytes_in m; wrote = one.bytes } in
       let order = h.order ++ served x ∷ [] in
-      let over = λ (p : term_progress.Progress). p.over in
+      let over = λ (p : term_progress.ServerProgress). p.over in
       let server_is : server_steps order ≡ server_steps h.order ++ x ∷ [] = server-append h.order (served x ∷ []) in
       let client_is : client_steps order ≡ client_steps h.order = client-append h.order (served x ∷ []) ∙ append-nil (client_steps h.order) in
       let server_read : all_read (server_steps order) ≡ all_read (server_steps h.order) ++ bytes_in m =
@@ -289,7 +288,7 @@ module _ (canon : Canon) (editing : Editing) (jobs : Jobs) (width height : ℕ) 
       let brings = brought_from origin.Net t.from t.message in
       let x : Exchange = record { read = brings; wrote = one.bytes } in
       let order = h.order ++ told x ∷ [] in
-      let over = λ (p : core_progress.Progress). p.over in
+      let over = λ (p : core_progress.ClientProgress). p.over in
       let client_is : client_steps order ≡ client_steps h.order ++ x ∷ [] = client-append h.order (told x ∷ []) in
       let server_is : server_steps order ≡ server_steps h.order = server-append h.order (told x ∷ []) ∙ append-nil (server_steps h.order) in
       let client_read : all_read (client_steps order) ≡ all_read (client_steps h.order) ++ brings = ap all_read client_is ∙ one_read (client_steps h.order) x in
@@ -396,8 +395,8 @@ module _ (canon : Canon) (editing : Editing) (jobs : Jobs) (width height : ℕ) 
         prefix = prefix_trans _ _ _ front (prefix_trans _ _ _ mid
             (more_entries canon typed_first (keys_of canon.settings order.untyped) (keys_of canon.settings typed) keys_first));
         all = λ none s_on c_on.
-            let s_live : h.server.progress.over ≡ false = ap (λ (p : term_progress.Progress). p.over) (sym h.at_server.progress) ∙ s_on in
-            let c_live : h.client.progress.over ≡ false = ap (λ (p : core_progress.Progress). p.over) (sym h.at_client.progress) ∙ c_on in
+            let s_live : h.server.progress.over ≡ false = ap (λ (p : term_progress.ServerProgress). p.over) (sym h.at_server.progress) ∙ s_on in
+            let c_live : h.client.progress.over ≡ false = ap (λ (p : core_progress.ClientProgress). p.over) (sym h.at_client.progress) ∙ c_on in
             let read : all_read (server_steps h.order) ≡ total h.cs =
             sym (append-nil (all_read (server_steps h.order))) ∙ ap (λ (l : List ℕ). all_read (server_steps h.order) ++ l) (sym none) ∙ sym h.to_server
             ∙ ap all_wrote h.of_client ∙ wrote_by h.cs in

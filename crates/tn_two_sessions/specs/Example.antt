@@ -1,6 +1,6 @@
 -- Two sessions that meet every premise of `Headline`, and have an entry: a line is typed at the client and
 -- taken at the server.
-use Rattle.std.specs.Prelude.{◌≡◌, ℕ, All, [], ◌∷◌}
+use Rattle.std.specs.Prelude.{◌≡◌, All, [], ◌∷◌}
 use Rattle.tn_discipline.specs.Canon.{Canon}
 use Rattle.tn_discipline.specs.Characters.{standard_characters}
 use Rattle.tn_discipline.specs.Keys.{standard_flags}
