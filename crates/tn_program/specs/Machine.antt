@@ -1,5 +1,5 @@
 -- What is known of the machine that the program runs on.
-use Rattle.std.specs.Prelude.{◌≡◌, ℕ, List, Result, Option}
+use Rattle.std.specs.Prelude.{ℕ, List, Result}
 use Rattle.std.specs.Net.ToAddrs.{HostAddrs}
 use Rattle.std.specs.declared.io.Error.{Error}
 use Rattle.std.specs.declared.net.socket_addr.SocketAddr.{SocketAddr}

@@ -1,5 +1,5 @@
 -- What is told on standard error of what came of the words.
-use Rattle.std.specs.Prelude.{◌≡◌, ◌≢◌, ◌⊎◌, ⊤, ℕ, ◌==◌, ◌||◌, decimal, if◌then◌else◌, not, Bool, true}
+use Rattle.std.specs.Prelude.{◌≡◌, ◌≢◌, ◌⊎◌, ℕ, ◌==◌, ◌||◌, decimal, if◌then◌else◌, not, Bool, true}
 use Rattle.std.specs.Prelude.{IsTrue, false, IsFalse}
 use Rattle.std.specs.Prelude.{Option, Some, None, List, [], ◌∷◌, ◌++◌, Result, Ok, Err, codes, string_bytes}
 use Rattle.tn_cli.specs.declared.fault.CliFault.{CliFault}
