@@ -3,7 +3,7 @@
 use std::alloc::{AllocError, Global};
 use std::io::{self, Cursor, ErrorKind, Write};
 use std::sync::Arc;
-use tn_program::{Link, KeySource, OwnCharacters, Streams, own_characters, run_words};
+use tn_program::{KeySource, Link, OwnCharacters, Streams, own_characters, run_words};
 
 /// Takes all that is written, or fails.
 #[derive(Drop)]
