@@ -1,3 +1,2 @@
 mod Keys
 mod Put
-mod Telling

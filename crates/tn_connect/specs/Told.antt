@@ -1,6 +1,6 @@
 -- What a user is told.
 use Rattle.std.specs.Prelude.{ℕ, Bool, List, codes}
-use Rattle.tn_session.specs.Turns.{Tells, Writes}
+use Rattle.tn_streams.specs.Writing.{Tells, Writes}
 use Rattle.tn_streams.specs.Known.{KnownWriting}
 
 -- the service speaks Telnet

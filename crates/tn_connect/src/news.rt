@@ -1,13 +1,11 @@
 //! What the user at a terminal is told of a connection.
 
-ghost use Rattle.tn_session.specs.Turns.{Tells, Writes};
-
 use std::alloc::Global;
 use std::fs::File;
 use std::io::Write;
 use std::net::SocketAddr;
 use tn_network::Trying;
-use tn_streams::{Drain, is_interrupted};
+use tn_streams::{Drain, write_all};
 
 /// The line that says that a connection stands: ACK and a line feed.
 const STANDS: &[u8] = b"\x06\n";
@@ -25,7 +23,7 @@ pub struct News<'a, W> {
 impl<'a, W: Drain> News<'a, W> {
     pub(crate) fn trace(&mut self) {
         if self.is_told {
-            tell(
+            write_all(
                 self.writer,
                 b"The trace gets what is typed, passwords too.\n",
             );
@@ -46,7 +44,7 @@ impl<'a, W: Drain> News<'a, W> {
             ),
             None => writeln!(line, "Connected to {}.", host),
         };
-        tell(self.writer, &line);
+        write_all(self.writer, &line);
     }
 
     /// Nothing is told of a connection that failed: the causes of that are.
@@ -60,7 +58,7 @@ impl<'a, W: Drain> News<'a, W> {
         } else {
             writeln!(line, "Connection closed by {}.", host)
         };
-        tell(self.writer, &line);
+        write_all(self.writer, &line);
     }
 }
 
@@ -71,28 +69,8 @@ impl<'a, W: Drain> Trying for News<'a, W> {
         }
         let mut line = Vec::new(self.alloc);
         let _ = writeln!(line, "Trying {}..", address);
-        tell(self.writer, &line);
+        write_all(self.writer, &line);
     }
-}
-
-/// Writes a line, or its first bytes where a write fails. Returns whether all of it was written.
-pub(crate) fn tell<W: Drain>(writer: &mut W, line: &[u8]) -> bool
-    ensures writes { Writes result (W.contents writer.old) (W.contents writer.new) line.now }
-    ensures tells { Tells result (W.told writer.old) (W.told writer.new) }
-{
-    let mut at = 0;
-    for _write in 0..u64::MAX {
-        if at >= line.len() {
-            return true;
-        }
-        match writer.write_some(&line[at..]) {
-            Ok(0) => return false,
-            Ok(n) => at += n,
-            Err(error) if is_interrupted(&error) => continue,
-            Err(_) => return false,
-        }
-    }
-    at >= line.len()
 }
 
 /// Whoever waits for the connection hears that it stands.

@@ -6,7 +6,6 @@ ghost use Rattle.tn_connect.specs.Warnings.{count_in};
 ghost use Rattle.tn_lines_client.specs.Openings.{warned_on};
 ghost use Rattle.tn_streams.specs.Known.{known_writing};
 
-use crate::news::tell;
 use crate::settings::{KeySource, Plain};
 use crate::warnings::Warnings;
 use libc::net::{POLLIN, POLLOUT, poll};
@@ -15,7 +14,7 @@ use std::mem;
 use std::sync::Wait;
 use std::time::{Clock, Instant};
 use tn_lines_client::{Await, Ready, Wants};
-use tn_streams::Drain;
+use tn_streams::{Drain, write_all};
 
 /// The descriptor of standard input (POSIX, `STDIN_FILENO`).
 const STANDARD_INPUT: i32 = 0;
@@ -106,7 +105,7 @@ fn waits_at(wanted: bool, fd: i32, events: i16) -> pollfd {
 }
 
 impl<'a, H: Clock + Copy + Wait, E> Polling<'a, H, E> {
-    /// How often the user was warned. From now on that is counted anew.
+    /// How often the user was warned since the last call.
     pub(crate) fn take_warned(&mut self) -> Warnings
         ensures { result ≡ self.old.warned }
     {
@@ -166,6 +165,6 @@ impl<'a, H: Clock + Copy + Wait, E: Drain> Await for Polling<'a, H, E> {
             (known_writing E.contents E.told self.old.errors.now self.new.errors.now) }
     {
         self.warned.add();
-        tell(self.errors, TELNET);
+        write_all(self.errors, TELNET);
     }
 }

@@ -9,7 +9,8 @@ use Rattle.tn_lines_client.specs.Talking.{Streams, streams, Piece, echo, came, a
 use Rattle.tn_lines_client.specs.Talking.{Begins}
 use Rattle.tn_lines_client.specs.declared.talk.Talk.{Talk}
 use Rattle.tn_lines_client.proofs.FirstBytes.{rises_more, rises_none}
-use Rattle.tn_lines_client.proofs.Writing.{appends_more, appends_kept, appends_none, consumes_more, consumes_kept, consumes_none}
+use Rattle.tn_lines_client.proofs.Writing.{consumes_more, consumes_kept, consumes_none}
+use Rattle.tn_streams.proofs.lemmas.Writing.{appends_more, appends_kept, appends_none}
 
 -- ONE PIECE MORE
 

@@ -3,22 +3,6 @@ use Rattle.std.proofs.Common.{◌≡◌, ℕ, ◌≤◌, List, [], ◌∷◌, �
 use Rattle.std.proofs.Common.{arith, length, take}
 use Rattle.std.specs.Io.KnownBytes.{Appends, Consumes, Keeps, ReadConsumes}
 
-pub appends_more : (a b c : Option (List ℕ)) (xs ys : List ℕ) → Appends a b xs → Appends b c ys → Appends a c (xs ++ ys)
-appends_more None b c xs ys one two = tt
-appends_more (Some x) None c xs ys one two = absurd one
-appends_more (Some x) (Some y) None xs ys one two = absurd two
-appends_more (Some x) (Some y) (Some z) xs ys one two = two ∙ ap (λ (l : List ℕ). l ++ ys) one ∙ append_assoc x xs ys
-
-pub appends_kept : (a b c : Option (List ℕ)) (xs : List ℕ) → Appends a b xs → Keeps b c → Appends a c xs
-appends_kept None b c xs one two = tt
-appends_kept (Some x) None c xs one two = absurd one
-appends_kept (Some x) (Some y) None xs one two = absurd two
-appends_kept (Some x) (Some y) (Some z) xs one two = two ∙ one
-
-pub appends_none : (a : Option (List ℕ)) → Appends a a []
-appends_none None = tt
-appends_none (Some x) = sym (append-nil x)
-
 pub consumes_more : (a b c : Option (List ℕ)) (xs ys : List ℕ) → Consumes a b xs → Consumes b c ys → Consumes a c (xs ++ ys)
 consumes_more None b c xs ys one two = tt
 consumes_more (Some x) None c xs ys one two = absurd one
@@ -34,16 +18,6 @@ consumes_kept (Some x) (Some y) (Some z) xs one two = one ∙ ap (λ (l : List �
 pub consumes_none : (a : Option (List ℕ)) → Consumes a a []
 consumes_none None = tt
 consumes_none (Some x) = refl
-
-pub take_all : (n : ℕ) (l : List ℕ) → length l ≤ n → take n l ≡ l
-take_all zero [] h = refl
-take_all (suc n) [] h = refl
-take_all zero (x ∷ xs) h = absurd (omega arith)
-take_all (suc n) (x ∷ xs) h = ap (λ (k : List ℕ). x ∷ k) (take_all n xs (omega arith))
-
-pub keeps_same : (a : Option (List ℕ)) → Keeps a a
-keeps_same None = tt
-keeps_same (Some x) = refl
 
 pub consumed_nothing : (a b : Option (List ℕ)) → Consumes a b [] → Keeps a b
 consumed_nothing None b none = tt

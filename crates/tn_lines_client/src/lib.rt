@@ -18,6 +18,5 @@ mod fault;
 mod opening;
 mod read_log;
 mod ready;
-mod screen;
 mod talk;
 mod unsent;

@@ -10,14 +10,13 @@ use crate::fault::TalkFault;
 use crate::opening::Opening;
 use crate::read_log::ReadLog;
 use crate::ready::{Await, Ready, Wants};
-use crate::screen::show_whole;
 use crate::unsent::Waiting;
 use std::alloc::Global;
 use std::io;
 use std::io::ErrorKind;
 use std::sync::Wait;
 use tn_lines::{AnyLines, LeftEdge, Output};
-use tn_streams::{Drain, Finish, Source, is_interrupted};
+use tn_streams::{Drain, Finish, Source, is_interrupted, write_all};
 
 /// How many bytes one read asks for.
 const PIECE_BYTES: usize = 4_096;
@@ -118,7 +117,7 @@ impl Talk {
         self.lines.take(piece, &mut self.output)?;
         self.typed.add(piece);
         self.waiting.refill(&mut self.output.said);
-        if !show_whole(screen, &self.output.shown) {
+        if !write_all(screen, &self.output.shown) {
             return Err(TalkFault::Screen);
         }
         Ok(())
@@ -162,7 +161,7 @@ impl Talk {
         listen(&mut self.opening, piece, ready);
         self.heard.add(piece);
         self.edge.take(piece, &mut self.shown)?;
-        if !show_whole(screen, &self.shown) {
+        if !write_all(screen, &self.shown) {
             return Err(TalkFault::Screen);
         }
         Ok(())

@@ -15,7 +15,7 @@ use Rattle.tn_serve.specs.declared.fault.ServeFault.TheVariants as serve
 use Rattle.tn_program.specs.Statuses.{status_of}
 use Rattle.tn_program.specs.declared.outcome.Outcome.{Outcome}
 use Rattle.tn_program.specs.declared.outcome.Outcome.TheVariants as outcome
-use Rattle.tn_session.specs.Turns.{Tells, Writes}
+use Rattle.tn_streams.specs.Writing.{Tells, Writes}
 use Rattle.tn_streams.specs.Known.{KnownWriting, known_writing}
 use Rattle.tn_streams.specs.Telling.{Calls}
 

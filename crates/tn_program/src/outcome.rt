@@ -15,8 +15,7 @@ use std::alloc::{AllocError, Global};
 use tn_cli::{CliFault, Dropped, Left, Unprinted};
 use tn_connect::{ConnectFault, Connected, Over, TalkReport};
 use tn_serve::{ServeFault, Served};
-use tn_services::write_whole;
-use tn_streams::Drain;
+use tn_streams::{Drain, write_all};
 
 /// The status of a process whose words were not accepted.
 const USAGE: u8 = 2;
@@ -101,10 +100,10 @@ impl Outcome {
     {
         match self.said(alloc, causes) {
             Ok(said) => {
-                write_whole(errors, &said);
+                write_all(errors, &said);
             },
             Err(_) => {
-                write_whole(errors, b"tn: memory\n");
+                write_all(errors, b"tn: memory\n");
             },
         }
     }

@@ -96,9 +96,19 @@ pub fn outcome_of_words<
     ensures quiet { UnlessTelling result (errors.new ≡ errors.old) }
     ensures uncaused { UnlessConnected result (causes.new.items ≡ causes.old.items) }
 {
-    match words {
-        Ok(words) => run_strings(rt, alloc, &words, streams, writer, errors, causes),
-        Err(error) => refusal(error.kind()),
+    let words = match words {
+        Ok(words) => words,
+        Err(error) => return refusal(error.kind()),
+    };
+    match asked_of(alloc, &words) {
+        Ok(asked) => return run_asked(rt, alloc, asked, streams, writer, errors, causes),
+        Err(WordsFault::Help(text)) => {
+            let written = writer.write_all(text.as_bytes());
+            return Outcome::Help(written.map_err(|_| CliFault::Write));
+        },
+        Err(WordsFault::Version) => return Outcome::Version(write_version(writer)),
+        Err(WordsFault::Memory) => return Outcome::Memory,
+        Err(WordsFault::Usage(detail)) => return Outcome::Usage(Some(detail)),
     }
 }
 
@@ -132,39 +142,6 @@ fn asked_of(alloc: Global, words: &[String]) -> Result<Asked, WordsFault>
     match texts_of(alloc, words) {
         Ok(texts) => read_words(alloc, &texts),
         Err(_) => Err(WordsFault::Memory),
-    }
-}
-
-fn run_strings<
-    H: Network + Host + Lookout + Files<File = File>,
-    R: Read + Drop + Send + 'static,
-    W: Write,
-    E: Drain,
->(
-    rt: H,
-    alloc: Global,
-    words: &[String],
-    streams: Streams<R>,
-    writer: &mut W,
-    errors: &mut E,
-    causes: &mut Vec<u8>,
-) -> Outcome
-    ensures comes { ComesOf
-        (machine_of (H.listens rt) (H.shares rt) (H.accepts rt) (H.finds rt) (H.dials rt) (H.sees rt))
-        (map string_bytes words.now) streams.origin (R.remaining streams.reader)
-        (W.contents writer.old) (W.contents writer.new) result }
-    ensures quiet { UnlessTelling result (errors.new ≡ errors.old) }
-    ensures uncaused { UnlessConnected result (causes.new.items ≡ causes.old.items) }
-{
-    match asked_of(alloc, words) {
-        Ok(asked) => return run_asked(rt, alloc, asked, streams, writer, errors, causes),
-        Err(WordsFault::Help(text)) => {
-            let written = writer.write_all(text.as_bytes());
-            return Outcome::Help(written.map_err(|_| CliFault::Write));
-        },
-        Err(WordsFault::Version) => return Outcome::Version(write_version(writer)),
-        Err(WordsFault::Memory) => return Outcome::Memory,
-        Err(WordsFault::Usage(detail)) => return Outcome::Usage(Some(detail)),
     }
 }
 

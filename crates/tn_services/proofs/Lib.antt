@@ -1,4 +1,3 @@
-pub mod Written
 pub mod Ends
 pub mod Talks
 pub mod Shown

@@ -4,7 +4,7 @@ use Rattle.std.specs.Io.KnownBytes.{Appends}
 use Rattle.tn_discipline.specs.declared.reads.Entry.{Entry}
 use Rattle.tn_discipline.specs.declared.reads.Entry.TheVariants.{Text, Eof, Signal}
 use Rattle.tn_discipline.specs.declared.reads.Sig.TheVariants.{Int, Quit, Tstp}
-use Rattle.tn_services.proofs.Written.{kept_appends, keeps_on, keeps_same, writes_more, stops_more, tells_more}
+use Rattle.tn_streams.proofs.lemmas.Writing.{kept_appends, keeps_on, keeps_same, writes_more, stops_more, tells_more}
 use Rattle.tn_services.specs.Joining.{Reacts}
 use Rattle.tn_services.specs.Cutting.{is_ending}
 use Rattle.tn_services.specs.Sending.{Goes, GoesLine, WritesNothing, way_after}
@@ -18,7 +18,7 @@ use Rattle.tn_services.specs.declared.sending.Way.TheVariants.{Open, Ended, Brok
 use Rattle.tn_jobs.specs.declared.reactions.Reaction.{Reaction}
 use Rattle.tn_lines.specs.LineEnds.{line_said}
 use Rattle.tn_session.specs.Talk.{Answers}
-use Rattle.tn_session.specs.Turns.{Writes, Tells, max_writes}
+use Rattle.tn_streams.specs.Writing.{Writes, Tells, max_writes}
 use Rattle.tn_streams.proofs.lemmas.Telling.{accounts_none}
 use Rattle.tn_streams.specs.Known.{KnownWriter, KnownWriting, known_writer, known_writing}
 use Rattle.tn_streams.specs.Telling.{Calls}

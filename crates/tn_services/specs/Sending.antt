@@ -13,7 +13,7 @@ use Rattle.tn_jobs.specs.declared.reactions.Reaction.{Reaction}
 use Rattle.tn_jobs.specs.declared.verdicts.After.{After}
 use Rattle.tn_jobs.specs.declared.verdicts.After.TheVariants.{Stay, Done}
 use Rattle.tn_lines.specs.LineEnds.{line_said}
-use Rattle.tn_session.specs.Turns.{Writes, Tells}
+use Rattle.tn_streams.specs.Writing.{Writes, Tells}
 use Rattle.tn_streams.specs.Known.{KnownWriting, known_writing}
 use Rattle.tn_streams.specs.Telling.{Calls}
 

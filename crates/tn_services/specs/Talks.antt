@@ -19,7 +19,7 @@ use Rattle.tn_services.specs.declared.showing.Showing.{Showing}
 use Rattle.tn_jobs.specs.declared.reactions.Reaction.{Reaction}
 use Rattle.tn_jobs.specs.declared.verdicts.After.TheVariants.{Stay, Done}
 use Rattle.tn_lines.specs.LineEnds.{line_said}
-use Rattle.tn_session.specs.Turns.{Writes, Tells}
+use Rattle.tn_streams.specs.Writing.{Writes, Tells}
 use Rattle.tn_streams.specs.Foretelling.{Failures}
 use Rattle.tn_streams.specs.Known.{KnownReader, KnownWriting, known_reader, known_writing}
 use Rattle.tn_streams.specs.declared.window.WindowSize.{WindowSize}

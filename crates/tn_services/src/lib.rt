@@ -23,7 +23,6 @@ pub use makers::Gateways;
 pub use sending::{SendingLines, Way};
 pub use showing::Showing;
 pub use tn_lines::LineEnd;
-pub use writing::write_whole;
 
 mod answerers;
 mod answering;
@@ -35,4 +34,3 @@ mod line_ends;
 mod makers;
 mod sending;
 mod showing;
-mod writing;

@@ -8,11 +8,11 @@ ghost use Rattle.tn_streams.specs.Known.{known_writing};
 
 use crate::cutting::{HearsCut, LineFormat};
 use crate::line_ends::line_sent;
-use crate::writing::write_whole;
 use std::alloc::{AllocError, Global};
 use tn_discipline::{Entry, Sig, Text};
 use tn_jobs::{After, Reaction};
 use tn_session::Finish;
+use tn_streams::write_all;
 
 /// Whether lines still go to the service.
 #[derive(Clone, Copy, Debug, PartialEq, Eq)]
@@ -92,7 +92,7 @@ impl<W: Finish + HearsCut> SendingLines<W> {
         ensures lines { self.new.lines ≡ self.old.lines }
     {
         let bytes = line_sent(line, self.lines.line_end)?;
-        let whole = write_whole(&mut self.writer, &bytes);
+        let whole = write_all(&mut self.writer, &bytes);
         self.way = way_after(whole);
         Ok(())
     }

@@ -12,7 +12,8 @@ use Rattle.tn_session.specs.Mailbox.{Interleaves, from, four, sender}
 use Rattle.tn_session.proofs.lemmas.Plain.{PlainlyCloses, plainly}
 use Rattle.tn_session.specs.Reader.{ReaderSends}
 use Rattle.tn_session.specs.Reading.{IsReadCause, max_reads, Telling, told_messages, pieces_in}
-use Rattle.tn_session.specs.Turns.{Tells, max_writes, messages_of}
+use Rattle.tn_session.specs.Turns.{messages_of}
+use Rattle.tn_streams.specs.Writing.{Tells, max_writes}
 use Rattle.tn_session.specs.declared.channels.View.{View}
 use Rattle.tn_session.specs.declared.mail.Mail.{Mail}
 use Rattle.tn_session.specs.declared.mail.Sender.{Sender}

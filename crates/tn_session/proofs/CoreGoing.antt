@@ -16,7 +16,7 @@ use Rattle.tn_machines.specs.declared.client.messages.ClientMark.TheVariants as 
 use Rattle.tn_machines.specs.declared.client.messages.Told.{Told}
 use Rattle.tn_machines.specs.declared.client.progress.ClientProgress.{ClientProgress}
 use Rattle.tn_nvt.specs.Spelling.{spells}
-use Rattle.tn_session.proofs.Going.{true_false, false_true, appends_more, appends_kept, appends_none, from_to, left_over}
+use Rattle.tn_session.proofs.Going.{true_false, false_true, from_to, left_over}
 use Rattle.tn_session.proofs.lemmas.Noting.{total-push}
 use Rattle.tn_session.proofs.Stopped.{stands_more}
 use Rattle.tn_session.proofs.Stopping.{core_stays}
@@ -24,9 +24,10 @@ use Rattle.tn_session.specs.CoreTurns.{TurnsTold, ToldAll, told_of, all_told, sa
 use Rattle.tn_session.specs.Notes.{Noted, NotesWrite, NotesAll, no_notes}
 use Rattle.tn_session.specs.Stops.{StandsTold, core_stops, has_left}
 use Rattle.tn_session.specs.Transcripts.{IsStep}
-use Rattle.tn_session.specs.Turns.{Writes, Tells, max_writes}
+use Rattle.tn_streams.specs.Writing.{Writes, Tells, max_writes}
 use Rattle.tn_session.specs.declared.mail.Mail.{Mail}
 use Rattle.tn_session.specs.declared.mail.Sender.TheVariants.{Keys}
+use Rattle.tn_streams.proofs.lemmas.Writing.{appends_more, appends_kept, appends_none}
 use Rattle.tn_streams.proofs.lemmas.Telling.{accounts_none, accounts_well, accounts_both}
 use Rattle.tn_streams.specs.Known.{KnownWriter, KnownWriting}
 use Rattle.tn_streams.specs.Telling.{Calls}

@@ -28,7 +28,8 @@ use Rattle.tn_session.specs.Turning.{Holds}
 use Rattle.tn_session.proofs.Turning.{IsClose, is_close}
 use Rattle.tn_session.specs.Talk.{Closes, turns_said, entries_of, ends_done}
 use Rattle.tn_session.specs.Transcripts.{bytes_sent, came_by}
-use Rattle.tn_session.specs.Turns.{messages_of, max_writes}
+use Rattle.tn_session.specs.Turns.{messages_of}
+use Rattle.tn_streams.specs.Writing.{max_writes}
 use Rattle.tn_session.specs.declared.channels.View.{View}
 use Rattle.tn_session.specs.EntryChannel.{EntryHand}
 use Rattle.tn_session.specs.declared.mail.Mail.{Mail}

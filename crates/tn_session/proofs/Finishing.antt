@@ -1,7 +1,7 @@
 -- The writer is told once that no more comes, and nothing is written after that.
-use Rattle.std.proofs.Common.{◌≡◌, ℕ, ◌<◌, length, List, [], arith, Bool, true, false, ◌||◌, Option, refl, ap, ◌∙◌, subst, sym}
+use Rattle.std.proofs.Common.{◌≡◌, Bool, true, false, ◌||◌, Option, refl, ap, ◌∙◌, subst, sym}
 use Rattle.tn_session.specs.Closing.{Closes}
-use Rattle.tn_streams.specs.Sending.{Sending, written_on, finished_on, StaysOpen, IsFinished}
+use Rattle.tn_streams.specs.Sending.{Sending, finished_on, StaysOpen, IsFinished}
 
 -- how far the writer was told: more may come, or it was told and nothing more is sent
 abbrev pub StandsAt : Bool → Bool → Option Sending → Option Sending → Type 0
@@ -10,9 +10,6 @@ StandsAt true done first now = IsFinished first now × (done ≡ true)
 
 pub open_none : (a : Option Sending) → StaysOpen a a
 open_none a e = e
-
-pub open_more : (a b c : Option Sending) → StaysOpen a b → c ≡ written_on b → StaysOpen a c
-open_more a b c more is e = is ∙ ap written_on (more e)
 
 pub open_both : (a b c : Option Sending) → StaysOpen a b → StaysOpen b c → StaysOpen a c
 open_both a b c one two e = two (one e)
@@ -46,10 +43,6 @@ right false d e = e
 pub stays_done : (a b c d : Bool) → (a ≡ true → c ≡ true) → (b ≡ true → d ≡ true) → (a || b) ≡ true → (c || d) ≡ true
 stays_done true b c d one two e = ap (λ (x : Bool). x || d) (one refl)
 stays_done false b c d one two e = right c d (two e)
-
--- in no bytes nothing stands at any place
-pub not_below : (bytes : List ℕ) (at : ℕ) → bytes ≡ [] → at < length bytes → ⊥
-not_below bytes at none e = let zero : length bytes ≡ 0 = ap length none in omega (arith, zero, e)
 
 pub or_elim : {A : Type 0} (a b : Bool) → (a || b) ≡ true → (a ≡ true → A) → (b ≡ true → A) → A
 or_elim true b e one two = one refl

@@ -14,14 +14,16 @@ use Rattle.tn_session.proofs.Stopping.{term_stays}
 use Rattle.tn_session.specs.Notes.{Note, Noted, NotesWrite, NotesAll, notes, takes, writes}
 use Rattle.tn_session.specs.Stops.{StandsTold, has_left, term_stops}
 use Rattle.tn_session.specs.Transcripts.{IsStep}
-use Rattle.tn_session.specs.Turns.{Writes, Tells, max_writes, TurnsMessage, GoesOn, left_one, lefts_of, messages_of, says, is_over, is_marked_whole}
+use Rattle.tn_session.specs.Turns.{TurnsMessage, GoesOn, left_one, lefts_of, messages_of, says, is_over, is_marked_whole}
 use Rattle.tn_queue.specs.Queue.{putter}
 use Rattle.tn_session.specs.EntryChannel.{EntryHand}
 use Rattle.tn_session.specs.declared.mail.Mail.{Mail}
 use Rattle.tn_session.specs.declared.mail.Sender.TheVariants.{Back}
 use Rattle.tn_streams.proofs.lemmas.Telling.{accounts_none, accounts_well, accounts_both}
+use Rattle.tn_streams.proofs.lemmas.Writing.{appends_more, appends_kept, appends_none}
 use Rattle.tn_streams.specs.Known.{KnownWriter, KnownWriting}
 use Rattle.tn_streams.specs.Telling.{Calls}
+use Rattle.tn_streams.specs.Writing.{Writes, Tells, max_writes}
 use Rattle.tn_machines.specs.server.Marks.{Runs, Turns, is_whole, all_whole, no_write_failed, no_writes_failed}
 use Rattle.tn_machines.specs.server.Reaching.{IsTurn, LeadsTo}
 use Rattle.tn_machines.specs.server.Run.{Run, fail, puts_of}
@@ -40,50 +42,6 @@ true_false e = cc
 
 pub false_true : false ≡ true → ⊥
 false_true e = cc
-
-pub appends_more : (a b c : Option (List ℕ)) (xs ys : List ℕ) → Appends a b xs → Appends b c ys → Appends a c (xs ++ ys)
-appends_more None b c xs ys one two = tt
-appends_more (Some x) None c xs ys one two = absurd one
-appends_more (Some x) (Some y) None xs ys one two = absurd two
-appends_more (Some x) (Some y) (Some z) xs ys one two = two ∙ ap (λ (l : List ℕ). l ++ ys) one ∙ append_assoc x xs ys
-
-pub appends_kept : (a b c : Option (List ℕ)) (xs : List ℕ) → Appends a b xs → Keeps b c → Appends a c xs
-appends_kept None b c xs one two = tt
-appends_kept (Some x) None c xs one two = absurd one
-appends_kept (Some x) (Some y) None xs one two = absurd two
-appends_kept (Some x) (Some y) (Some z) xs one two = two ∙ one
-
-pub appends_none : (a : Option (List ℕ)) → Appends a a []
-appends_none None = tt
-appends_none (Some x) = sym (append-nil x)
-
-pub take_all : (n : ℕ) (l : List ℕ) → length l ≤ n → take n l ≡ l
-take_all zero [] h = refl
-take_all (suc n) [] h = refl
-take_all zero (x ∷ xs) h = absurd (omega arith)
-take_all (suc n) (x ∷ xs) h = ap (λ (k : List ℕ). x ∷ k) (take_all n xs (omega arith))
-
-pub stops_at : (a b : Option (List ℕ)) (n : ℕ) (bytes : List ℕ) → Appends a b (take n bytes) → Writes false a b bytes
-stops_at a b n bytes h = (take n bytes, drop n bytes, sym (take-append-drop n bytes), h)
-
-pub writes_all : (a b : Option (List ℕ)) (n : ℕ) (bytes : List ℕ) → length bytes ≤ n → Appends a b (take n bytes) → Writes true a b bytes
-writes_all a b n bytes all h = rw (take_all n bytes all) at h
-
--- where nothing more was taken
-pub stays_at : (a b c : Option (List ℕ)) (n k : ℕ) (bytes rest : List ℕ) → k ≡ 0 → Appends a b (take n bytes) → Appends b c (take k rest)
-    → Appends a c (take n bytes)
-stays_at a b c n k bytes rest e one two =
-    let P : ℕ → Type 0 = λ m. Appends b c (take m rest) in
-    let Q : List ℕ → Type 0 = λ zs. Appends a c zs in
-    subst Q (append-nil (take n bytes)) (appends_more a b c (take n bytes) [] one (subst P e two))
-
-pub all_taken : (n k : ℕ) → n ≤ k → k ≤ n → (n == k) ≡ true
-all_taken n k a b = grind arith
-
--- so many of the bytes were written
-pub writes_so_many : (w : Bool) (x y : Option (List ℕ)) (n : ℕ) (bytes : List ℕ) → nat_eq n (length bytes) ≡ w → Appends x y (take n bytes) → Writes w x y bytes
-writes_so_many true x y n bytes e h = let all : length bytes ≤ n = grind arith in writes_all x y n bytes all h
-writes_so_many false x y n bytes e h = stops_at x y n bytes h
 
 no_rest : (n : ℕ) (bytes : List ℕ) → length bytes ≤ n → drop n bytes ≡ []
 no_rest zero [] h = refl
@@ -437,10 +395,6 @@ term_told a b d xs x w w₁ w₂ puts later r o v h told due now gone one t next
     (term_stops q.0.progress) now in
     let N : Bool → Type 0 = λ n. StandsTold Back messages_of (Runs c) (λ r. term_stops r.progress) (xs ++ x ∷ []) next.marked n now in
     subst N (sym (ap term_stops q.2.progress)) (subst M (sym marks) after)
-
-pub ok_writes : {E : Type 0} (old new : Option (List ℕ)) (r : Result ℕ E) (n : ℕ) (buf : List ℕ) → r ≡ Ok n → WriteAppends old new r buf
-    → Appends old new (take n buf)
-ok_writes {E} old new r n buf e h = let P : Result ℕ E → Type 0 = λ u. WriteAppends old new u buf in subst P e h
 
 pub never_true : {A : Type 0} → true ≡ false → A
 never_true e = absurd (true_false e)

@@ -11,7 +11,7 @@ use Rattle.tn_jobs.specs.declared.reactions.Reaction.{Reaction}
 use Rattle.tn_nvt.specs.Spelling.{spells}
 use Rattle.tn_server.specs.Replies.{items_said}
 use Rattle.tn_server.specs.declared.wishes.Editing.{Editing}
-use Rattle.tn_session.proofs.Going.{appends_more, false_true, from_to}
+use Rattle.tn_session.proofs.Going.{false_true, from_to}
 use Rattle.tn_session.proofs.Lefts.{none_over}
 use Rattle.tn_session.proofs.Mailbox.{all_woven}
 use Rattle.tn_session.proofs.Sent.{NoLeft, Sent, no_left-append, sent_by, reader_sent}
@@ -33,11 +33,13 @@ use Rattle.tn_session.proofs.Turning.{is_close}
 use Rattle.tn_session.specs.Stops.{StopHand, IsTold, term_stops}
 use Rattle.tn_session.specs.Talk.{IsJob, IsTalk, Closes, turns_said}
 use Rattle.tn_session.specs.Turning.{Holds, queue_of}
-use Rattle.tn_session.specs.Turns.{HandlesAll, is_marked_whole, is_over, max_writes, messages_of, says}
+use Rattle.tn_session.specs.Turns.{HandlesAll, is_marked_whole, is_over, messages_of, says}
+use Rattle.tn_streams.specs.Writing.{max_writes}
 use Rattle.tn_session.specs.declared.channels.View.{View}
 use Rattle.tn_session.specs.EntryChannel.{EntryHand}
 use Rattle.tn_session.specs.declared.mail.Mail.{Mail}
 use Rattle.tn_session.specs.declared.mail.Sender.TheVariants.{Net, Desk, Back}
+use Rattle.tn_streams.proofs.lemmas.Writing.{appends_more}
 use Rattle.tn_streams.proofs.lemmas.Telling.{accounts_both}
 use Rattle.tn_streams.specs.Known.{KnownReader, KnownWriter}
 use Rattle.tn_machines.specs.server.Marks.{Turns, run_after_opening, all_whole, no_writes_failed}

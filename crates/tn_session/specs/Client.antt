@@ -30,7 +30,7 @@ use Rattle.tn_session.specs.Reading.{max_reads, pieces_in, controls_in}
 use Rattle.tn_session.specs.Stops.{IsTold, LeavesAt, core_stops}
 use Rattle.tn_session.specs.Transcripts.{Exchange, ReadsPrefix, Transcribes, all_read, all_wrote, came_by}
 use Rattle.tn_session.specs.Transcripts.{exchange_of}
-use Rattle.tn_session.specs.Turns.{Tells, max_writes}
+use Rattle.tn_streams.specs.Writing.{Tells, max_writes}
 use Rattle.tn_session.specs.declared.channels.View.{View}
 use Rattle.tn_session.specs.declared.client.Mailbox.{Mailbox}
 use Rattle.tn_session.specs.declared.mail.Mail.{Mail}

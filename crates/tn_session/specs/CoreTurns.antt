@@ -17,7 +17,8 @@ use Rattle.tn_session.specs.Mailbox.{with_handled}
 use Rattle.tn_session.specs.Notes.{Noted, NotesAll, no_notes, writes}
 use Rattle.tn_session.specs.Stops.{StopHand, IsTold, StandsTold, core_stops}
 use Rattle.tn_session.specs.Transcripts.{IsStep, total}
-use Rattle.tn_session.specs.Turns.{Tells, lefts_of}
+use Rattle.tn_session.specs.Turns.{lefts_of}
+use Rattle.tn_streams.specs.Writing.{Tells}
 use Rattle.tn_session.specs.declared.channels.View.{View}
 use Rattle.tn_session.specs.declared.mail.Mail.{Mail}
 use Rattle.tn_session.specs.declared.mail.Sender.{Sender}

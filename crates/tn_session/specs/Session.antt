@@ -28,7 +28,8 @@ use Rattle.tn_session.specs.Transcripts.{exchange_of}
 use Rattle.tn_session.specs.Turning.{Holds, IsQueue, ids_of, jobs_of, queue_of}
 use Rattle.tn_session.specs.declared.back.Runner.{Runner}
 use Rattle.tn_session.specs.Turns as turns
-use Rattle.tn_session.specs.Turns.{Tells, max_writes, messages_of}
+use Rattle.tn_session.specs.Turns.{messages_of}
+use Rattle.tn_streams.specs.Writing.{Tells, max_writes}
 use Rattle.tn_session.specs.declared.mail.Mail.{Mail}
 use Rattle.tn_session.specs.declared.mail.Sender.TheVariants.{Net, Desk, Back}
 use Rattle.tn_session.specs.declared.parties.Report.{Report}

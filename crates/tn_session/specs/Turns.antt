@@ -16,7 +16,7 @@ use Rattle.tn_session.specs.EntryChannel.{EntryHand}
 use Rattle.tn_session.specs.declared.mail.Mail.{Mail}
 use Rattle.tn_session.specs.declared.mail.Sender.TheVariants.{Back}
 use Rattle.tn_streams.specs.Known.{KnownWriting}
-use Rattle.tn_streams.specs.Telling.{Calls, AccountsFor}
+use Rattle.tn_streams.specs.Writing.{Tells}
 use Rattle.tn_machines.specs.server.Marks.{Turns, Runs, is_whole, all_whole, no_write_failed}
 use Rattle.tn_machines.specs.server.Marks.{no_writes_failed}
 use Rattle.tn_machines.specs.server.Reaching.{LeadsTo, IsTurn}
@@ -28,20 +28,6 @@ use Rattle.tn_machines.specs.declared.faults.Ended.{Ended}
 use Rattle.tn_machines.specs.declared.messages.Message.{Message}
 use Rattle.tn_machines.specs.declared.messages.Message.TheVariants.{Left}
 use Rattle.tn_machines.specs.declared.server.terminal.Term.{Term}
-
--- all of these bytes were written, or the first of them
-abbrev pub Writes : Bool → Option (List ℕ) → Option (List ℕ) → List ℕ → Type 0
-Writes true old new bytes = Appends old new bytes
-Writes false old new bytes =
-    (front : List ℕ) × (rest : List ℕ) × (bytes ≡ front ++ rest) × Appends old new front
-
--- how many writes are made at most for what one message sends
-abbrev pub max_writes : ℕ
-max_writes = 18446744073709551615
-
--- where not all went well, a write failed
-abbrev pub Tells : Bool → Option Calls → Option Calls → Type 0
-Tells well before after = AccountsFor max_writes well before after
 
 -- what is said on the network by now
 abbrev pub says : Run → List ℕ

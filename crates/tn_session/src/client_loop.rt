@@ -19,12 +19,11 @@ use crate::parties::Gate;
 use crate::stops::Watched;
 use crate::term::{finish_unless, leaves};
 use crate::transcript::{Output, Transcript};
-use crate::writing::write_out;
 use std::alloc::Global;
 use std::sync::Wait;
 use tn_machines::Message;
 use tn_machines::client::{ClientMark, ClientProgress, Core, Origin, Told};
-use tn_streams::{Drain, Finish};
+use tn_streams::{Drain, Finish, write_all};
 
 /// How many threads send mails.
 const SENDERS: u64 = 2;
@@ -92,7 +91,7 @@ fn turn<W: Finish, S: Drain, G: Gate>(
     let mark = core.handle(told, &mut output.out, text);
     tell(gate, core);
     let written = output.write_out(writer);
-    let shown = write_out(screen, text);
+    let shown = write_all(screen, text);
     text.clear();
     if is_done(written, shown, mark) {
         return;

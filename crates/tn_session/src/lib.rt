@@ -33,4 +33,3 @@ mod stops;
 mod term;
 mod threads;
 mod transcript;
-mod writing;

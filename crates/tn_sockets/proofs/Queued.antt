@@ -6,7 +6,7 @@ use Rattle.std.specs.Option.{is_some}
 use Rattle.std.specs.Io.KnownBytes.{Appends, Keeps}
 use Rattle.std.specs.Vec.{vec_items}
 use Rattle.tn_queue.specs.Queue.{more, put_more, taken_more}
-use Rattle.tn_sockets.proofs.Writing.{appends_more, appends_kept, appends_none, take_all}
+use Rattle.tn_streams.proofs.lemmas.Writing.{appends_more, appends_kept, appends_none, take_all}
 use Rattle.tn_sockets.specs.Passing.{Begins}
 use Rattle.tn_sockets.specs.Queue.{Piece, Pieces, PieceHand, behind_end, bytes_of, count_behind, has_end, put_bytes, TakesOn, WritesTaken, WritesAllTaken}
 use Rattle.tn_sockets.specs.Queue.{WritesToTheEnd}

@@ -1,3 +1,4 @@
 pub mod Telling
 pub mod Foretelling
 pub mod Seats
+pub mod Writing

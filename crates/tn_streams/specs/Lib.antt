@@ -6,3 +6,4 @@ pub mod Known
 pub mod Beside
 pub mod Sending
 pub mod Seats
+pub mod Writing

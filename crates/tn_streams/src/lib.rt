@@ -32,10 +32,12 @@ pub use control::Control;
 use std::io::{Error, ErrorKind, Read, Result, Write};
 pub use tally::Tally;
 pub use window::WindowSize;
+pub use writing::{write_all, write_front};
 
 mod control;
 mod tally;
 mod window;
+mod writing;
 
 /// A reader that may tell how many of its calls failed, and foretell how many will: one that is given away
 /// can't be asked afterwards. Where its bytes are typed in a window, it tells the window's size too, and the

@@ -9,7 +9,7 @@ returns-then-is_done-clause-turned g c =
     let bytes = c.handle-mark.new.out.items in
     let text = c.handle-mark.new.screen.items in
     let w = c.write_out-written in
-    let s = c.write_out-shown in
+    let s = c.write_all-shown in
     turned_on w.result s.result c.handle-mark.result c.args.core.now c.handle-mark.new.self c.args.told bytes text _ _ _ _
     (sym c.is_done.ensures ∙ c.if-is_done.true) c.handle-mark.ensures.unwritten c.handle-mark.ensures.unshown w.ensures.writes w.ensures.tells
     (writes_as s.result s.result _ _ _ text refl c.deref.ensures.value s.ensures.writes) s.ensures.tells c.handle-mark.ensures.turns
@@ -19,7 +19,7 @@ returns-clause-turned g c =
     let bytes = c.handle-mark.new.out.items in
     let text = c.handle-mark.new.screen.items in
     let w = c.write_out-written in
-    let s = c.write_out-shown in
+    let s = c.write_all-shown in
     turned_off w.result s.result c.handle-mark.result c.args.core.now c.handle-mark.new.self c.write_failed.new.self c.args.told bytes text _ _ _ _
     (sym c.is_done.ensures ∙ c.if-is_done.false) w.ensures.writes w.ensures.tells
     (writes_as s.result s.result _ _ _ text refl c.deref.ensures.value s.ensures.writes) s.ensures.tells w.ensures.none

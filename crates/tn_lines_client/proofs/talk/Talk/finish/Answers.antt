@@ -1,6 +1,6 @@
 use Rattle.std.proofs.Common.{refl}
 use Rattle.tn_lines_client.proofs.Going.{kept_more}
-use Rattle.tn_lines_client.proofs.Writing.{keeps_same}
+use Rattle.tn_streams.proofs.lemmas.Writing.{keeps_same}
 use Rattle.tn_lines_client.proofs.talk.Talk.finish.Goals as goal
 
 pub returns-then-is_to_finish : goal.returns-then-is_to_finish

@@ -1,6 +1,7 @@
 use Rattle.std.proofs.Common.{refl}
 use Rattle.tn_lines_client.proofs.Going.{kept_more, bytes_more}
-use Rattle.tn_lines_client.proofs.Writing.{keeps_same, reads_zero}
+use Rattle.tn_lines_client.proofs.Writing.{reads_zero}
+use Rattle.tn_streams.proofs.lemmas.Writing.{keeps_same}
 use Rattle.tn_lines_client.proofs.talk.Talk.take_bytes.Goals as goal
 
 pub returns-in-Ok-eq0 : goal.returns-in-Ok-eq0

@@ -1,15 +1,15 @@
-//! What the terminal appends is written out, as far as the writer takes it.
+//! Bytes are written one write after another, as far as a writer takes them.
 
 ghost use Rattle.std.specs.Prelude.{◌≡◌, ◌≤◌, ◌==◌, [], take, length, IsTrue};
 ghost use Rattle.std.specs.Io.KnownBytes.{Appends};
-ghost use Rattle.tn_session.specs.Turns.{Tells, Writes};
 ghost use Rattle.tn_streams.specs.Sending.{StaysOpen};
+ghost use Rattle.tn_streams.specs.Writing.{Tells, Writes};
 
-use tn_streams::{Drain, is_interrupted};
+use crate::{Drain, is_interrupted};
 
-/// Writes these bytes, or the first of them where a write fails, and answers how many it wrote. A write that
-/// takes none has failed.
-pub(crate) fn write_front<W: Drain>(writer: &mut W, bytes: &[u8]) -> usize
+/// Writes these bytes, or the first of them where a write fails, and returns how many it wrote. A write that
+/// takes none has failed; one that a signal interrupts is made again.
+pub fn write_front<W: Drain>(writer: &mut W, bytes: &[u8]) -> usize
     ensures bound { result ≤ length bytes.now }
     ensures writes { Appends (W.contents writer.old) (W.contents writer.new) (take result bytes.now) }
     ensures tells { Tells (result == length bytes.now) (W.told writer.old) (W.told writer.new) }
@@ -32,8 +32,9 @@ pub(crate) fn write_front<W: Drain>(writer: &mut W, bytes: &[u8]) -> usize
     at
 }
 
-/// Writes these bytes, or the first of them where a write fails, and answers whether it wrote all.
-pub(crate) fn write_out<W: Drain>(writer: &mut W, bytes: &[u8]) -> bool
+/// Writes these bytes, or the first of them where a write fails, and returns whether it wrote all, as
+/// `write_front` does.
+pub fn write_all<W: Drain>(writer: &mut W, bytes: &[u8]) -> bool
     ensures writes { Writes result (W.contents writer.old) (W.contents writer.new) bytes.now }
     ensures tells { Tells result (W.told writer.old) (W.told writer.new) }
     ensures none { bytes.now ≡ [] → IsTrue result }
