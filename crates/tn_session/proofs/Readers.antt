@@ -8,10 +8,9 @@ use Rattle.std.specs.List.{concat}
 use Rattle.tn_jobs.specs.declared.held_jobs.JobId.{JobId}
 use Rattle.tn_jobs.specs.declared.verdicts.After.TheVariants.{Stay}
 use Rattle.tn_session.specs.Mailbox.{mail, sender}
-use Rattle.tn_session.specs.Reader.{Closes, ReaderSends, TypingSends, SaysAll, SaysEnd, SaysLast, SaysThese, one_size, one_control, said_by, sends}
+use Rattle.tn_session.specs.Reader.{Closes, TypingSends, SaysAll, SaysEnd, SaysLast, SaysThese, one_size, one_control, said_by, sends}
 use Rattle.tn_session.specs.Reading.{IsEnding, IsPiece, IsReadCause, Telling, piece_told, size_told, control_told, message_of, told_messages, pieces_in}
 use Rattle.tn_session.specs.Reading.{sizes_in, controls_in}
-use Rattle.tn_streams.specs.Foretelling.{Failures}
 use Rattle.tn_streams.specs.Known.{KnownReader, KnownTyping}
 use Rattle.tn_session.specs.declared.channels.View.{View}
 use Rattle.tn_session.specs.declared.mail.Mail.{Mail}

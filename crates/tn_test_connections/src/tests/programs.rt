@@ -2,8 +2,7 @@
 
 use std::alloc::{AllocError, Global};
 use std::io::{self, Cursor, ErrorKind, Write};
-use std::sync::Arc;
-use tn_program::{KeySource, Link, OwnCharacters, Streams, own_characters, run_words};
+use tn_program::{KeySource, OwnCharacters, Streams, own_characters, run_words};
 
 /// Takes all that is written, or fails.
 #[derive(Drop)]
@@ -62,9 +61,6 @@ fn faults_are_told(rt: HostRuntime) {
         let Ok(words) = words_of(alloc, word) else {
             return;
         };
-        let Ok(link) = Arc::new(alloc, Link::new()) else {
-            return;
-        };
         let mut errors = Vec::new(alloc);
         let mut writer = Paper { open: *open };
         let streams = Streams {
@@ -73,7 +69,7 @@ fn faults_are_told(rt: HostRuntime) {
             sizes: None,
             stands: None,
             terminal: None,
-            link,
+            link: None,
         };
         let ended = run_words(rt, alloc, Ok(words), streams, &mut writer, &mut errors);
         assert!(rt; is_told(ended, &errors, *status, told));
@@ -94,9 +90,6 @@ fn the_line_of_a_fault_is_told(rt: HostRuntime) {
         let Ok(words) = words_of(alloc, "world") else {
             return;
         };
-        let Ok(link) = Arc::new(alloc, Link::new()) else {
-            return;
-        };
         let mut output = Vec::new(alloc);
         let mut errors = Vec::new(alloc);
         let streams = Streams {
@@ -105,7 +98,7 @@ fn the_line_of_a_fault_is_told(rt: HostRuntime) {
             sizes: None,
             stands: None,
             terminal: None,
-            link,
+            link: None,
         };
         let ended = run_words(rt, alloc, Ok(words), streams, &mut output, &mut errors);
         assert!(rt; is_told(ended, &errors, *status, told));
@@ -140,9 +133,6 @@ fn what_of_a_stream_is_not_printed_is_told(rt: HostRuntime) {
         let Ok(words) = words_of(alloc, "decode") else {
             return;
         };
-        let Ok(link) = Arc::new(alloc, Link::new()) else {
-            return;
-        };
         let mut output = Vec::new(alloc);
         let mut errors = Vec::new(alloc);
         let streams = Streams {
@@ -151,7 +141,7 @@ fn what_of_a_stream_is_not_printed_is_told(rt: HostRuntime) {
             sizes: None,
             stands: None,
             terminal: None,
-            link,
+            link: None,
         };
         let ended = run_words(rt, alloc, Ok(words), streams, &mut output, &mut errors);
         assert!(rt; is_unread_told(ended, &errors, told));

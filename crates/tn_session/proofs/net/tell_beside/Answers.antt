@@ -1,7 +1,7 @@
-use Rattle.std.proofs.Common.{◌≡◌, List, Option, subst, sym, ◌∙◌}
+use Rattle.std.proofs.Common.{List, Option, subst, sym, ◌∙◌}
 use Rattle.std.proofs.lemmas.Option.{IfSome_then}
 use Rattle.crossbeam_channel.specs.Claims.{view}
-use Rattle.tn_session.proofs.Readers.{role, says_both}
+use Rattle.tn_session.proofs.Readers.{says_both}
 use Rattle.tn_session.specs.Reader.{one_size, one_control}
 use Rattle.tn_streams.specs.Beside.{TellsNext}
 use Rattle.tn_streams.specs.declared.control.Control.{Control}

@@ -1,7 +1,5 @@
-use Rattle.std.proofs.Common.{option_to_list, ap, ◌∙◌}
 use Rattle.std.proofs.lemmas.Option.{IfSome_then}
 use Rattle.tn_session.proofs.Readers.{says_end}
-use Rattle.tn_session.specs.Mailbox.{mail, sender}
 use Rattle.tn_session.proofs.net.tell_end.Goals as goal
 
 pub returns-clause-said : goal.returns-clause-said
