@@ -7,3 +7,4 @@ pub mod Undoing
 pub mod Bounding
 pub mod Dropping
 pub mod Roles
+pub mod Keying

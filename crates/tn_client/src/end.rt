@@ -2,7 +2,7 @@
 
 ghost use Rattle.std.specs.Prelude.{◌≡◌, ◌≢◌, ◌++◌, ◌∷◌, ℕ, List, true, IsTrue, false, IsFalse, None, []};
 ghost use Rattle.std.specs.Prelude.{length, take, IfOk};
-ghost use Rattle.std.specs.Prelude.{IfErr, OnOk, OnErr, IsErrOf};
+ghost use Rattle.std.specs.Prelude.{IfErr, IsOk, OnOk, OnErr, IsErrOf};
 ghost use Rattle.tn_linemode.specs.Triples.{triple_of};
 ghost use Rattle.tn_nvt.specs.Room.{LacksRoom};
 ghost use Rattle.tn_nvt.specs.Spelling.{spells};
@@ -72,6 +72,26 @@ impl Model for ClientEnd {
     ghost invariant = { λ e. (e.trapped < e.line.limit) × (e.plain < e.line.limit) };
 }
 
+// The answer of a key: where it found no memory, what it sent is taken back.
+fn or_memory(
+    typed: Result<(), AllocError>,
+    sent: usize,
+    out: &mut Vec<u8>,
+) -> Result<(), ClientFault>
+    ensures ok { OnOk typed (IsOk result) }
+    ensures out { OnOk typed (out.new.items ≡ out.old.items) }
+    ensures err { OnErr typed (IsErrOf result ClientFault.Memory) }
+    ensures err_out { OnErr typed (out.new.items ≡ take sent out.old.items) }
+{
+    match typed {
+        Ok(()) => Ok(()),
+        Err(_) => {
+            out.truncate(sent);
+            Err(ClientFault::Memory)
+        },
+    }
+}
+
 impl ClientEnd {
     /// Starts an end whose window has this size, in characters; 0 where a side is not known. It
     /// writes nothing by itself: the server speaks first.
@@ -130,13 +150,10 @@ impl ClientEnd {
             return Err(ClientFault::Failed);
         }
         let sent = out.len();
-        match self.type_key(key, out, screen) {
-            Ok(()) => Ok(()),
-            Err(_) => {
-                out.truncate(sent);
-                Err(ClientFault::Memory)
-            },
+        if self.mode.current().edit() {
+            return or_memory(self.edit(key, out, screen), sent, out);
         }
+        or_memory(self.pass(key, out, screen), sent, out)
     }
 
     /// Takes bytes that came from the server, cut anywhere. After `Memory`, for what is said or shown, a list

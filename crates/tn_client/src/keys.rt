@@ -14,8 +14,7 @@ ghost use Rattle.tn_discipline.specs.HalfLine.{line_released, effect_of, GivesTe
 ghost use Rattle.tn_discipline.specs.Admitted.{count_after};
 ghost use Rattle.tn_discipline.specs.Keys.{roles_from, role_of_key};
 ghost use Rattle.tn_linemode.specs.Modes.{traps};
-ghost use Rattle.tn_client.specs.Steps.{role_now, end_after_count, line_typed, sends_where, end_after_key};
-ghost use Rattle.tn_client.specs.Steps.{says_key, shows_key, LacksMemoryNow, Begins};
+ghost use Rattle.tn_client.specs.Steps.{role_now, end_after_count, line_typed, sends_where, Begins};
 
 use crate::end::ClientEnd;
 use crate::screen::{echo_raw, show_all};
@@ -93,30 +92,13 @@ impl ClientEnd {
         shown_len(role, &self.line)
     }
 
-    /// Types a key. After a refusal what was sent and shown begins as it did.
-    pub(crate) fn type_key(
+    /// Types a key that is sent at once. After a refusal what was sent begins as it did.
+    pub(crate) fn pass(
         &mut self,
         key: u8,
         out: &mut Vec<u8>,
         screen: &mut Vec<u8>,
     ) -> Result<(), AllocError>
-        ensures ok { OnOk result (self.new ≡ end_after_key self.old key) }
-        ensures out { OnOk result (out.new.items ≡ out.old.items ++ spells (says_key self.old key)) }
-        ensures screen { OnOk result (screen.new.items ≡ screen.old.items ++ shows_key self.old key) }
-        ensures err { OnErr result (self.new ≡ self.old) }
-        ensures err_out { OnErr result (Begins out.old.items out.new.items) }
-        ensures err_screen { OnErr result (screen.new.items ≡ screen.old.items) }
-        ensures full { OnErr result (LacksMemoryNow self.old key out.old screen.old) }
-    {
-        if self.mode.current().edit() {
-            self.edit(key, out, screen)
-        } else {
-            self.pass(key, out, screen)
-        }
-    }
-
-    // A key that is sent at once.
-    fn pass(&mut self, key: u8, out: &mut Vec<u8>, screen: &mut Vec<u8>) -> Result<(), AllocError>
         ensures ok { OnOk result (self.new ≡ end_after_count self.old key) }
         ensures out { OnOk result
             (out.new.items ≡ out.old.items ++ spells (raw_key_items (role_now self.old key) key)) }
@@ -185,8 +167,13 @@ impl ClientEnd {
         self.plain = count_after(limit, self.plain, plain);
     }
 
-    // A key of the line that is edited here.
-    fn edit(&mut self, key: u8, out: &mut Vec<u8>, screen: &mut Vec<u8>) -> Result<(), AllocError>
+    /// Types a key into the line that is edited here. After a refusal what was sent begins as it did.
+    pub(crate) fn edit(
+        &mut self,
+        key: u8,
+        out: &mut Vec<u8>,
+        screen: &mut Vec<u8>,
+    ) -> Result<(), AllocError>
         ensures ok { let line = line_typed true self.old.forward self.old.line (role_now self.old key) in
             OnOk result (self.new ≡ record self.old { line = line }) }
         ensures out { let role = role_now self.old key in
