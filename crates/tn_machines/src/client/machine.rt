@@ -1,13 +1,10 @@
 //! The core of a client session, which alone uses the client end.
 
 ghost use Rattle.std.specs.Prelude.{◌≡◌, ℕ, List, IsTrue, IsFalse, OnOk, OnErr, IfOk, IfErr, []};
-ghost use Rattle.tn_client.specs.Calls as client;
-ghost use Rattle.tn_client.specs.Events.{History};
 ghost use Rattle.tn_machines.specs.client.Counting as counting;
 ghost use Rattle.tn_machines.specs.client.Marks.{no_write_failed, no_show_failed};
-ghost use Rattle.tn_machines.specs.client.Reaching.{LeadsTo, TypesAll, TypesPrefix, DoesWhole, StopsWithin};
-ghost use Rattle.tn_machines.specs.client.Reaching.{RefusesFor, IsTurn, sent_bytes};
-ghost use Rattle.tn_machines.specs.client.Refusing.{RefusesAtKey};
+ghost use Rattle.tn_machines.specs.client.Reaching.{LeadsTo, DoesWhole, StopsWithin, RefusesFor, IsTurn};
+ghost use Rattle.tn_machines.specs.client.Reaching.{sent_bytes};
 ghost use Rattle.tn_machines.specs.client.Run as run;
 ghost use Rattle.tn_machines.specs.client.Run.{Run};
 ghost use Rattle.tn_machines.specs.client.Terms.{terms_at};
@@ -32,26 +29,6 @@ pub struct Core {
     pub(crate) progress: ClientProgress,
 }
 
-// Types these keys, one after another.
-fn type_all(
-    end: &mut ClientEnd,
-    keys: &[u8],
-    out: &mut Vec<u8>,
-    screen: &mut Vec<u8>,
-) -> Result<(), ClientFault>
-    ensures ok { OnOk result
-        (TypesAll end.old keys.now out.old.items out.new.items screen.old.items screen.new.items end.new) }
-    ensures err { OnErr result
-        (TypesPrefix end.old keys.now out.old.items out.new.items screen.old.items screen.new.items end.new) }
-    ensures cause { IfErr result (λ fault. (h : History) → client.LeadsTo h end.old →
-        IsFalse end.old.failed → (fault ≡ ClientFault.Memory) × RefusesAtKey h keys.now) }
-{
-    for key in keys {
-        end.key(*key, out, screen)?;
-    }
-    Ok(())
-}
-
 // Drops what was appended for the network once nothing more goes there.
 fn drop_if(closed: bool, out: &mut Vec<u8>)
     ensures { out.new.items ≡ sent_bytes closed out.old.items }
@@ -74,7 +51,7 @@ impl Core {
         })
     }
 
-    // What the user types.
+    // What the user types, one key after another.
     fn keys(
         &mut self,
         keys: &[u8],
@@ -93,7 +70,9 @@ impl Core {
         ensures closed { self.new.progress.closed ≡ self.old.progress.closed }
     {
         self.progress = self.progress.fed();
-        type_all(&mut self.end, keys, out, screen)?;
+        for key in keys {
+            self.end.key(*key, out, screen)?;
+        }
         Ok(())
     }
 
