@@ -281,12 +281,12 @@ inline put_end() {
 	fi
 }
 
-/* Core: client.rt run, client_loop.rt run_core, machine.rt handle, then connecting.rt talk_and_send */
+/* Core: client.rt start_readers and run_beside, client_loop.rt run_core, machine.rt handle, then connecting.rt talk_and_send */
 proctype Core() {
 	byte from = 0, n = 0, u = 0, req = 0, lefts = 0, out = 0, outu = 0, text = 0, textu = 0;
 	mtype m;
 	bool ok, shown, closed, left;
-	/* run: each thread may fail to start */
+	/* each thread may fail to start */
 	if
 	:: atomic { run ClientNet(); run ClientKeys() }
 	:: atomic { MAY_FAIL -> FAIL; c_net_done = true; c_keys_done = true; c_over = true; goto finishes }

@@ -1,8 +1,8 @@
 -- The running client session, of what its ports give back, for every schedule.
 use Rattle.std.specs.Prelude.{◌≡◌, ◌⊎◌, ℕ, Bool, IsTrue, false, IsFalse, Some, None, List, [], ◌++◌, length}
-use Rattle.std.specs.Prelude.{map}
+use Rattle.std.specs.Prelude.{IfSome, map}
 use Rattle.std.specs.Io.KnownBytes.{Appends}
-use Rattle.crossbeam_channel.specs.Claims.{view, IsSeatAt}
+use Rattle.crossbeam_channel.specs.Claims.{Pass, view, IsSeatAt}
 use Rattle.crossbeam_channel.specs.Ends.{sends_on, receives_on, ruled_capacity}
 use Rattle.tn_client.specs.Replies.{items_said}
 use Rattle.tn_client.specs.Screen.{text_shown}
@@ -20,6 +20,7 @@ use Rattle.tn_machines.specs.declared.client.messages.Origin.TheVariants as orig
 use Rattle.tn_machines.specs.declared.client.messages.Told.{Told}
 use Rattle.tn_machines.specs.declared.client.progress.ClientProgress.{ClientProgress}
 use Rattle.tn_nvt.specs.Spelling.{spells}
+use Rattle.tn_queue.specs.Queue.{putter}
 use Rattle.tn_session.specs.CoreTurns as turns
 use Rattle.tn_session.specs.CoreTurns.{all_told, origin_of}
 use Rattle.tn_session.specs.Notes.{Note, notes, no_notes}
@@ -27,15 +28,18 @@ use Rattle.tn_session.specs.Facts.{ClientResult, Window}
 use Rattle.tn_session.specs.Mailbox.{Interleaves, four, sender}
 use Rattle.tn_session.specs.Reader.{ReaderSends}
 use Rattle.tn_session.specs.Reading.{max_reads, pieces_in, controls_in}
-use Rattle.tn_session.specs.Stops.{IsTold, LeavesAt, core_stops}
+use Rattle.tn_session.specs.Stops.{AreNewStops, IsTold, LeavesAt, core_stops}
 use Rattle.tn_session.specs.Transcripts.{Exchange, ReadsPrefix, Transcribes, all_read, all_wrote, came_by}
 use Rattle.tn_session.specs.Transcripts.{exchange_of}
 use Rattle.tn_streams.specs.Writing.{Tells, max_writes}
 use Rattle.tn_session.specs.declared.channels.View.{View}
+use Rattle.tn_session.specs.declared.client.CoreEnds.{CoreEnds}
 use Rattle.tn_session.specs.declared.client.Mailbox.{Mailbox}
 use Rattle.tn_session.specs.declared.mail.Mail.{Mail}
 use Rattle.tn_session.specs.declared.mail.Sender.TheVariants.{Net, Keys}
 use Rattle.tn_session.specs.declared.parties.Report.{Report}
+use Rattle.tn_session.specs.declared.stops.StopTeller.{StopTeller}
+use Rattle.tn_session.specs.declared.threads.ReaderSays.{ReaderSays}
 use Rattle.tn_streams.specs.Foretelling.{WillFail}
 use Rattle.tn_streams.specs.Beside.{TellsFirst}
 use Rattle.tn_streams.specs.Known.{KnownReader, KnownTyping, KnownWriting}
@@ -60,6 +64,24 @@ pub record IsReadyForTwo (m : Mailbox) : Type 0 where
   pub pass_is : view m.pass ≡ core_view []
   pub net_is : view m.net.pass ≡ sender Net []
   pub keys_is : view m.keys.pass ≡ sender Keys []
+
+-- The core has handled nothing and told nobody to stop, and two threads promise this: they send to its mailbox
+-- as Net and as Keys, and only Keys may be told to stop.
+pub record StandsBeside {N K : Type 0} (ends : CoreEnds) (pass : Pass Mail View) (teller : StopTeller)
+    (net : ReaderSays N) (keys : ReaderSays K) : Type 0 where
+  pub one_mailbox : receives_on ends.from ≡ sends_on ends.to
+  pub pass_at : IsSeatAt (sends_on ends.to) pass
+  pub pass_is : view pass ≡ core_view []
+  pub net_to : sends_on net.to.value ≡ sends_on ends.to
+  pub net_who : net.who ≡ Net
+  pub net_job : net.job ≡ None
+  pub net_stays : net.stops.value ≡ None
+  pub keys_to : sends_on keys.to.value ≡ sends_on ends.to
+  pub keys_who : keys.who ≡ Keys
+  pub keys_job : keys.job ≡ None
+  pub keys_stop : IfSome keys.stops.value (λ seat. AreNewStops teller seat)
+  pub teller_at : IsSeatAt (sends_on teller.to) teller.pass
+  pub teller_is : view teller.pass ≡ putter []
 
 -- whatever the lists are: they are those of the new passes too, and what was handled begins an interleaving
 -- of what was sent

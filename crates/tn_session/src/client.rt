@@ -1,13 +1,12 @@
 //! A running client session, from its first key to its report.
 
-ghost use Rattle.std.specs.Prelude.{◌≡◌, [], None, IfOk, IfErr, IfSome};
+ghost use Rattle.std.specs.Prelude.{◌≡◌, IfOk, IfErr, IfSome};
 ghost use Rattle.crossbeam_channel.specs.Claims.{view, IsSeatAt};
-ghost use Rattle.crossbeam_channel.specs.Ends.{sends_on, receives_on};
-ghost use Rattle.tn_session.specs.Client.{core_view, IsReadyForTwo, AreTwoSettled, IsClientRun};
+ghost use Rattle.crossbeam_channel.specs.Ends.{sends_on};
+ghost use Rattle.tn_session.specs.Client.{IsReadyForTwo, StandsBeside, AreTwoSettled, IsClientRun};
 ghost use Rattle.tn_session.specs.Client.{RunningClient, client_report};
-ghost use Rattle.tn_queue.specs.Queue.{putter};
 ghost use Rattle.tn_session.specs.Facts.{client_result};
-ghost use Rattle.tn_session.specs.Session.{IsRefusal, IsOfThreads};
+ghost use Rattle.tn_session.specs.Session.{IsRefusal};
 ghost use Rattle.tn_session.specs.Stops.{AreNewStops};
 ghost use Rattle.tn_streams.specs.Known.{known_reader, known_typing, known_writing};
 ghost use Rattle.tn_streams.specs.Sending.{IsFinished};
@@ -149,18 +148,85 @@ fn report(progress: ClientProgress) -> Report
     }
 }
 
-// Runs this thread as the core's, beside those that were started. On each path out of it they have been
-// joined. It takes nine, since what is lent and what is given here go together nowhere else.
-fn run_beside<R, N, K, W, S, G>(
-    rt: &R,
-    alloc: Global,
+// What this thread goes on with as the core's: the threads that were started, its side of the mailbox, and
+// who watches it.
+struct Beside<N: Source, K: Source, G> {
     started: ClientStarted<N, K>,
     ends: CoreEnds,
     pass: MailPass,
+    watched: Watched<G>,
+}
+
+// Starts the threads that read. Where one can't be started no more goes to the network, and then the other
+// has been joined: it may wait for what the server says to that.
+fn start_readers<R, N, K, W, G>(
+    rt: R,
+    alloc: Global,
+    readers: Readers<N, K>,
+    outfit: Outfit<G>,
+    writer: &mut W,
+) -> Option<Beside<N, K, G>>
+where
+    R: Threads + Wait + Copy + Send + 'static,
+    N: Source + Drop + Send + 'static,
+    K: Source + Drop + Send + 'static,
+    W: Finish,
+    G: Gate + Drop + Send + Sync + 'static,
+    requires mailbox { IsReadyForTwo outfit.mailbox }
+    requires stops { AreNewStops outfit.watched.stops outfit.stops }
+    ensures stands { IfSome result (λ beside.
+        StandsBeside beside.ends beside.pass beside.watched.stops beside.started.net.promise
+        beside.started.keys.promise) }
+    ensures net { IfSome result (λ beside. beside.started.net.promise.reader.value ≡ readers.net) }
+    ensures keys { IfSome result (λ beside. beside.started.keys.promise.reader.value ≡ readers.keys) }
+    ensures unwritten { IfSome result (λ _. writer.new ≡ writer.old) }
+{
+    let Mailbox {
+        ends,
+        pass,
+        net,
+        keys,
+    } = outfit.mailbox;
+    let part = ReaderPart {
+        who: Sender::Net,
+        job: None,
+        place: Place::NetPiece,
+        gate: outfit.net_gate,
+    };
+    let Some(net) = start_reader(rt, alloc, net, readers.net, part, None, None) else {
+        writer.finish();
+        return None;
+    };
+    let part = ReaderPart {
+        who: Sender::Keys,
+        job: None,
+        place: Place::KeysPiece,
+        gate: outfit.keys_gate,
+    };
+    let stops = Some(outfit.stops);
+    let Some(keys) = start_reader(rt, alloc, keys, readers.keys, part, None, stops) else {
+        writer.finish();
+        drop(ends);
+        net.join(&rt);
+        return None;
+    };
+    Some(Beside {
+        started: ClientStarted { net, keys },
+        ends,
+        pass,
+        watched: outfit.watched,
+    })
+}
+
+// Runs this thread as the core's, beside those that were started. On each path out of it they have been
+// joined.
+fn run_beside<R, N, K, W, S, G>(
+    rt: &R,
+    alloc: Global,
+    beside: Beside<N, K, G>,
     core: &mut Core,
     writer: &mut W,
     screen: &mut S,
-    mut watched: Watched<G>,
 ) -> Result<(Report, ClientPorts), SessionFault>
 where
     R: Threads + Wait,
@@ -169,25 +235,24 @@ where
     W: Finish,
     S: Drain,
     G: Gate + Drop,
-    requires mailbox { (receives_on ends.from ≡ sends_on ends.to) × IsSeatAt (sends_on ends.to) pass ×
-        (view pass ≡ core_view []) }
-    requires net { (sends_on started.net.promise.to.value ≡ sends_on ends.to) ×
-        (started.net.promise.who ≡ Sender.Net) × (started.net.promise.stops.value ≡ None) ×
-        (started.net.promise.job ≡ None) }
-    requires keys { (sends_on started.keys.promise.to.value ≡ sends_on ends.to) ×
-        (started.keys.promise.who ≡ Sender.Keys) × (started.keys.promise.job ≡ None) }
-    requires stops { IfSome started.keys.promise.stops.value (λ seat. AreNewStops watched.stops seat) }
-    requires teller { IsSeatAt (sends_on watched.stops.to) watched.stops.pass ×
-        (view watched.stops.pass ≡ putter []) }
+    requires stands { StandsBeside beside.ends beside.pass beside.watched.stops beside.started.net.promise
+        beside.started.keys.promise }
     ensures fault { IfErr result (λ fault. fault ≡ SessionFault.Channel) }
     ensures ran { IfOk result (λ r.
         IsClientRun core.old
-        (known_typing K.remaining K.foretold K.sizes K.words K.controls started.keys.promise.reader.value)
-        (known_reader N.remaining N.foretold N.sizes N.words started.net.promise.reader.value)
+        (known_typing K.remaining K.foretold K.sizes K.words K.controls
+        beside.started.keys.promise.reader.value)
+        (known_reader N.remaining N.foretold N.sizes N.words beside.started.net.promise.reader.value)
         (known_writing W.contents W.told writer.old writer.new)
         (known_writing S.contents S.told screen.old screen.new) (client_result r.0 r.1)) }
     ensures finished { IfOk result (λ r. IsFinished (W.sending writer.old) (W.sending writer.new)) }
 {
+    let Beside {
+        started,
+        ends,
+        pass,
+        mut watched,
+    } = beside;
     let Some((pass, transcript)) = run_core(
         rt,
         alloc,
@@ -211,77 +276,6 @@ where
     let told = watched.stops.settle(stops);
     let ports = settle(&ends.to, pass, net, keys, told, transcript);
     Ok((report(core.progress()), ports))
-}
-
-// Starts the threads, and runs this one as the core's. On each path out of it every thread that was started
-// has been joined.
-fn run<R, N, K, W, S, G>(
-    rt: R,
-    alloc: Global,
-    readers: Readers<N, K>,
-    writer: &mut W,
-    screen: &mut S,
-    core: &mut Core,
-    outfit: Outfit<G>,
-) -> Result<(Report, ClientPorts), SessionFault>
-where
-    R: Threads + Wait + Copy + Send + 'static,
-    N: Source + Drop + Send + 'static,
-    K: Source + Drop + Send + 'static,
-    W: Finish,
-    S: Drain,
-    G: Gate + Drop + Send + Sync + 'static,
-    requires mailbox { IsReadyForTwo outfit.mailbox }
-    requires stops { AreNewStops outfit.watched.stops outfit.stops }
-    ensures fault { IfErr result IsOfThreads }
-    ensures ran { IfOk result (λ r.
-        IsClientRun core.old (known_typing K.remaining K.foretold K.sizes K.words K.controls readers.keys)
-        (known_reader N.remaining N.foretold N.sizes N.words readers.net)
-        (known_writing W.contents W.told writer.old writer.new)
-        (known_writing S.contents S.told screen.old screen.new) (client_result r.0 r.1)) }
-    ensures finished { IfOk result (λ r. IsFinished (W.sending writer.old) (W.sending writer.new)) }
-{
-    let Mailbox {
-        ends,
-        pass,
-        net,
-        keys,
-    } = outfit.mailbox;
-    let part = ReaderPart {
-        who: Sender::Net,
-        job: None,
-        place: Place::NetPiece,
-        gate: outfit.net_gate,
-    };
-    let Some(net) = start_reader(rt, alloc, net, readers.net, part, None, None) else {
-        writer.finish();
-        return Err(SessionFault::Start);
-    };
-    let part = ReaderPart {
-        who: Sender::Keys,
-        job: None,
-        place: Place::KeysPiece,
-        gate: outfit.keys_gate,
-    };
-    let stops = Some(outfit.stops);
-    let Some(keys) = start_reader(rt, alloc, keys, readers.keys, part, None, stops) else {
-        writer.finish();
-        drop(ends);
-        net.join(&rt);
-        return Err(SessionFault::Start);
-    };
-    let started = ClientStarted { net, keys };
-    run_beside(
-        &rt,
-        alloc,
-        started,
-        ends,
-        pass,
-        core,
-        writer,
-        screen,
-        outfit.watched,
-    )
 }
 
 /// Runs a client's session over a connection: its reader and its writer, the user's keys and screen, and a
@@ -325,5 +319,8 @@ where
         net: net_reader,
         keys: keys_reader,
     };
-    run(rt, alloc, readers, net_writer, screen, &mut core, outfit)
+    let Some(beside) = start_readers(rt, alloc, readers, outfit, net_writer) else {
+        return Err(SessionFault::Start);
+    };
+    run_beside(&rt, alloc, beside, &mut core, net_writer, screen)
 }

@@ -14,8 +14,9 @@ use Rattle.tn_session.proofs.client.run_beside.Goals as goal
 
 pub returns-clause-ran : goal.returns-clause-ran
 returns-clause-ran g c =
+    let stands = c.requires.stands in
     let ports = c.settle-ports.result in
-    let started = c.args.started in
+    let started = c.args.beside.started in
     let join = c.in-Some-join in
     let returned = join.returned in
     let ended = c.in-Some in
@@ -27,16 +28,16 @@ returns-clause-ran g c =
     let writer = known_writing g.W.Drain.contents g.W.Drain.told c.args.writer.now c.run_core.new.writer in
     let screen = known_writing g.S.Drain.contents g.S.Drain.told c.args.screen.now c.run_core.new.screen in
     let same = ap (λ p. view p) c.settle-ports.ensures.told ∙ c.settle-told.ensures.same in
-    client_ran c.args.core.now c.run_core.new.core (has_stopped returned.keys.stops) keys_reader net_reader writer screen (view c.args.pass) (view ended.pass)
+    client_ran c.args.core.now c.run_core.new.core (has_stopped returned.keys.stops) keys_reader net_reader writer screen (view c.args.beside.pass) (view ended.pass)
     (view returned.net) (view returned.keys.pass) (client_result c.report.result ports)
-    c.requires.mailbox.2 (subst (λ n. CoreHandles c.args.core.now (view c.args.pass) (view ended.pass) writer screen n (view ports.told) c.run_core.new.core)
+    stands.pass_is (subst (λ n. CoreHandles c.args.core.now (view c.args.beside.pass) (view ended.pass) writer screen n (view ports.told) c.run_core.new.core)
     (sym (ap noted_of c.settle-ports.ensures.transcript)) (subst
-    (λ v. CoreHandles c.args.core.now (view c.args.pass) (view ended.pass) writer screen (noted_of ended.transcript) v c.run_core.new.core)
+    (λ v. CoreHandles c.args.core.now (view c.args.beside.pass) (view ended.pass) writer screen (noted_of ended.transcript) v c.run_core.new.core)
     (sym same) ended.ensures.acted))
-    (sends_as started.net.promise.who Net started.net.promise.job None false net_typing (view returned.net) c.requires.net.1 c.requires.net.3
-    (join.ensures.net.1 c.requires.net.2)).0
+    (sends_as started.net.promise.who Net started.net.promise.job None false net_typing (view returned.net) stands.net_who stands.net_job
+    (join.ensures.net.1 stands.net_stays)).0
     (sends_as started.keys.promise.who Keys started.keys.promise.job None (has_stopped returned.keys.stops) keys_reader (view returned.keys.pass)
-    c.requires.keys.1 c.requires.keys.2 join.ensures.keys.1)
+    stands.keys_who stands.keys_job join.ensures.keys.1)
     (λ on none. c.settle-told.ensures.told on (sym same ∙ none))
     c.settle-ports.ensures.settled (c.report.ensures ∙ ap client_report c.progress.ensures)
 
@@ -46,6 +47,6 @@ settle-told-requires g c =
     record {
       teller = ended.1;
       told = told_words c.in-Some.ensures.acted.told (view c.run_core.new.watched.stops.pass) c.in-Some.ensures.acted.word;
-      seat = seat_at c.args.started.keys.promise.stops.value c.in-Some-join.returned.keys.stops c.args.watched.stops c.run_core.new.watched.stops
-          c.in-Some-join.ensures.stays c.requires.stops ended.0;
+      seat = seat_at c.args.beside.started.keys.promise.stops.value c.in-Some-join.returned.keys.stops c.args.beside.watched.stops c.run_core.new.watched.stops
+          c.in-Some-join.ensures.stays c.requires.stands.keys_stop ended.0;
     }
