@@ -1,69 +1,135 @@
 -- A refusal has the code of its cause.
-use Rattle.std.proofs.Common.{◌≡◌, ◌≢◌, ◌⊎◌, inl, inr, ℕ, Bool, true, false, Option, Some, None, List, refl, sym, ap, subst, ◌∙◌, if◌then◌else◌}
+use Rattle.std.proofs.Common.{◌≡◌, ◌≢◌, ◌⊎◌, inl, inr, ℕ, Bool, true, false, Option, Some, None, Result, Ok, Err, OnOk, OnErr, IsErrOf, List, refl, sym, ap}
+use Rattle.std.proofs.Common.{subst, ◌∙◌, if◌then◌else◌}
 use Rattle.std.specs.Prelude.{option_map}
 use Rattle.tn_codes.specs.declared.masks.Mask.{Mask}
 use Rattle.tn_discipline.specs.declared.characters.CharFault.{CharFault}
+use Rattle.tn_discipline.specs.declared.characters.CharFault.TheVariants as char
 use Rattle.tn_pty.specs.declared.pty.PtyFault.{PtyFault}
 use Rattle.tn_server.specs.Faults as server
 use Rattle.tn_server.specs.declared.faults.ServerFault.{ServerFault}
 use Rattle.tn_server.specs.declared.faults.ServerFault.TheVariants as fault
 use Rattle.tn_client.specs.Answering as answers
 use Rattle.tn_client.specs.Calls as client
-use Rattle.tn_client.specs.Calls.{LacksMemoryFor, call_fault}
+use Rattle.tn_client.specs.Calls.{call_fault}
+use Rattle.tn_client.specs.Events.{Event, typed}
 use Rattle.tn_client.specs.declared.commands.UserCommand.{UserCommand}
 use Rattle.tn_client.specs.declared.faults.ClientFault.{ClientFault}
-use Rattle.tn_c_parts.specs.ClientCalls.{KeyCall}
+use Rattle.tn_client.specs.declared.faults.ClientFault.TheVariants as client_fault
+use Rattle.tn_c_parts.specs.ClientCalls.{Acts}
 use Rattle.tn_c_parts.specs.ServerCalls.{SetMaskCall}
 use Rattle.tn_c_parts.specs.declared.client.HeldClient.{HeldClient}
 use Rattle.tn_c_parts.specs.declared.codes.Code.{Code}
 use Rattle.tn_c_parts.specs.declared.codes.Code.TheVariants as code
 use Rattle.tn_c_parts.specs.declared.server.HeldServer.{HeldServer}
-use Rattle.tn_c_parts.specs.Faults.{server_code, server_refusal, client_code, client_refusal}
+use Rattle.tn_c_parts.specs.Faults.{server_code, server_refusal, client_code, client_answer, client_refusal}
 
 pub server_told : (cause : Option ServerFault) (f g : ServerFault) → f ≡ g → server.IsFault cause f → server_code g ≡ server_refusal cause
 server_told None f g e h = ap server_code (sym e ∙ h)
 server_told (Some cause) f g e h = ap server_code (sym e ∙ h)
 
-pub client_told : (cause : Option ClientFault) (f g : ClientFault) → f ≡ g → client.IsFault cause f → client_code g ≡ client_refusal cause
-client_told None f g e h = ap client_code (sym e ∙ h)
-client_told (Some cause) f g e h = ap client_code (sym e ∙ h)
+client_told : (cause : Option ClientFault) (f : ClientFault) → client.IsFault cause f → client_code f ≡ client_refusal cause
+client_told None f is = ap client_code is
+client_told (Some cause) f is = ap client_code is
 
--- a key was typed
-pub key_done : (key : ℕ) (before after : HeldClient) → call_fault before.end ≡ None
-    → answers.TypesKey before.end key before.pending.items after.pending.items before.shown.items after.shown.items after.end
-    → KeyCall key code.Done before after
-key_done key before after accepted types = record {
-  acts = record {
-    goes = λ _. types.goes;
-    sends = λ _. types.sends;
-    keeps = types.keeps;
-    accepted = λ _. accepted;
-    refused = inl refl;
-    err = λ refused. absurd (refused refl);
-  };
-  shows = λ _. types.shows;
-  memory = λ e. absurd (done_not_memory e);
-}
-  where
-    done_not_memory : code.Done ≡ code.Memory → ⊥
-    done_not_memory e = cc
+-- a refusal has a code of its own
+never_done : (f : ClientFault) → client_code f ≡ code.Done → ⊥
+never_done client_fault.Memory e = cc
+never_done client_fault.Failed e = cc
+never_done client_fault.NotOn e = cc
+never_done (client_fault.Char char.NotSettable) e = cc
+never_done (client_fault.Char char.Reserved) e = cc
+never_done (client_fault.Char char.Taken) e = cc
 
--- or it was refused, and not typed
-pub key_refused : (key : ℕ) (answer : Code) (before after : HeldClient) → answer ≢ code.Done → answer ≡ client_refusal (call_fault before.end)
-    → answers.Untouched before.end before.pending.items after.pending.items before.shown.items after.shown.items after.end
-    → (answer ≡ code.Memory → LacksMemoryFor before.end key before.pending before.shown) → KeyCall key answer before after
-key_refused key answer before after refused told same memory = record {
-  acts = record {
-    goes = λ done. absurd (refused done);
-    sends = λ done. absurd (refused done);
-    keeps = record { decoder = ap (λ (e : client.End). e.decoder) same.end; failed = ap (λ (e : client.End). e.failed) same.end };
-    accepted = λ done. absurd (refused done);
-    refused = inr told;
-    err = λ _. record { end = same.end; pending = same.out; shown = same.screen };
-  };
-  shows = λ done. absurd (refused done);
-  memory = memory;
-}
+-- the fault that has this code
+abbrev fault_of : Code → ClientFault
+fault_of code.Failed = client_fault.Failed
+fault_of code.NotOn = client_fault.NotOn
+fault_of code.NotSettable = client_fault.Char char.NotSettable
+fault_of code.Reserved = client_fault.Char char.Reserved
+fault_of code.Taken = client_fault.Char char.Taken
+fault_of _ = client_fault.Memory
+
+fault_of-code : (f : ClientFault) → fault_of (client_code f) ≡ f
+fault_of-code client_fault.Memory = refl
+fault_of-code client_fault.Failed = refl
+fault_of-code client_fault.NotOn = refl
+fault_of-code (client_fault.Char char.NotSettable) = refl
+fault_of-code (client_fault.Char char.Reserved) = refl
+fault_of-code (client_fault.Char char.Taken) = refl
+
+pub never_unknown : {T : Type 0} (r : Result T ClientFault) (answer : Code) → answer ≡ client_answer r → (answer ≢ code.NoFunction) × (answer ≢ code.NoCommand)
+never_unknown (Ok x) answer is = (λ e. cc, λ e. cc)
+never_unknown (Err client_fault.Memory) answer is = (λ e. cc, λ e. cc)
+never_unknown (Err client_fault.Failed) answer is = (λ e. cc, λ e. cc)
+never_unknown (Err client_fault.NotOn) answer is = (λ e. cc, λ e. cc)
+never_unknown (Err (client_fault.Char char.NotSettable)) answer is = (λ e. cc, λ e. cc)
+never_unknown (Err (client_fault.Char char.Reserved)) answer is = (λ e. cc, λ e. cc)
+never_unknown (Err (client_fault.Char char.Taken)) answer is = (λ e. cc, λ e. cc)
+
+-- what is known of a call by what it answered, is known by its code
+pub when_done : {T P : Type 0} (r : Result T ClientFault) (answer : Code) → answer ≡ client_answer r → OnOk r P → answer ≡ code.Done → P
+when_done (Ok x) answer is p done = p
+when_done (Err f) answer is p done = absurd (never_done f (sym is ∙ done))
+
+pub unless_done : {T P : Type 0} (r : Result T ClientFault) (answer : Code) → answer ≡ client_answer r → OnErr r P → answer ≢ code.Done → P
+unless_done (Ok x) answer is p refused = absurd (refused is)
+unless_done (Err f) answer is p refused = p
+
+pub for_fault : {T P : Type 0} (fault : ClientFault) (r : Result T ClientFault) (answer : Code) → answer ≡ client_answer r → (IsErrOf r fault → P)
+    → answer ≡ client_code fault → P
+for_fault fault (Ok x) answer is p e = absurd (never_done fault (sym e ∙ is))
+for_fault fault (Err f) answer is p e = p (ap Err (sym (fault_of-code f) ∙ ap fault_of (sym is ∙ e) ∙ fault_of-code fault))
+
+-- it was done, or refused for its cause
+pub as_caused : {T : Type 0} (cause : Option ClientFault) (r : Result T ClientFault) (answer : Code) → answer ≡ client_answer r → answers.AnswersBy cause r
+    → (answer ≡ code.Done → cause ≡ None) × ((answer ≡ code.Done) ⊎ (answer ≡ client_refusal cause))
+as_caused cause (Ok x) answer is caused = (λ _. caused, inl is)
+as_caused cause (Err f) answer is caused = (λ done. absurd (never_done f (sym is ∙ done)), inr (is ∙ client_told cause f caused))
+
+keeps_by : {T : Type 0} (e : Event) (r : Result T ClientFault) (old new : client.End) (before after : List ℕ)
+    → OnOk r (answers.Says old e before after new) → OnErr r (answers.SaysNothing old before after new) → client.ReadsNothing old new
+keeps_by e (Ok x) old new before after says same = says.keeps
+keeps_by e (Err f) old new before after says same =
+    record { decoder = ap (λ (end : client.End). end.decoder) same.end; failed = ap (λ (end : client.End). end.failed) same.end }
+
+-- a call of the owner
+pub call_acts : {T : Type 0} (e : Event) (cause : client.End → Option ClientFault) (r : Result T ClientFault) (answer : Code) (before after : HeldClient)
+    → answer ≡ client_answer r → OnOk r (answers.Says before.end e before.pending.items after.pending.items after.end) → answers.AnswersBy (cause before.end) r
+    → OnErr r (answers.SaysNothing before.end before.pending.items after.pending.items after.end)
+    → (answer ≢ code.Done → after.shown.items ≡ before.shown.items) → Acts e cause answer before after
+call_acts e cause r answer before after is ok caused err shown =
+    let by = as_caused (cause before.end) r answer is caused in
+    record {
+      goes = λ done. (when_done r answer is ok done).goes;
+      sends = λ done. (when_done r answer is ok done).sends;
+      keeps = keeps_by e r before.end after.end before.pending.items after.pending.items ok err;
+      accepted = by.0;
+      refused = by.1;
+      err = λ refused. let same = unless_done r answer is err refused in record { end = same.end; pending = same.out; shown = shown refused };
+    }
+
+-- a key says and shows
+key_says : {T : Type 0} (key : ℕ) (r : Result T ClientFault) (old new : client.End) (before after seen now : List ℕ)
+    → OnOk r (answers.TypesKey old key before after seen now new) → OnOk r (answers.Says old (typed key) before after new)
+key_says key (Ok x) old new before after seen now types = record { goes = types.goes; sends = types.sends; keeps = types.keeps }
+key_says key (Err f) old new before after seen now types = tt
+
+key_says_nothing : {T : Type 0} (r : Result T ClientFault) (old new : client.End) (before after seen now : List ℕ)
+    → OnErr r (answers.Untouched old before after seen now new) → OnErr r (answers.SaysNothing old before after new)
+key_says_nothing (Ok x) old new before after seen now same = tt
+key_says_nothing (Err f) old new before after seen now same = record { end = same.end; out = same.out }
+
+pub key_acts : {T : Type 0} (key : ℕ) (r : Result T ClientFault) (answer : Code) (before after : HeldClient) → answer ≡ client_answer r
+    → OnOk r (answers.TypesKey before.end key before.pending.items after.pending.items before.shown.items after.shown.items after.end)
+    → answers.AnswersBy (call_fault before.end) r
+    → OnErr r (answers.Untouched before.end before.pending.items after.pending.items before.shown.items after.shown.items after.end)
+    → Acts (typed key) call_fault answer before after
+key_acts key r answer before after is ok caused err =
+    call_acts (typed key) call_fault r answer before after is
+    (key_says key r before.end after.end before.pending.items after.pending.items before.shown.items after.shown.items ok) caused
+    (key_says_nothing r before.end after.end before.pending.items after.pending.items before.shown.items after.shown.items err)
+    (λ refused. (unless_done r answer is err refused).screen)
 
 -- no character is refused by the pair
 pub never_pty : (failed : Bool) (o : Option CharFault) (f : ServerFault) (p : PtyFault) → f ≡ fault.Pty p

@@ -1,5 +1,5 @@
 -- The codes of refusals.
-use Rattle.std.specs.Prelude.{Option, Some, None}
+use Rattle.std.specs.Prelude.{Option, Some, None, Result, Ok, Err}
 use Rattle.tn_discipline.specs.declared.characters.CharFault.{CharFault}
 use Rattle.tn_discipline.specs.declared.characters.CharFault.TheVariants as char
 use Rattle.tn_pty.specs.declared.pty.PtyFault.{PtyFault}
@@ -38,6 +38,11 @@ client_code client.Memory = code.Memory
 client_code client.Failed = code.Failed
 client_code client.NotOn = code.NotOn
 client_code (client.Char fault) = char_code fault
+
+-- what a call of a client end answers
+abbrev pub client_answer : {T : Type 0} → Result T ClientFault → Code
+client_answer (Ok x) = code.Done
+client_answer (Err fault) = client_code fault
 
 -- a call that is not refused for such a cause is refused only when out of memory
 abbrev pub server_refusal : Option ServerFault → Code

@@ -6,6 +6,7 @@ ghost use Rattle.tn_c_parts.specs.Calling.{OfFunction, GivesChar};
 ghost use Rattle.tn_c_parts.specs.ClientCalls.{KeyCall, FeedCall, ResizeCall, ProposeCall, SendCall};
 ghost use Rattle.tn_c_parts.specs.ClientCalls.{SendNumberCall, ReadCall, ScreenCall, GivesHalf, GivesCounts};
 ghost use Rattle.tn_c_parts.specs.ClientCalls.{GivesOption, IsClientChar, IsOpened};
+ghost use Rattle.tn_c_parts.specs.Faults.{client_answer};
 ghost use Rattle.tn_c_parts.specs.Readings.{char_given};
 ghost use Rattle.tn_c_parts.specs.declared.codes.Code.TheVariants as code;
 
@@ -17,19 +18,19 @@ use tn_client::{ClientEnd, ClientFault, UserCommand};
 use tn_codes::Func;
 use tn_discipline::{CharFault, Limit};
 
-/// The code of what a call of the end answered.
-macro_rules! code_of {
-    ($answer:expr) => {
-        match $answer {
-            Ok(()) => Code::Done,
-            Err(ClientFault::Memory) => Code::Memory,
-            Err(ClientFault::Failed) => Code::Failed,
-            Err(ClientFault::NotOn) => Code::NotOn,
-            Err(ClientFault::Char(CharFault::NotSettable)) => Code::NotSettable,
-            Err(ClientFault::Char(CharFault::Reserved)) => Code::Reserved,
-            Err(ClientFault::Char(CharFault::Taken)) => Code::Taken,
-        }
-    };
+// The code of what a call of the end answered.
+fn code_of(answer: Result<(), ClientFault>) -> Code
+    ensures { result ≡ client_answer answer }
+{
+    match answer {
+        Ok(()) => Code::Done,
+        Err(ClientFault::Memory) => Code::Memory,
+        Err(ClientFault::Failed) => Code::Failed,
+        Err(ClientFault::NotOn) => Code::NotOn,
+        Err(ClientFault::Char(CharFault::NotSettable)) => Code::NotSettable,
+        Err(ClientFault::Char(CharFault::Reserved)) => Code::Reserved,
+        Err(ClientFault::Char(CharFault::Taken)) => Code::Taken,
+    }
 }
 
 /// A client end, what it has to send, and what it has to show.
@@ -62,21 +63,21 @@ impl HeldClient {
     pub fn key(&mut self, key: u8) -> Code
         ensures { KeyCall key result self.old self.new }
     {
-        code_of!(self.end.key(key, &mut self.pending, &mut self.shown))
+        code_of(self.end.key(key, &mut self.pending, &mut self.shown))
     }
 
     /// Takes bytes that came from the server, cut anywhere: answers are to be sent, text is to be shown.
     pub fn feed(&mut self, piece: &[u8]) -> Code
         ensures { FeedCall piece.now result self.old self.new }
     {
-        code_of!(self.end.feed(piece, &mut self.pending, &mut self.shown))
+        code_of(self.end.feed(piece, &mut self.pending, &mut self.shown))
     }
 
     /// Takes a new size of the window, which is to be sent where NAWS is on and it changed.
     pub fn resize(&mut self, width: u16, height: u16) -> Code
         ensures { ResizeCall width height result self.old self.new }
     {
-        code_of!(self.end.resize(width, height, &mut self.pending))
+        code_of(self.end.resize(width, height, &mut self.pending))
     }
 
     /// Proposes a special character to the server, or none.
@@ -84,7 +85,7 @@ impl HeldClient {
         ensures call { ProposeCall value func result self.old self.new }
         ensures known { result ≢ code.NoFunction }
     {
-        code_of!(self.end.propose(func, value, &mut self.pending))
+        code_of(self.end.propose(func, value, &mut self.pending))
     }
 
     /// Proposes a special character for the function with this number, as C gives both.
@@ -102,7 +103,7 @@ impl HeldClient {
         ensures call { SendCall command result self.old self.new }
         ensures known { result ≢ code.NoCommand }
     {
-        code_of!(self.end.send(command, &mut self.pending))
+        code_of(self.end.send(command, &mut self.pending))
     }
 
     /// Sends the command with this number, as C gives it.

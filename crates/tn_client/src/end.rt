@@ -12,9 +12,9 @@ ghost use Rattle.tn_client.specs.Events.{History, begun, next, resized, proposed
 ghost use Rattle.tn_client.specs.Terms.{options, mode, chars};
 ghost use Rattle.tn_client.specs.Lines.{held_bytes, ahead, count_under};
 ghost use Rattle.tn_client.specs.Replies.{replies, size_items};
-ghost use Rattle.tn_client.specs.Answering.{AnswersBy, TypesKey, Untouched};
-ghost use Rattle.tn_client.specs.Calls.{LeadsTo, Advances, Sends, ReadsNothing, Feeds, StopsWithin};
-ghost use Rattle.tn_client.specs.Calls.{LacksRoomFor, LacksMemoryFor, call_fault, propose_fault, IsFault};
+ghost use Rattle.tn_client.specs.Answering.{AnswersBy, TypesKey, Says, SaysNothing, Untouched};
+ghost use Rattle.tn_client.specs.Calls.{LeadsTo, Feeds, StopsWithin, LacksRoomFor, LacksMemoryFor, call_fault};
+ghost use Rattle.tn_client.specs.Calls.{propose_fault};
 ghost use Rattle.tn_client.specs.Steps.{end_after_resize, says_resize};
 
 use crate::commands::UserCommand;
@@ -164,20 +164,16 @@ impl ClientEnd {
         out: &mut Vec<u8>,
         screen: &mut Vec<u8>,
     ) -> Result<(), ClientFault>
-        ensures feeds { OnOk result (Feeds self.old piece.now
+        ensures ok { OnOk result (Feeds self.old piece.now
             out.old.items out.new.items screen.old.items screen.new.items self.new) }
-
-        ensures accepted { OnOk result (call_fault self.old ≡ None) }
-        ensures fault { IfErr result (IsFault (call_fault self.old)) }
+        ensures failed { AnswersBy (call_fault self.old) result }
 
         // Some items were done, and it is said why no more were.
         ensures memory { IsErrOf result ClientFault.Memory → StopsWithin self.old piece.now
             out.old.items out.new.items screen.old.items screen.new.items }
         ensures err { OnErr result (IsTrue self.new.failed) }
-
-        ensures failed { IsErrOf result ClientFault.Failed → self.new ≡ self.old }
-        ensures failed_out { IsErrOf result ClientFault.Failed → out.new.items ≡ out.old.items }
-        ensures failed_screen { IsErrOf result ClientFault.Failed → screen.new.items ≡ screen.old.items }
+        ensures again { IsErrOf result ClientFault.Failed → Untouched self.old
+            out.old.items out.new.items screen.old.items screen.new.items self.new }
     {
         if self.failed {
             return Err(ClientFault::Failed);
@@ -201,16 +197,11 @@ impl ClientEnd {
 
     /// Takes a new size of the window, in characters, and tells it where NAWS is on and it changed.
     pub fn resize(&mut self, width: u16, height: u16, out: &mut Vec<u8>) -> Result<(), ClientFault>
-        ensures goes { OnOk result (Advances self.old (resized width height) self.new) }
-        ensures sends { OnOk result (Sends self.old (resized width height) out.old.items out.new.items) }
-        ensures keeps { OnOk result (ReadsNothing self.old self.new) }
-
-        ensures accepted { OnOk result (call_fault self.old ≡ None) }
-        ensures fault { IfErr result (IsFault (call_fault self.old)) }
-        ensures err { OnErr result (self.new ≡ self.old) }
-        ensures err_out { OnErr result (out.new.items ≡ out.old.items) }
+        ensures ok { OnOk result (Says self.old (resized width height) out.old.items out.new.items self.new) }
+        ensures failed { AnswersBy (call_fault self.old) result }
         ensures memory { IsErrOf result ClientFault.Memory →
             LacksRoomFor self.old (resized width height) out.old }
+        ensures err { OnErr result (SaysNothing self.old out.old.items out.new.items self.new) }
     {
         if self.failed {
             return Err(ClientFault::Failed);
@@ -265,16 +256,11 @@ impl ClientEnd {
         value: Option<u8>,
         out: &mut Vec<u8>,
     ) -> Result<(), ClientFault>
-        ensures goes { OnOk result (Advances self.old (proposed func value) self.new) }
-        ensures sends { OnOk result (Sends self.old (proposed func value) out.old.items out.new.items) }
-        ensures keeps { OnOk result (ReadsNothing self.old self.new) }
-
-        ensures accepted { OnOk result (propose_fault self.old func value ≡ None) }
-        ensures fault { IfErr result (IsFault (propose_fault self.old func value)) }
-        ensures err { OnErr result (self.new ≡ self.old) }
-        ensures err_out { OnErr result (out.new.items ≡ out.old.items) }
+        ensures ok { OnOk result (Says self.old (proposed func value) out.old.items out.new.items self.new) }
+        ensures failed { AnswersBy (propose_fault self.old func value) result }
         ensures memory { IsErrOf result ClientFault.Memory →
             LacksRoomFor self.old (proposed func value) out.old }
+        ensures err { OnErr result (SaysNothing self.old out.old.items out.new.items self.new) }
     {
         if self.failed {
             return Err(ClientFault::Failed);
@@ -294,16 +280,11 @@ impl ClientEnd {
     /// Sends a command at once, before what is held of a line, which stays as it is. Nothing is shown.
     /// `Failed` after a refused piece, `Memory` for what it says.
     pub fn send(&mut self, command: UserCommand, out: &mut Vec<u8>) -> Result<(), ClientFault>
-        ensures goes { OnOk result (Advances self.old (sent command) self.new) }
-        ensures sends { OnOk result (Sends self.old (sent command) out.old.items out.new.items) }
-        ensures keeps { OnOk result (ReadsNothing self.old self.new) }
-
-        ensures accepted { OnOk result (call_fault self.old ≡ None) }
-        ensures fault { IfErr result (IsFault (call_fault self.old)) }
-        ensures err { OnErr result (self.new ≡ self.old) }
-        ensures err_out { OnErr result (out.new.items ≡ out.old.items) }
+        ensures ok { OnOk result (Says self.old (sent command) out.old.items out.new.items self.new) }
+        ensures failed { AnswersBy (call_fault self.old) result }
         ensures memory { IsErrOf result ClientFault.Memory →
             LacksRoomFor self.old (sent command) out.old }
+        ensures err { OnErr result (SaysNothing self.old out.old.items out.new.items self.new) }
     {
         if self.failed {
             return Err(ClientFault::Failed);

@@ -1,6 +1,5 @@
 -- The invariant of a world after each event, in the words of the calls that it makes.
 use Rattle.std.proofs.Common.{◌≡◌, ◌≢◌, inl, ℕ, Bool, true, false, if◌then◌else◌, Some, None, List, [], take, drop, Vec, refl, sym, ap, ◌∙◌, subst}
-use Rattle.std.specs.Prelude.{Result, Ok, Err, OnOk, OnErr}
 use Rattle.std.proofs.lemmas.List.Elements.{All-nil}
 use Rattle.tn_discipline.specs.Canon.{Canon}
 use Rattle.tn_discipline.specs.declared.reads.Entry.{Entry}
@@ -38,25 +37,23 @@ use Rattle.tn_world.proofs.Soundness.{Lead, made, asked_sound, told_sound, sound
 
 -- a call of the client that is accepted
 pub tells_sound : (old : World) (end : client.End) (e : client_calls.Event) (later : List ℕ) → client_courses.IsCall e → client_fault old.client e ≡ None
-    → client.Advances old.client e end → client.ReadsNothing old.client end → client.Sends old.client e old.to_server later → HasPast old
-    → HasPast (record old { client = end; to_server = later })
-tells_sound old end e later call accepted goes keeps sends s =
-    told_sound old (record old { client = end; to_server = later }) e call goes keeps sends (propose_goes_on old.client e accepted) s
+    → answers.Says old.client e old.to_server later end → HasPast old → HasPast (record old { client = end; to_server = later })
+tells_sound old end e later call accepted says s =
+    told_sound old (record old { client = end; to_server = later }) e call says.goes says.keeps says.sends (propose_goes_on old.client e accepted) s
 
 pub key_sound : (old : World) (end : client.End) (key : ℕ) (later seen keys : List ℕ) → client_fault old.client (client_calls.typed key) ≡ None
     → answers.TypesKey old.client key old.to_server later old.echoed seen end → HasPast old
     → HasPast (record old { client = end; to_server = later; echoed = seen; typed = keys })
 key_sound old end key later seen keys accepted types s =
     sound_as (record old { client = end; to_server = later }) (record old { client = end; to_server = later; echoed = seen; typed = keys }) refl refl refl refl
-    (tells_sound old end (client_calls.typed key) later tt accepted types.goes types.keeps types.sends s)
+    (tells_sound old end (client_calls.typed key) later tt accepted (record { goes = types.goes; sends = types.sends; keeps = types.keeps }) s)
 
 pub send_sound : (old : World) (end : client.End) (command : UserCommand) (later keys : List ℕ) → client_fault old.client (client_calls.sent command) ≡ None
-    → client.Advances old.client (client_calls.sent command) end → client.ReadsNothing old.client end
-    → client.Sends old.client (client_calls.sent command) old.to_server later → HasPast old
+    → answers.Says old.client (client_calls.sent command) old.to_server later end → HasPast old
     → HasPast (record old { client = end; to_server = later; typed = keys })
-send_sound old end command later keys accepted goes keeps sends s =
+send_sound old end command later keys accepted says s =
     sound_as (record old { client = end; to_server = later }) (record old { client = end; to_server = later; typed = keys }) refl refl refl refl
-    (tells_sound old end (client_calls.sent command) later tt accepted goes keeps sends s)
+    (tells_sound old end (client_calls.sent command) later tt accepted says s)
 
 -- a call of the server that is accepted
 pub asks_sound : (old : World) (end : server.End) (e : server_calls.Event) (later : List ℕ) → server_courses.IsCall e
@@ -96,15 +93,15 @@ returns_sound old end n piece left later seen accepted is rest feeds s =
 
 pub breaks_or_again : (old : World) (end : client.End) (piece left later seen : List ℕ) (fault : ClientFault)
     → client.IsFault (client.call_fault old.client) fault → (fault ≡ client_faults.Memory
-    → client.StopsWithin old.client piece old.to_server later old.shown seen) → (fault ≡ client_faults.Failed → end ≡ old.client)
-    → (fault ≡ client_faults.Failed → later ≡ old.to_server) → end.failed ≡ true → HasPast old
+    → client.StopsWithin old.client piece old.to_server later old.shown seen)
+    → (fault ≡ client_faults.Failed → answers.Untouched old.client old.to_server later old.shown seen end) → end.failed ≡ true → HasPast old
     → HasPast (record old { client = end; to_client = left; to_server = later; shown = seen })
-breaks_or_again old end piece left later seen fault cause breaks stays none failed s = by_test old.client.failed refl cause
+breaks_or_again old end piece left later seen fault cause breaks again failed s = by_test old.client.failed refl cause
   where
     by_test : (b : Bool) → old.client.failed ≡ b → client.IsFault (if b then Some client_faults.Failed else None) fault
         → HasPast (record old { client = end; to_client = left; to_server = later; shown = seen })
     by_test true is f = sound_as (record old { to_client = left }) (record old { client = end; to_client = left; to_server = later; shown = seen }) refl
-        (stays f) (none f) refl (again_sound old left is s)
+        (again f).end (again f).out refl (again_sound old left is s)
     by_test false is f = breaks_sound old end piece left later seen is (breaks f) failed s
 
 -- a call of the client that is refused
@@ -118,11 +115,11 @@ key_refused old end key later seen keys fault goes cause grows same kept w is =
 
 pub resize_refused : (old : World) (end : client.End) (width height : ℕ) (later : List ℕ) (fault : ClientFault) → old.client_stopped ≡ false
     → client.IsFault (client.call_fault old.client) fault → (fault ≡ client_faults.Memory → (h : client_calls.History) → client.LeadsTo h old.client
-    → client_says.replies h (client_calls.resized width height) ≢ []) → end ≡ old.client → later ≡ old.to_server → (w : World) → old ≡ w
+    → client_says.replies h (client_calls.resized width height) ≢ []) → answers.SaysNothing old.client old.to_server later end → (w : World) → old ≡ w
     → ClientRefusesEvent w (Resize width height) fault × (record old { client = end; to_server = later } ≡ w)
-resize_refused old end width height later fault goes cause grows a b w is =
+resize_refused old end width height later fault goes cause grows same w is =
     subst (λ w. ClientRefusesEvent w (Resize width height) fault × (record old { client = end; to_server = later } ≡ w)) is
-    ((goes, record { cause = cause; grows = λ m h s. inl (grows m h s) }), rw (a, b) refl)
+    ((goes, record { cause = cause; grows = λ m h s. inl (grows m h s) }), rw (same.end, same.out) refl)
 
 -- a call of the server that is refused
 pub asks_refused : {Z : Type 0} (old : World) (end : server.End) (e : server_calls.Event) (later : List ℕ) (out : Vec ℕ Z) (fault : ServerFault)
@@ -132,21 +129,6 @@ pub asks_refused : {Z : Type 0} (old : World) (end : server.End) (e : server_cal
 asks_refused old end e later out fault goes cause lacks a b w is =
     subst (λ w. ((w.server_stopped ≡ false) × ServerRefusesCall w.server e fault) × (record old { server = end; to_client = later } ≡ w)) is
     ((goes, record { cause = cause; grows = λ m. says_something old.server e out (lacks m) }), rw (a, b) refl)
-
--- a call that may be refused, and then changes nothing
-pub asks_or_not : {A E : Type 0} (old : World) (end : server.End) (e : server_calls.Event) (later : List ℕ) (r : Result A E) → server_courses.IsCall e
-    → OnOk r (server.Advances old.server e old.to_client later end) → OnOk r (server.ReadsNothing old.server end) → OnErr r (end ≡ old.server)
-    → OnErr r (later ≡ old.to_client) → HasPast old → HasPast (record old { server = end; to_client = later })
-asks_or_not old end e later (Ok x) call goes keeps same none s = asks_sound old end e later call goes keeps s
-asks_or_not old end e later (Err x) call goes keeps same none s = sound_as old (record old { server = end; to_client = later }) same refl refl none s
-
-pub tells_or_not : {A E : Type 0} (old : World) (end : client.End) (e : client_calls.Event) (later : List ℕ) (r : Result A E) → client_courses.IsCall e
-    → OnOk r (client_fault old.client e ≡ None) → OnOk r (client.Advances old.client e end) → OnOk r (client.ReadsNothing old.client end)
-    → OnOk r (client.Sends old.client e old.to_server later) → OnErr r (end ≡ old.client) → OnErr r (later ≡ old.to_server) → HasPast old
-    → HasPast (record old { client = end; to_server = later })
-tells_or_not old end e later (Ok x) call accepted goes keeps sends same none s = tells_sound old end e later call accepted goes keeps sends s
-tells_or_not old end e later (Err x) call accepted goes keeps sends same none s =
-    sound_as old (record old { client = end; to_server = later }) refl same none refl s
 
 -- the opening words are in flight to a client that has begun
 opened_words : (here there : Options) → here ≡ opening_options → there ≡ new_options client_terms.agreement → Lead here there [] (words_in opening)

@@ -3,6 +3,7 @@ use Rattle.std.proofs.Common.{◌≡◌, ◌<◌, All, ℕ, Bool, true, false, i
 use Rattle.std.proofs.Common.{◌∙◌, subst, append-nil, append_assoc}
 use Rattle.std.proofs.lemmas.List.Elements.{All-append, All-nil}
 use Rattle.tn_client.proofs.lemmas.Histories.{items-gets, gets-append, sent-gets, shown-gets}
+use Rattle.tn_client.specs.Answering.{Says, Untouched}
 use Rattle.tn_client.specs.Calls.{End, IsStopCause, IsFault, call_fault}
 use Rattle.tn_client.specs.Calls as client
 use Rattle.tn_client.specs.Events.{History, begun, next, got, resized, gets, items}
@@ -227,23 +228,22 @@ stops_failed piece old new x y u v on failed same stays = record {
 
 pub feed_stops : (piece : List ℕ) (old new : Core) (end : End) (x y u v : List ℕ) (f : ClientFault) → All (λ b. b < 256) piece → old.progress.over ≡ false
     → new ≡ record { end = end; progress = after_piece old.progress } → IsFault (call_fault old.end) f
-    → (f ≡ client_fault.Memory → client.StopsWithin old.end piece x y u v) → (f ≡ client_fault.Failed → (y ≡ x) × (v ≡ u))
+    → (f ≡ client_fault.Memory → client.StopsWithin old.end piece x y u v) → (f ≡ client_fault.Failed → Untouched old.end x y u v end)
     → StopsWithin old (record { from = Net; message = Piece piece }) x y u v new
 feed_stops piece old new end x y u v f small on is why memory failed = by_test old.end.failed refl why
   where
     by_test : (b : Bool) → old.end.failed ≡ b → IsFault (if b then Some client_fault.Failed else None) f
         → StopsWithin old (record { from = Net; message = Piece piece }) x y u v new
-    by_test true e cause = let same = failed cause in stops_failed piece old new x y u v on e same.0 same.1
+    by_test true e cause = let same = failed cause in stops_failed piece old new x y u v on e same.out same.screen
     by_test false e cause = stops_feed piece old new end x y u v small on is (memory cause)
 
 -- THE WINDOW
 pub does_resize : (from : Origin) (size : WindowSize) (old new : Core) (x y u : List ℕ) → old.progress.over ≡ false → new ≡ record old { end = new.end }
-    → client.Advances old.end (resized size.width size.height) new.end → client.Sends old.end (resized size.width size.height) x y
-    → client.ReadsNothing old.end new.end → DoesWhole old (record { from = from; message = Resized size }) x y u u new
-does_resize from size old new x y u on is goes sends keeps = record {
-  said = sends.said;
+    → Says old.end (resized size.width size.height) x y new.end → DoesWhole old (record { from = from; message = Resized size }) x y u u new
+does_resize from size old new x y u on is says = record {
+  said = says.sends.said;
   text = [];
-  appended = sends.appended;
+  appended = says.sends.appended;
   displayed = sym (append-nil u);
   leads = λ c at.
       let told : Told = record { from = from; message = Resized size } in
@@ -253,10 +253,10 @@ does_resize from size old new x y u on is goes sends keeps = record {
       let whole = resize size c in
       let leads : LeadsTo whole new = record {
         live = λ _. record {
-          leads = goes.leads h l.leads;
-          read = read_as old.end.decoder new.end.decoder c.stream (items h) (items later) keeps.decoder refl l.read;
+          leads = says.goes.leads h l.leads;
+          read = read_as old.end.decoder new.end.decoder c.stream (items h) (items later) says.keeps.decoder refl l.read;
           bytes = l.bytes;
-          failed = keeps.failed ∙ l.failed;
+          failed = says.keeps.failed ∙ l.failed;
           latest = λ e. sent_open c.progress.closed c.sent later e;
         };
         progress = ap (λ (core : Core). core.progress) is ∙ at.progress;
@@ -265,7 +265,7 @@ does_resize from size old new x y u on is goes sends keeps = record {
         handled c whole old told on at refl,
         leads,
         refl,
-        ap (λ (xs : List Item). items_said h ++ xs) (sends.replies h l.leads),
+        ap (λ (xs : List Item). items_said h ++ xs) (says.sends.replies h l.leads),
         refl,
       );
 }
@@ -292,12 +292,11 @@ stops_resize from size old new x y u on is same = record {
 
 -- A COMMAND
 pub does_send : (control : Control) (old new : Core) (x y u : List ℕ) → old.progress.over ≡ false → new ≡ record old { end = new.end }
-    → client.Advances old.end (client_events.sent (command_of control)) new.end → client.Sends old.end (client_events.sent (command_of control)) x y
-    → client.ReadsNothing old.end new.end → DoesWhole old (record { from = Keys; message = Asked control }) x y u u new
-does_send control old new x y u on is goes sends keeps = record {
-  said = sends.said;
+    → Says old.end (client_events.sent (command_of control)) x y new.end → DoesWhole old (record { from = Keys; message = Asked control }) x y u u new
+does_send control old new x y u on is says = record {
+  said = says.sends.said;
   text = [];
-  appended = sends.appended;
+  appended = says.sends.appended;
   displayed = sym (append-nil u);
   leads = λ c at.
       let told : Told = record { from = Keys; message = Asked control } in
@@ -307,10 +306,10 @@ does_send control old new x y u on is goes sends keeps = record {
       let whole = send control c in
       let leads : LeadsTo whole new = record {
         live = λ _. record {
-          leads = goes.leads h l.leads;
-          read = read_as old.end.decoder new.end.decoder c.stream (items h) (items later) keeps.decoder refl l.read;
+          leads = says.goes.leads h l.leads;
+          read = read_as old.end.decoder new.end.decoder c.stream (items h) (items later) says.keeps.decoder refl l.read;
           bytes = l.bytes;
-          failed = keeps.failed ∙ l.failed;
+          failed = says.keeps.failed ∙ l.failed;
           latest = λ e. sent_open c.progress.closed c.sent later e;
         };
         progress = ap (λ (core : Core). core.progress) is ∙ at.progress;
@@ -319,7 +318,7 @@ does_send control old new x y u on is goes sends keeps = record {
         handled c whole old told on at refl,
         leads,
         refl,
-        ap (λ (xs : List Item). items_said h ++ xs) (sends.replies h l.leads),
+        ap (λ (xs : List Item). items_said h ++ xs) (says.sends.replies h l.leads),
         refl,
       );
 }

@@ -3,8 +3,8 @@ use Rattle.tn_client.specs.Calls.{End}
 use Rattle.tn_client.proofs.Loans.{same_loan, feeds_of, breaks_of}
 use Rattle.tn_client.proofs.end.ClientEnd.feed.Goals as goal
 
-pub returns-in-Ok-clause-feeds : goal.returns-in-Ok-clause-feeds
-returns-in-Ok-clause-feeds c =
+pub returns-in-Ok-clause-ok : goal.returns-in-Ok-clause-ok
+returns-in-Ok-clause-ok c =
     let f = c.feed_to-fed.ensures in
     let same = same_loan c.feed_to-fed.result _ _ _ _ _ f.ok f.refused f.memory f.failed_hands in
     let here = c.self-2.view_is ∙ c.self-1.given.1 (sym same.end) in

@@ -1,16 +1,20 @@
-use Rattle.std.proofs.Common.{[], ◌∷◌, sym, ap}
+use Rattle.std.proofs.Common.{[], ◌∷◌, rules, sym, ap}
 use Rattle.tn_codes.specs.declared.triples.Triple.{Triple}
 use Rattle.tn_linemode.specs.Words.{list_items}
 use Rattle.tn_client.proofs.end.ClientEnd.propose.Goals as goal
 use Rattle.tn_client.proofs.end.ClientEnd.propose.Goals.{in-Err, in-Ok+in-Ok-put_triple, in-Ok+in-Err-put_triple}
 
-pub returns-clause-sends : goal.returns-clause-sends
-returns-clause-sends c = elim c.match-propose.branch [
+pub returns-clause-ok : goal.returns-clause-ok
+returns-clause-ok c = elim c.match-propose.branch [
   | in-Err w ↦ rw w.result-is tt
   | in-Ok+in-Ok-put_triple w ↦ rw (w.result-is, w.out-is) (record {
-    said = list_items (w.in-Ok.triple ∷ []);
-    appended = w.in-Ok-put_triple.ensures.ok;
-    replies = λ h s. ap (λ (t : Triple). list_items (t ∷ [])) (sym w.in-Ok.ensures.triple);
+    goes = search rules;
+    sends = record {
+      said = list_items (w.in-Ok.triple ∷ []);
+      appended = w.in-Ok-put_triple.ensures.ok;
+      replies = λ h s. ap (λ (t : Triple). list_items (t ∷ [])) (sym w.in-Ok.ensures.triple);
+    };
+    keeps = search rules;
   })
   | in-Ok+in-Err-put_triple w ↦ rw w.result-is tt
 ]

@@ -12,8 +12,8 @@ invariant_of-self c =
     let piece : c.as_slice-bytes.result.now ≡ take n flight = c.as_slice-bytes.ensures.value ∙ sym (take_all n flight all) in
     let left : c.clear.new.self.items ≡ drop n flight = c.clear.ensures.items ∙ sym (drop_all n flight all) in
     elim c.match-fed.branch [
-      | in-Ok w ↦ returns_sound _ _ n _ _ _ _ w.in-Ok.ensures.accepted piece left w.in-Ok.ensures.feeds c.self.invariant
+      | in-Ok w ↦ returns_sound _ _ n _ _ _ _ w.in-Ok.ensures.failed piece left w.in-Ok.ensures.ok c.self.invariant
       | in-Err w ↦
-          breaks_or_again _ _ _ _ _ _ _ w.in-Err.ensures.fault (λ is. w.in-Err.ensures.memory (ap Err is)) (λ is. w.in-Err.ensures.failed (ap Err is))
-          (λ is. w.in-Err.ensures.failed_out (ap Err is)) w.in-Err.ensures.err c.self.invariant
+          breaks_or_again _ _ _ _ _ _ _ w.in-Err.ensures.failed (λ is. w.in-Err.ensures.memory (ap Err is)) (λ is. w.in-Err.ensures.again (ap Err is))
+          w.in-Err.ensures.err c.self.invariant
     ]

@@ -6,13 +6,13 @@ use Rattle.tn_world.proofs.Bodies.{tells_sound, resize_refused}
 use Rattle.tn_world.proofs.world.World.resize.Goals as goal
 
 pub invariant_of-self-2 : goal.invariant_of-self-2
-invariant_of-self-2 c = tells_sound _ _ (client_calls.resized c.args.width c.args.height) _ tt c.in_ok-resize.ensures.accepted c.in_ok-resize.ensures.goes
-    c.in_ok-resize.ensures.keeps c.in_ok-resize.ensures.sends c.self.invariant
+invariant_of-self-2 c =
+    tells_sound _ _ (client_calls.resized c.args.width c.args.height) _ tt c.in_ok-resize.ensures.failed c.in_ok-resize.ensures.ok c.self.invariant
 
 pub returns-in_err-resize-clause-err : goal.returns-in_err-resize-clause-err
 returns-in_err-resize-clause-err c =
     let p = err_from_is_err_and c.from_residual.result c.from_residual.ensures.1 in
     let w = c.self.inside in
-    rw (p.1, p.2) (resize_refused _ _ c.args.width c.args.height _ _ c.if-self.false c.in_err-resize.ensures.fault
+    rw (p.1, p.2) (resize_refused _ _ c.args.width c.args.height _ _ c.if-self.false c.in_err-resize.ensures.failed
     (λ m. says_something w.client (client_calls.resized c.args.width c.args.height) w.to_server (c.in_err-resize.ensures.memory (ap Err m)))
-    c.in_err-resize.ensures.err c.in_err-resize.ensures.err_out _ c.self.view_is)
+    c.in_err-resize.ensures.err _ c.self.view_is)

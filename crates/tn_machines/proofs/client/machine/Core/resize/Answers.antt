@@ -7,17 +7,15 @@ use Rattle.tn_machines.proofs.of_core.Refusing.{resize_cause}
 use Rattle.tn_machines.proofs.client.machine.Core.resize.Goals as goal
 
 pub returns-clause-ok : goal.returns-clause-ok
-returns-clause-ok c =
-    let done = c.in_ok-resize.ensures in
-    λ seen. does_resize c.args.from c.args.size c.args.self.now _ _ _ seen c.requires refl done.goes done.sends done.keeps
+returns-clause-ok c = λ seen. does_resize c.args.from c.args.size c.args.self.now _ _ _ seen c.requires refl c.in_ok-resize.ensures.ok
 
 pub returns-in_err-resize-clause-err : goal.returns-in_err-resize-clause-err
 returns-in_err-resize-clause-err c =
     let p = err_from_is_err_and c.from_residual.result c.from_residual.ensures.1 in
-    rw p.1 (λ seen. stops_resize c.args.from c.args.size c.args.self.now _ _ _ seen c.requires refl c.in_err-resize.ensures.err_out)
+    rw p.1 (λ seen. stops_resize c.args.from c.args.size c.args.self.now _ _ _ seen c.requires refl c.in_err-resize.ensures.err.out)
 
 pub returns-in_err-resize-clause-cause : goal.returns-in_err-resize-clause-cause
 returns-in_err-resize-clause-cause c =
     let p = err_from_is_err_and c.from_residual.result c.from_residual.ensures.1 in
-    rw (p.1, p.2) (resize_cause c.args.from c.args.size c.args.self.now _ c.requires c.in_err-resize.ensures.fault
+    rw (p.1, p.2) (resize_cause c.args.from c.args.size c.args.self.now _ c.requires c.in_err-resize.ensures.failed
     (λ e. says_something c.args.self.now.end (resized c.args.size.width c.args.size.height) c.args.out.now (c.in_err-resize.ensures.memory (ap Err e))))
