@@ -1,5 +1,5 @@
 -- What holds all along a run of messages, and what it takes of what they bring.
-use Rattle.std.proofs.Common.{◌≡◌, ℕ, Bool, true, false, List, [], ◌∷◌, ◌++◌, map, refl, sym, ap, ◌∙◌, subst, append_assoc}
+use Rattle.std.proofs.Common.{◌≡◌, Bool, true, false, List, [], ◌∷◌, ◌++◌, map, refl, sym, ap, ◌∙◌, subst, append_assoc}
 use Rattle.std.specs.List.{FoldsTo, flat_map}
 use Rattle.tn_machines.specs.Pieces.{TakesFront}
 
