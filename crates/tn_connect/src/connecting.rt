@@ -24,7 +24,7 @@ use crate::publishing::Publisher;
 use crate::sending::{Delivered, Sender};
 use crate::settings::{ClientContext, Connecting, KeySource};
 use crate::waiting::{Brought, Patient};
-use std::alloc::Global;
+use std::alloc::{AllocError, Global};
 use std::fs::File;
 use std::io;
 use std::io::{Read, Write};
@@ -38,7 +38,7 @@ use tn_network::{Network, reach};
 use tn_session::{ClientPorts, Ended, Report, SessionFault, client_session};
 use tn_sockets::{
     Connection, Console, Host, Incoming, Keyboard, Keys, Link, Logged, NewQueue, Outgoing,
-    PiecePass, Queue, Sent, Sizes, Terminal, Trace, Typing, WriteLog, new_queue,
+    PiecePass, Queue, Sent, Sizes, Terminal, Throttle, Trace, Typing, WriteLog, new_queue,
 };
 use tn_streams::{Drain, Source};
 
@@ -111,33 +111,7 @@ fn wire<H: Host, Q: Queue>(
     })
 }
 
-// Runs a session over a connection's two directions, with these keys and this screen.
-fn talk<H: Host, K: Source + Drop + Send + 'static, S: Write, Q: Queue>(
-    rt: H,
-    alloc: Global,
-    incoming: Incoming<H, Brought<TcpStream>>,
-    outgoing: &mut Outgoing<H, Q>,
-    keys: K,
-    screen: &mut S,
-    connecting: Connecting,
-) -> Result<(Report, ClientPorts), SessionFault>
-    requires nothing_yet { view outgoing.old.pass ≡ putter [] }
-    ensures ran { IfOk result (λ r.
-        RunsWriting (window_of connecting)
-        (known_typing K.remaining K.foretold K.sizes K.words K.controls keys)
-        (S.contents screen.old) (S.contents screen.new) (put_bytes (view outgoing.new.pass)) r.0 r.1) }
-{
-    let Ok(gate) = Publisher::new(alloc, incoming.link()) else {
-        return Err(SessionFault::Memory);
-    };
-    let (width, height) = (connecting.width, connecting.height);
-    let limit = connecting.line_limit;
-    client_session(
-        rt, alloc, incoming, keys, outgoing, screen, width, height, limit, gate,
-    )
-}
-
-// The same, with the keys of a reader.
+// Runs a session over a connection's two directions, with the keys of a reader and this screen.
 fn talk_from<H: Host, K: Read + Drop + Send + 'static, S: Write, Q: Queue>(
     rt: H,
     alloc: Global,
@@ -153,11 +127,18 @@ fn talk_from<H: Host, K: Read + Drop + Send + 'static, S: Write, Q: Queue>(
         RunsWriting (window_of connecting) (foreseen connecting.origin (K.remaining typing.keys))
         (S.contents screen.old) (S.contents screen.new) (put_bytes (view outgoing.new.pass)) r.0 r.1) }
 {
+    let Ok(gate) = Publisher::new(alloc, incoming.link()) else {
+        return Err(SessionFault::Memory);
+    };
+    let (width, height) = (connecting.width, connecting.height);
+    let limit = connecting.line_limit;
     let origin = connecting.origin;
     match origin {
         KeySource::Reader => {
             let keys = Keys::new(typing);
-            talk(rt, alloc, incoming, outgoing, keys, screen, connecting)
+            client_session(
+                rt, alloc, incoming, keys, outgoing, screen, width, height, limit, gate,
+            )
         },
         KeySource::Input => {
             let seconds = connecting.wait;
@@ -168,11 +149,15 @@ fn talk_from<H: Host, K: Read + Drop + Send + 'static, S: Write, Q: Queue>(
                 seconds,
                 is_over,
             };
-            talk(rt, alloc, incoming, outgoing, keys, screen, connecting)
+            client_session(
+                rt, alloc, incoming, keys, outgoing, screen, width, height, limit, gate,
+            )
         },
         KeySource::Terminal(_) => {
             let keys = console_of(rt, alloc, typing, &connecting);
-            talk(rt, alloc, incoming, outgoing, keys, screen, connecting)
+            client_session(
+                rt, alloc, incoming, keys, outgoing, screen, width, height, limit, gate,
+            )
         },
     }
 }
@@ -254,6 +239,32 @@ fn talk_and_send<H: Host, K: Read + Drop + Send + 'static, S: Write, Q: Queue + 
     })
 }
 
+// The user's keys, with what they are answered by. It takes eight, as they go together nowhere else.
+fn typing_of<H: Host, K: Drop>(
+    alloc: Global,
+    host: &str,
+    connecting: &Connecting,
+    keys: K,
+    throttle: Throttle<H>,
+    link: &Arc<Link, Global>,
+    sizes: Option<File>,
+    terminal: Terminal,
+) -> Result<Typing<H, K>, AllocError>
+    ensures { IfOk result (λ typing. typing.keys ≡ keys) }
+{
+    Ok(Typing {
+        keys,
+        throttle,
+        link: Arc::try_clone(link)?,
+        host: String::from_str(alloc, host)?,
+        port: connecting.port,
+        width: connecting.width,
+        height: connecting.height,
+        sizes: Sizes::new(sizes),
+        terminal: Some(terminal),
+    })
+}
+
 /// Connects to a host, an address or a name, and runs a client's session over the connection, with these
 /// keys and this screen, until the server has closed or the user leaves. What a session that ends without a
 /// fault returns tells contracts all that was read from the connection, all that the session wrote, and what
@@ -265,7 +276,7 @@ pub fn connect<H: Host + Network, K: Read + Drop + Send + 'static, S: Write, E: 
     connecting: Connecting,
     keys: K,
     screen: &mut S,
-    notes: ClientContext<'_, E>,
+    mut notes: ClientContext<'_, E>,
 ) -> Result<Connected, ConnectFault>
     ensures ran { IfOk result (RunsClient (window_of connecting)
         (foreseen connecting.origin (K.remaining keys))
@@ -277,91 +288,43 @@ pub fn connect<H: Host + Network, K: Read + Drop + Send + 'static, S: Write, E: 
     ensures reached { ConnectsBy connection_of
         (Reaches (H.finds rt host.now connecting.port) (H.dials rt)) result }
 {
-    let ClientContext {
-        trace,
-        sizes,
-        stands,
-        terminal,
-        mut news,
-        causes,
-        link,
-    } = notes;
-    if trace.is_some() {
-        news.trace();
+    let causes = notes.causes;
+    if notes.trace.is_some() {
+        notes.news.trace();
     }
-    let stream = reach(&rt, host, connecting.port, &mut news, causes)?;
-    let notes = ClientContext {
-        trace,
-        sizes,
-        stands,
-        terminal,
-        news,
-        causes,
-        link,
-    };
-    connect_over(rt, alloc, host, stream, connecting, keys, screen, notes)
-}
-
-// The same, over a connection to this host.
-fn connect_over<H: Host, K: Read + Drop + Send + 'static, S: Write, E: Drain>(
-    rt: H,
-    alloc: Global,
-    host: &str,
-    stream: TcpStream,
-    connecting: Connecting,
-    keys: K,
-    screen: &mut S,
-    notes: ClientContext<'_, E>,
-) -> Result<Connected, ConnectFault>
-    ensures ran { IfOk result (RunsClient (window_of connecting)
-        (foreseen connecting.origin (K.remaining keys))
-        (S.contents screen.old) (S.contents screen.new)) }
-    ensures sent { IfOk result TookWhatWasWritten }
-    ensures whole { IfOk result (λ connected. EndsWhole connected.report.ended) }
-    ensures unshown { OnErr result (result ≢ Err ConnectFault.Session →
-        S.contents screen.new ≡ S.contents screen.old) }
-    ensures connection { IfOk result (λ connected. connection_of connected ≡ stream) }
-{
+    let stream = reach(&rt, host, connecting.port, &mut notes.news, causes)?;
     let connection = Snapshot::of(&stream);
-    let ClientContext {
-        trace,
-        sizes,
-        mut stands,
-        terminal,
-        mut news,
-        causes,
-        link,
-    } = notes;
-    tell_that_it_stands(&mut stands);
-    news.connect(host, connecting.escape);
-    let trace = Trace::new(rt, alloc, trace)?;
+    tell_that_it_stands(&mut notes.stands);
+    notes.news.connect(host, connecting.escape);
+    let trace = Trace::new(rt, alloc, notes.trace)?;
     let (queue, throttle) = new_queue(rt, alloc)?;
-    let typing = Typing {
+    let (link, sizes) = (&notes.link, notes.sizes);
+    let terminal = Terminal::new(notes.terminal, notes.stands);
+    let typing = typing_of(
+        alloc,
+        host,
+        &connecting,
         keys,
         throttle,
-        link: Arc::try_clone(&link)?,
-        host: String::from_str(alloc, host)?,
-        port: connecting.port,
-        width: connecting.width,
-        height: connecting.height,
-        sizes: Sizes::new(sizes),
-        terminal: Some(Terminal::new(terminal, stands)),
-    };
+        link,
+        sizes,
+        terminal,
+    )?;
     let opened = Opened {
         stream,
-        link: Arc::try_clone(&link)?,
+        link: Arc::try_clone(link)?,
         trace: trace.try_clone()?,
         queue,
     };
     let talked = talk_and_send::<H, K, S, Brand>(rt, alloc, opened, typing, screen, connecting)?;
-    note_talked(causes, &talked, &link);
+    note_talked(causes, &talked, link);
     if !trace.is_whole() {
         let _ = writeln!(causes, "tn: the trace is not whole");
     }
     let is_left = link.is_left();
     // A screen that takes no more has ended the connection, and sending fails then.
     let ended = result_of(talked, connection, is_left || link.is_dark());
-    news.close(host, is_left, ended.is_ok());
+    notes.news.close(host, is_left, ended.is_ok());
     ended
 }
 

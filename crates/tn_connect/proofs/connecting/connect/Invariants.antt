@@ -1,5 +1,5 @@
 use Rattle.crossbeam_channel.specs.Ends.{sends_on}
-use Rattle.tn_connect.proofs.connecting.connect_over.Given as goal
+use Rattle.tn_connect.proofs.connecting.connect.Given as goal
 
 -- the queue is this one
 abbrev pub ghosts-talk_and_send : goal.ghosts-talk_and_send
