@@ -265,6 +265,26 @@ fn typing_of<H: Host, K: Drop>(
     })
 }
 
+// The connection with a queue of its own, and what holds the keys back while much waits there.
+fn opened_over<H: Host>(
+    rt: H,
+    alloc: Global,
+    stream: TcpStream,
+    link: &Arc<Link, Global>,
+    trace: &Trace<H>,
+) -> Result<(Opened<H>, Throttle<H>), AllocError>
+    ensures { IfOk result (λ r. IsNew r.0.queue) }
+{
+    let (queue, throttle) = new_queue(rt, alloc)?;
+    let opened = Opened {
+        stream,
+        link: Arc::try_clone(link)?,
+        trace: trace.try_clone()?,
+        queue,
+    };
+    Ok((opened, throttle))
+}
+
 /// Connects to a host, an address or a name, and runs a client's session over the connection, with these
 /// keys and this screen, until the server has closed or the user leaves. What a session that ends without a
 /// fault returns tells contracts all that was read from the connection, all that the session wrote, and what
@@ -296,9 +316,9 @@ pub fn connect<H: Host + Network, K: Read + Drop + Send + 'static, S: Write, E: 
     let connection = Snapshot::of(&stream);
     tell_that_it_stands(&mut notes.stands);
     notes.news.connect(host, connecting.escape);
-    let trace = Trace::new(rt, alloc, notes.trace)?;
-    let (queue, throttle) = new_queue(rt, alloc)?;
     let (link, sizes) = (&notes.link, notes.sizes);
+    let trace = Trace::new(rt, alloc, notes.trace)?;
+    let (opened, throttle) = opened_over(rt, alloc, stream, link, &trace)?;
     let terminal = Terminal::new(notes.terminal, notes.stands);
     let typing = typing_of(
         alloc,
@@ -310,12 +330,6 @@ pub fn connect<H: Host + Network, K: Read + Drop + Send + 'static, S: Write, E: 
         sizes,
         terminal,
     )?;
-    let opened = Opened {
-        stream,
-        link: Arc::try_clone(link)?,
-        trace: trace.try_clone()?,
-        queue,
-    };
     let talked = talk_and_send::<H, K, S, Brand>(rt, alloc, opened, typing, screen, connecting)?;
     note_talked(causes, &talked, link);
     if !trace.is_whole() {
