@@ -65,8 +65,8 @@ pub record IsReadyForTwo (m : Mailbox) : Type 0 where
   pub net_is : view m.net.pass ≡ sender Net []
   pub keys_is : view m.keys.pass ≡ sender Keys []
 
--- The core has handled nothing and told nobody to stop, and two threads promise this: they send to its mailbox
--- as Net and as Keys, and only Keys may be told to stop.
+-- The core has handled nothing and told nobody to stop, and two threads promise this: they send to its
+-- mailbox as Net and as Keys, and only Keys may be told to stop.
 pub record StandsBeside {N K : Type 0} (ends : CoreEnds) (pass : Pass Mail View) (teller : StopTeller)
     (net : ReaderSays N) (keys : ReaderSays K) : Type 0 where
   pub one_mailbox : receives_on ends.from ≡ sends_on ends.to
