@@ -14,7 +14,7 @@
 #![tactic(auto)]
 
 use crate::outlet::Outlet;
-use std::alloc::Global;
+use std::alloc::{AllocError, Global};
 use std::env::{Env, FillError};
 use std::fs::{File, Files, OpenOptions};
 use std::process::ExitCode;
@@ -44,6 +44,9 @@ const TERMINAL_PATH: &str = "/dev/tty";
 
 /// How many bytes the path of such a pipe has at most.
 const MAX_PATH: usize = 4_096;
+
+/// The status when out of memory before anything is run.
+const NO_MEMORY: u8 = 1;
 
 fn origin_of(rt: &HostRuntime) -> KeySource {
     let mut value = [0; 1];
@@ -93,21 +96,11 @@ fn terminal_of<R: Files<File = File>>(rt: &R, origin: KeySource) -> Option<File>
     }
 }
 
-// The connection that is to be, for the keys and for the screen. Only a session has one.
-fn links(
-    alloc: Global,
-    is_session: bool,
-) -> (Option<Arc<Link, Global>>, Option<Arc<Link, Global>>) {
-    if !is_session {
-        return (None, None);
-    }
-    let Ok(link) = Arc::new(alloc, Link::new()) else {
-        return (None, None);
-    };
-    match Arc::try_clone(&link) {
-        Ok(linked) => (Some(link), Some(linked)),
-        Err(_) => (None, None),
-    }
+// A connection that is to be, for the keys and for the screen.
+fn links(alloc: Global) -> Result<(Arc<Link, Global>, Arc<Link, Global>), AllocError> {
+    let link = Arc::new(alloc, Link::new())?;
+    let linked = Arc::try_clone(&link)?;
+    Ok((link, linked))
 }
 
 // Whether the words are those of `connect`.
@@ -127,8 +120,10 @@ fn main(rt: HostRuntime) -> ExitCode {
         Ok(words) => words.collect(alloc).map_err(io::Error::from),
         Err(error) => Err(error),
     };
-    let is_session = is_session(&words);
-    let (link, linked) = links(alloc, is_session);
+    let Ok((link, linked)) = links(alloc) else {
+        let _ = eprintln!(rt; "tn: memory");
+        return ExitCode::from(NO_MEMORY);
+    };
     let origin = origin_of(&rt);
     let streams = Streams {
         origin,
@@ -143,7 +138,7 @@ fn main(rt: HostRuntime) -> ExitCode {
             writer: rt.stdout(),
             link: linked,
         },
-        is_session,
+        is_session: is_session(&words),
     };
     let status = run_words(rt, alloc, words, streams, &mut screen, &mut rt.stderr());
     ExitCode::from(status)

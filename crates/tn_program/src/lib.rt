@@ -1,8 +1,9 @@
 //! The program `tn`: takes its words and its streams, does what they ask for, and gives a status.
 //!
 //! ```
+//! let link = Arc::new(alloc, Link::new())?;
 //! let reader = rt.stdin();
-//! let streams = Streams { origin: KeySource::Input, reader, sizes: None, stands: None, terminal: None, link: None };
+//! let streams = Streams { origin: KeySource::Input, reader, sizes: None, stands: None, terminal: None, link };
 //! let status = run_words(rt, alloc, Ok(words), streams, &mut rt.stdout(), &mut rt.stderr());
 //! ```
 //!

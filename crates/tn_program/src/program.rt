@@ -20,7 +20,7 @@ use std::io;
 use std::io::{ErrorKind, Read, Write};
 use std::os::unix::fs::OpenOptionsExt;
 use tn_cli::{CliFault, run_decode, run_local, run_replay, run_world};
-use tn_connect::{ClientContext, ConnectFault, Host, KeySource, News, connect, connect_plain};
+use tn_connect::{ClientContext, Host, KeySource, News, connect, connect_plain};
 use tn_network::Network;
 use tn_streams::Drain;
 use tn_words::{Asked, ConnectWords, LineEnd, VERSION_LINE, WordsFault, read_words};
@@ -220,9 +220,6 @@ fn run_plain<H: Network + Host + Lookout, R: Read + Drop + Send + 'static, W: Wr
         terminal,
         link,
     } = streams;
-    let Some(link) = link else {
-        return Outcome::Talked(Err(ConnectFault::Memory));
-    };
     let news = News {
         writer: errors,
         alloc,
@@ -276,9 +273,6 @@ fn run_connect<
         terminal,
         link,
     } = streams;
-    let Some(link) = link else {
-        return Outcome::Connected(Err(ConnectFault::Memory));
-    };
     let news = News {
         writer: errors,
         alloc,

@@ -9,7 +9,7 @@ use tn_connect::{KeySource, Link};
 
 /// A reader, where its bytes come from, what tells the sizes of the window in which they are typed, what is
 /// told once the connection that they are for stands, the terminal that they are typed at, and that
-/// connection, as the screen has it. `connect` is out of memory where it has none; nothing else looks for it.
+/// connection, as the screen has it.
 #[derive(Drop)]
 pub struct Streams<R> {
     pub origin: KeySource,
@@ -17,7 +17,7 @@ pub struct Streams<R> {
     pub sizes: Option<File>,
     pub stands: Option<File>,
     pub terminal: Option<File>,
-    pub link: Option<Arc<Link, Global>>,
+    pub link: Arc<Link, Global>,
 }
 
 impl<R: Read> Read for Streams<R> {

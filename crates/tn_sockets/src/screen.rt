@@ -12,8 +12,8 @@ use std::sync::Arc;
 pub struct Screen<S> {
     /// What is written to.
     pub writer: S,
-    /// The connection, if there is one.
-    pub link: Option<Arc<Link, Global>>,
+    /// The connection.
+    pub link: Arc<Link, Global>,
 }
 
 impl<S: Write> Write for Screen<S> {
@@ -25,9 +25,8 @@ impl<S: Write> Write for Screen<S> {
             Ok(count) => *count == 0 && !buf.is_empty(),
             Err(error) => error.kind() != ErrorKind::Interrupted,
         };
-        match &self.link {
-            Some(link) if fails => link.darken(),
-            _ => {},
+        if fails {
+            self.link.darken();
         }
         wrote
     }

@@ -47,7 +47,7 @@ where
     let link = Arc::new(alloc, Link::new())?;
     let mut screen = Screen {
         writer: Dead,
-        link: Some(Arc::try_clone(&link)?),
+        link: Arc::try_clone(&link)?,
     };
     let (mut causes, mut told) = (Vec::new(alloc), Vec::new(alloc));
     let notes = ClientContext {

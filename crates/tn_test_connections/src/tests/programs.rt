@@ -2,7 +2,8 @@
 
 use std::alloc::{AllocError, Global};
 use std::io::{self, Cursor, ErrorKind, Write};
-use tn_program::{KeySource, OwnCharacters, Streams, own_characters, run_words};
+use std::sync::Arc;
+use tn_program::{KeySource, Link, OwnCharacters, Streams, own_characters, run_words};
 
 /// Takes all that is written, or fails.
 #[derive(Drop)]
@@ -61,6 +62,9 @@ fn faults_are_told(rt: HostRuntime) {
         let Ok(words) = words_of(alloc, word) else {
             return;
         };
+        let Ok(link) = Arc::new(alloc, Link::new()) else {
+            return;
+        };
         let mut errors = Vec::new(alloc);
         let mut writer = Paper { open: *open };
         let streams = Streams {
@@ -69,7 +73,7 @@ fn faults_are_told(rt: HostRuntime) {
             sizes: None,
             stands: None,
             terminal: None,
-            link: None,
+            link,
         };
         let ended = run_words(rt, alloc, Ok(words), streams, &mut writer, &mut errors);
         assert!(rt; is_told(ended, &errors, *status, told));
@@ -90,6 +94,9 @@ fn the_line_of_a_fault_is_told(rt: HostRuntime) {
         let Ok(words) = words_of(alloc, "world") else {
             return;
         };
+        let Ok(link) = Arc::new(alloc, Link::new()) else {
+            return;
+        };
         let mut output = Vec::new(alloc);
         let mut errors = Vec::new(alloc);
         let streams = Streams {
@@ -98,7 +105,7 @@ fn the_line_of_a_fault_is_told(rt: HostRuntime) {
             sizes: None,
             stands: None,
             terminal: None,
-            link: None,
+            link,
         };
         let ended = run_words(rt, alloc, Ok(words), streams, &mut output, &mut errors);
         assert!(rt; is_told(ended, &errors, *status, told));
@@ -133,6 +140,9 @@ fn what_of_a_stream_is_not_printed_is_told(rt: HostRuntime) {
         let Ok(words) = words_of(alloc, "decode") else {
             return;
         };
+        let Ok(link) = Arc::new(alloc, Link::new()) else {
+            return;
+        };
         let mut output = Vec::new(alloc);
         let mut errors = Vec::new(alloc);
         let streams = Streams {
@@ -141,7 +151,7 @@ fn what_of_a_stream_is_not_printed_is_told(rt: HostRuntime) {
             sizes: None,
             stands: None,
             terminal: None,
-            link: None,
+            link,
         };
         let ended = run_words(rt, alloc, Ok(words), streams, &mut output, &mut errors);
         assert!(rt; is_unread_told(ended, &errors, told));
