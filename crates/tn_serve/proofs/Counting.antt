@@ -1,5 +1,5 @@
 -- One session more is counted.
-use Rattle.std.proofs.Common.{◌≡◌, inl, inr, ℕ, ◌+◌, [], ◌∷◌, false, true, Result, Ok, Err, IsOk, IfOk, length, arith, refl, subst}
+use Rattle.std.proofs.Common.{◌≡◌, inl, inr, ℕ, ◌+◌, [], ◌∷◌, false, true, Result, Ok, Err, IsOk, IfOk, arith, refl, subst}
 use Rattle.std.specs.declared.net.tcp.TcpStream.{TcpStream}
 use Rattle.tn_serve.specs.Counted.{CountsSessions, Joined, ServerFacts, StillCounts}
 use Rattle.tn_serve.specs.Ends.{IsWhole, finished_as, whole_end, whole_of, whole_report}

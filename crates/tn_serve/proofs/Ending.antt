@@ -1,5 +1,5 @@
 -- When a server has served what it was asked for.
-use Rattle.std.proofs.Common.{◌≡◌, ◌≤◌, ◌⊎◌, inl, inr, ℕ, true, Result, Ok, Err, IfOk, sym, subst, ◌∙◌}
+use Rattle.std.proofs.Common.{◌≡◌, ◌≤◌, inl, inr, ℕ, true, Result, Ok, Err, IfOk, sym, subst, ◌∙◌}
 use Rattle.tn_serve.specs.Ends.{AreEnough, ServesAll, ServesUntil}
 use Rattle.tn_serve.specs.declared.acceptor.Accepted.{Accepted}
 use Rattle.tn_serve.specs.declared.fault.ServeFault.{ServeFault}

@@ -1,37 +1,43 @@
 -- A service is called once more.
-use Rattle.std.proofs.Common.{◌≡◌, ◌<◌, ℕ, ◌+◌, List, [], ◌∷◌, length, get_or, refl, sym, subst, sum_by, swap_remove, arith}
+use Rattle.std.proofs.Common.{◌≡◌, ◌<◌, ◌≤◌, ℕ, ◌+◌, List, [], ◌∷◌, length, get_or, refl, sym, subst, sum_by, swap_remove, arith}
 use Rattle.std.proofs.lemmas.List.Sums.{sum_by-swap_remove}
 use Rattle.tn_serve.specs.Ends.{whole_of}
-use Rattle.tn_serve.specs.Turns.{Hears, HearsAll, HearsOfEnd, HearsOfJobs, HearsOfNone, IsOneMore, StillHears, is_same, live_of}
+use Rattle.tn_serve.specs.Turns.{AreApart, EndsFollow, Hears, HearsAll, HearsOfEnd, HearsOfJobs, HearsOfNone, IsOneMore, StillHears}
+use Rattle.tn_serve.specs.Turns.{ended_for, is_same, live_of, made_for, times, with_one}
 use Rattle.tn_serve.specs.declared.finished.Finished.{Finished}
 use Rattle.tn_serve.specs.declared.turns.Turn.{Turn}
 use Rattle.tn_serve.specs.declared.turns.Turn.TheVariants.{Made, Refused, Ended}
 
+-- after all of them
+at_most : (number : ℕ) (calls : List Turn) → EndsFollow number calls → times (made_for number) calls ≤ times (ended_for number) calls + 1
+at_most number [] follow = omega arith
+at_most number (turn ∷ earlier) follow = follow.1
+
 module _ {V : Type 0} (turns : V → Turn → V → Type 0) (HasEnded : Finished → Type 0) where
   pub jobs_made : (number : ℕ) (old new : V) → turns old (Made number) new → HearsOfJobs turns HasEnded number old new
-  jobs_made number old new turn whole faulted live live' one first h = record {
+  jobs_made number old new turn whole faulted live live' one apart first h = record {
     calls = Made number ∷ h.calls;
     called = (old, h.called, turn, _);
     each = λ n. omega (arith, h.each n, one n);
-    in_order = λ n. (omega (arith, h.each n), h.in_order n);
+    in_order = λ n. (omega (arith, h.each n), omega (arith, h.each n, one n, apart n), h.in_order n);
     unasked = h.unasked;
     all = omega (arith, h.all);
     whole_ones = omega (arith, h.whole_ones);
   }
 
-  pub jobs_refused : (number : ℕ) (old new : V) → turns old (Refused number) new → HearsOfNone turns HasEnded old new
-  jobs_refused number old new turn whole faulted live first h = record {
+  pub jobs_refused : (number : ℕ) (old new : V) → turns old (Refused number) new → HearsOfNone turns HasEnded number old new
+  jobs_refused number old new turn whole faulted live apart first h = record {
     calls = Refused number ∷ h.calls;
     called = (old, h.called, turn, _);
     each = λ n. omega (arith, h.each n);
-    in_order = λ n. (omega (arith, h.each n), h.in_order n);
+    in_order = λ n. (omega (arith, h.each n), omega (arith, at_most n h.calls (h.in_order n)), h.in_order n);
     unasked = h.unasked;
     all = omega (arith, h.all);
     whole_ones = omega (arith, h.whole_ones);
   }
 
-  pub not_asked : (old : V) → HearsOfNone turns HasEnded old old
-  not_asked old whole faulted live first h = record {
+  pub not_asked : (number : ℕ) (old : V) → HearsOfNone turns HasEnded number old old
+  not_asked number old whole faulted live apart first h = record {
     calls = h.calls;
     called = h.called;
     each = h.each;
@@ -47,7 +53,7 @@ module _ {V : Type 0} (turns : V → Turn → V → Type 0) (HasEnded : Finished
     calls = Ended number finished ∷ h.calls;
     called = (old, h.called, turn, has);
     each = λ n. omega (arith, h.each n, one n);
-    in_order = λ n. (omega (arith, h.each n, one n), h.in_order n);
+    in_order = λ n. (omega (arith, h.each n, one n), omega (arith, at_most n h.calls (h.in_order n)), h.in_order n);
     unasked = h.unasked;
     all = omega (arith, h.all, counted.1);
     whole_ones = omega (arith, h.whole_ones, counted.0);
@@ -56,10 +62,10 @@ module _ {V : Type 0} (turns : V → Turn → V → Type 0) (HasEnded : Finished
   -- its jobs were made, and it was not started
   pub made_and_ended : (number : ℕ) (finished : Finished) (old mid new : V) → whole_of finished ≡ 0 → HearsOfJobs turns HasEnded number old mid
       → HearsOfEnd turns HasEnded number finished mid new
-      → HearsOfNone turns HasEnded old new
-  made_and_ended number finished old mid new not_whole made ended whole faulted live first h =
+      → HearsOfNone turns HasEnded number old new
+  made_and_ended number finished old mid new not_whole made ended whole faulted live apart first h =
       ended whole faulted whole (faulted + 1) (λ n. live n + is_same n number) live (λ n. refl) (omega (arith, not_whole), omega arith) first
-      (made whole faulted live (λ n. live n + is_same n number) (λ n. refl) first h)
+      (made whole faulted live (λ n. live n + is_same n number) (λ n. refl) apart first h)
 
   -- the same sessions run, and so many are counted
   pub same_running : {S : Type 0} (started started' : List S) (number_of : S → ℕ) (whole faulted whole' faulted' : ℕ) (first new : V) → started' ≡ started
@@ -79,23 +85,24 @@ module _ {V : Type 0} (turns : V → Turn → V → Type 0) (HasEnded : Finished
       (subst (λ (v : V). Hears turns HasEnded first whole faulted v (live_of started number_of)) (sym is) h)
 
   -- the same sessions run, and one connection more is counted
-  pub one_counted : {S : Type 0} (started started' : List S) (number_of : S → ℕ) (whole faulted whole' faulted' : ℕ) (old new : V) → started' ≡ started
-      → whole' ≡ whole → faulted' ≡ faulted + 1
-      → HearsOfNone turns HasEnded old new → StillHears turns HasEnded whole faulted old (live_of started number_of) whole' faulted' new
+  pub one_counted : {S : Type 0} (started started' : List S) (number_of : S → ℕ) (number whole faulted whole' faulted' : ℕ) (old new : V) → started' ≡ started
+      → whole' ≡ whole → faulted' ≡ faulted + 1 → AreApart (with_one number (live_of started number_of))
+      → HearsOfNone turns HasEnded number old new → StillHears turns HasEnded whole faulted old (live_of started number_of) whole' faulted' new
       (live_of started' number_of)
-  one_counted started started' number_of whole faulted whole' faulted' old new same same' one none first h =
+  one_counted started started' number_of number whole faulted whole' faulted' old new same same' one apart none first h =
       same_running started started' number_of whole (faulted + 1) whole' faulted' first new same same' one
-      (none whole faulted (live_of started number_of) first h)
+      (none whole faulted (live_of started number_of) apart first h)
 
   -- one session more runs
   pub one_started : {S : Type 0} (before started started' : List S) (number_of : S → ℕ) (number whole faulted whole' faulted' : ℕ) (old new : V)
       → started ≡ before → whole' ≡ whole → faulted' ≡ faulted
-      → IsOneMore number (live_of started number_of) (live_of started' number_of) → HearsOfJobs turns HasEnded number old new
+      → IsOneMore number (live_of started number_of) (live_of started' number_of) → AreApart (live_of started' number_of)
+      → HearsOfJobs turns HasEnded number old new
       → StillHears turns HasEnded whole faulted old (live_of before number_of) whole' faulted' new (live_of started' number_of)
-  one_started {S} before started started' number_of number whole faulted whole' faulted' old new same same' same'' one jobs first h =
+  one_started {S} before started started' number_of number whole faulted whole' faulted' old new same same' same'' one apart jobs first h =
       same_running started' started' number_of whole faulted whole' faulted' first new refl same' same''
       (jobs whole faulted (live_of before number_of) (live_of started' number_of)
-      (subst (λ (l : List S). IsOneMore number (live_of l number_of) (live_of started' number_of)) same one) first h)
+      (subst (λ (l : List S). IsOneMore number (live_of l number_of) (live_of started' number_of)) same one) apart first h)
 
 -- one of them is joined
 pub one_joined : {S : Type 0} (started started' : List S) (number_of : S → ℕ) (place : ℕ) (x : S) → place < length started → x ≡ get_or started place x
@@ -108,7 +115,7 @@ one_joined {S} started started' number_of place x there is is' m =
     subst (λ (y : S). sum_by f (swap_remove started place x) + f y ≡ sum_by f started) (sym is) e in
     subst (λ (l : List S). sum_by f started ≡ sum_by f l + f x) (sym is') (sym e')
 
-none_live : {S : Type 0} (started : List S) (number_of : S → ℕ) → length started ≡ 0 → (n : ℕ) → live_of started number_of n ≡ 0
+pub none_live : {S : Type 0} (started : List S) (number_of : S → ℕ) → length started ≡ 0 → (n : ℕ) → live_of started number_of n ≡ 0
 none_live [] number_of none n = refl
 none_live (s ∷ started) number_of none n = omega (arith, none)
 

@@ -49,11 +49,12 @@ abbrev pub times : (Turn → ℕ) → List Turn → ℕ
 times is_such [] = 0
 times is_such (turn ∷ earlier) = is_such turn + times is_such earlier
 
--- after none of these calls more ends of this number were heard than its jobs had been made
+-- after each of these calls as many ends of this number were heard as its jobs had been made, or one less
 abbrev pub EndsFollow : ℕ → List Turn → Type 0
 EndsFollow number [] = Unit {0}
 EndsFollow number (turn ∷ earlier) =
     (times (ended_for number) (turn ∷ earlier) ≤ times (made_for number) (turn ∷ earlier))
+    × (times (made_for number) (turn ∷ earlier) ≤ times (ended_for number) (turn ∷ earlier) + 1)
     × EndsFollow number earlier
 
 -- of how many of these each number is the number
@@ -65,9 +66,17 @@ abbrev pub IsOneEnd : Finished → ℕ → ℕ → ℕ → ℕ → Type 0
 IsOneEnd finished whole faulted whole' faulted' =
     (whole' ≡ whole + whole_of finished) × (whole' + faulted' ≡ whole + faulted + 1)
 
+-- the same, with one more that has this number
+abbrev pub with_one : ℕ → (ℕ → ℕ) → ℕ → ℕ
+with_one number live n = live n + is_same n number
+
 -- one more has this number
 abbrev pub IsOneMore : ℕ → (ℕ → ℕ) → (ℕ → ℕ) → Type 0
 IsOneMore number old new = (n : ℕ) → new n ≡ old n + is_same n number
+
+-- no two have one number
+abbrev pub AreApart : (ℕ → ℕ) → Type 0
+AreApart live = (number : ℕ) → live number ≤ 1
 
 -- what it hears of an end is so
 abbrev pub TellsSo : (Finished → Type 0) → Turn → Type 0
@@ -105,14 +114,14 @@ module _ {V : Type 0} (turns : V → Turn → V → Type 0) (HasEnded : Finished
       → Hears turns HasEnded first whole faulted now live
       → Hears turns HasEnded first whole' faulted' now' live'
 
-  -- one more session has jobs
+  -- one more session has jobs, and a number that was free
   abbrev pub HearsOfJobs : ℕ → V → V → Type 0
-  HearsOfJobs number old new = (whole faulted : ℕ) (live live' : ℕ → ℕ)
-      → IsOneMore number live live' → StillHears whole faulted old live whole faulted new live'
+  HearsOfJobs number old new = (whole faulted : ℕ) (live live' : ℕ → ℕ) → IsOneMore number live live'
+      → AreApart live' → StillHears whole faulted old live whole faulted new live'
 
-  -- one more connection is counted
-  abbrev pub HearsOfNone : V → V → Type 0
-  HearsOfNone old new = (whole faulted : ℕ) (live : ℕ → ℕ)
+  -- one more connection is counted, for which this number was free
+  abbrev pub HearsOfNone : ℕ → V → V → Type 0
+  HearsOfNone number old new = (whole faulted : ℕ) (live : ℕ → ℕ) → AreApart (with_one number live)
       → StillHears whole faulted old live whole (faulted + 1) new live
 
   -- one more session has ended

@@ -6,7 +6,8 @@ ghost use Rattle.std.specs.Prelude.{vec_items, vec_len};
 ghost use Rattle.tn_serve.specs.Causes.{IsCaused};
 ghost use Rattle.tn_serve.specs.Counted.{CountsSessions, HasEnded, StillCounts, facts_of, server_of};
 ghost use Rattle.tn_serve.specs.Ends.{ServesAll, ServesUntil};
-ghost use Rattle.tn_serve.specs.Places.{HasNoPlace, RunsOver, count_from};
+ghost use Rattle.tn_serve.specs.Places.{AreHeld, AreHeldBeside, HasNoPlace, RunsAll, RunsOver};
+ghost use Rattle.tn_serve.specs.Places.{count_from};
 ghost use Rattle.tn_serve.specs.Services.{MakesOnly, StillMakes, TurnsAway, WasTurnedAway};
 ghost use Rattle.tn_serve.specs.Turns.{HearsAll, HearsOfJobs, HearsOfNone, StillHears, live_of};
 ghost use Rattle.tn_network.specs.Asked.{Accepts, Listens};
@@ -226,7 +227,8 @@ impl<H: Host + Network, V: Service, O: Asked<V::Jobs>> Open<H, V, O> {
             O.made O.turned)
             self.old.running.whole self.old.running.faulted self.old.running.refused
             self.new.running.whole self.new.running.faulted self.new.running.refused }
-        ensures heard { StillHears V.turns (HasEnded (server_of
+        ensures heard { AreHeld self.old.roster (vec_items self.old.running.started) (λ s. s.caller.number)
+            → StillHears V.turns (HasEnded (server_of
             (facts_of V.Job.fresh V.Jobs.gives V.Job.reacts V.Job.steps V.Job.refuses) V.Jobs.left O.options
             O.made O.turned))
             self.old.running.whole self.old.running.faulted self.old.service
@@ -262,13 +264,16 @@ impl<H: Host + Network, V: Service, O: Asked<V::Jobs>> Open<H, V, O> {
             O.made O.turned)
             self.old.running.whole self.old.running.faulted self.old.running.refused
             self.new.running.whole self.new.running.faulted self.new.running.refused }
-        ensures heard { StillHears V.turns (HasEnded (server_of
+        ensures heard { AreHeld self.old.roster (vec_items self.old.running.started) (λ s. s.caller.number)
+            → StillHears V.turns (HasEnded (server_of
             (facts_of V.Job.fresh V.Jobs.gives V.Job.reacts V.Job.steps V.Job.refuses) V.Jobs.left O.options
             O.made O.turned))
             self.old.running.whole self.old.running.faulted self.old.service
             (live_of (vec_items self.old.running.started) (λ s. s.caller.number))
             self.new.running.whole self.new.running.faulted self.new.service
             (live_of (vec_items self.new.running.started) (λ s. s.caller.number)) }
+        ensures held { AreHeld self.old.roster (vec_items self.old.running.started) (λ s. s.caller.number)
+            → AreHeld self.new.roster (vec_items self.new.running.started) (λ s. s.caller.number) }
         ensures makes { StillMakes V.makes self.old.service self.new.service }
         ensures rt { self.new.rt ≡ self.old.rt }
     {
@@ -295,20 +300,25 @@ impl<H: Host + Network, V: Service, O: Asked<V::Jobs>> Open<H, V, O> {
             O.made O.turned)
             self.old.running.whole self.old.running.faulted self.old.running.refused
             self.new.running.whole self.new.running.faulted self.new.running.refused }
-        ensures heard { StillHears V.turns (HasEnded (server_of
+        ensures heard { AreHeld self.old.roster (vec_items self.old.running.started) (λ s. s.caller.number)
+            → StillHears V.turns (HasEnded (server_of
             (facts_of V.Job.fresh V.Jobs.gives V.Job.reacts V.Job.steps V.Job.refuses) V.Jobs.left O.options
             O.made O.turned))
             self.old.running.whole self.old.running.faulted self.old.service
             (live_of (vec_items self.old.running.started) (λ s. s.caller.number))
             self.new.running.whole self.new.running.faulted self.new.service
             (live_of (vec_items self.new.running.started) (λ s. s.caller.number)) }
+        ensures held { AreHeld self.old.roster (vec_items self.old.running.started) (λ s. s.caller.number)
+            → AreHeld self.new.roster (vec_items self.new.running.started) (λ s. s.caller.number) }
         ensures makes { StillMakes V.makes self.old.service self.new.service }
         ensures rt { self.new.rt ≡ self.old.rt }
-        ensures over { RunsOver (λ s. s.session.promise.stream.value) stream
+        ensures over { RunsOver (λ s. s.session.promise.stream.value) (λ s. s.caller)
+            stream peer.now (self.old.running.accepted + 1)
             (vec_items self.old.running.started) (vec_items self.new.running.started) }
-        ensures full { (self.new.running.refused ≡ self.old.running.refused)
-            ⊎ HasNoPlace self.old.roster self.old.serving.per_host (count_from (λ s. s.caller.peer) peer.now
-            (vec_items self.old.running.started)) }
+        ensures full { AreHeld self.old.roster (vec_items self.old.running.started) (λ s. s.caller.number)
+            → (self.new.running.refused ≡ self.old.running.refused)
+            ⊎ RunsAll (vec_len self.old.running.started) self.old.serving.sessions self.old.serving.per_host
+            (count_from (λ s. s.caller.peer) peer.now (vec_items self.old.running.started)) }
     {
         if self.running.accepted >= self.serving.count {
             return;
@@ -372,6 +382,7 @@ impl<H: Host + Network, V: Service, O: Asked<V::Jobs>> Open<H, V, O> {
         ensures started { self.new.running.started ≡ self.old.running.started }
         ensures counts { (self.new.running.whole ≡ self.old.running.whole)
             × (self.new.running.faulted ≡ self.old.running.faulted) }
+        ensures roster { self.new.roster ≡ self.old.roster }
         ensures service { self.new.service ≡ self.old.service }
         ensures rt { self.new.rt ≡ self.old.rt }
     {
@@ -393,16 +404,22 @@ impl<H: Host + Network, V: Service, O: Asked<V::Jobs>> Open<H, V, O> {
             O.made O.turned)
             self.old.running.whole self.old.running.faulted self.old.running.refused
             self.new.running.whole self.new.running.faulted self.new.running.refused }
-        ensures heard { StillHears V.turns (HasEnded (server_of
+        ensures heard { AreHeldBeside caller.number self.old.roster
+            (vec_items self.old.running.started) (λ s. s.caller.number)
+            → StillHears V.turns (HasEnded (server_of
             (facts_of V.Job.fresh V.Jobs.gives V.Job.reacts V.Job.steps V.Job.refuses) V.Jobs.left O.options
             O.made O.turned))
             self.old.running.whole self.old.running.faulted self.old.service
             (live_of (vec_items self.old.running.started) (λ s. s.caller.number))
             self.new.running.whole self.new.running.faulted self.new.service
             (live_of (vec_items self.new.running.started) (λ s. s.caller.number)) }
+        ensures held { AreHeldBeside caller.number self.old.roster
+            (vec_items self.old.running.started) (λ s. s.caller.number)
+            → AreHeld self.new.roster (vec_items self.new.running.started) (λ s. s.caller.number) }
         ensures makes { StillMakes V.makes self.old.service self.new.service }
         ensures rt { self.new.rt ≡ self.old.rt }
-        ensures over { RunsOver (λ s. s.session.promise.stream.value) stream
+        ensures over { RunsOver (λ s. s.session.promise.stream.value) (λ s. s.caller)
+            stream caller.peer caller.serial
             (vec_items self.old.running.started) (vec_items self.new.running.started) }
         ensures refused { self.new.running.refused ≡ self.old.running.refused }
     {
@@ -428,6 +445,9 @@ impl<H: Host + Network, V: Service, O: Asked<V::Jobs>> Open<H, V, O> {
         ensures one { (self.new.running.whole ≡ self.old.running.whole)
             × (self.new.running.faulted ≡ self.old.running.faulted + 1)
             × (self.new.running.refused ≡ self.old.running.refused) }
+        ensures held { AreHeldBeside caller.now.number self.old.roster
+            (vec_items self.old.running.started) (λ s. s.caller.number)
+            → AreHeld self.new.roster (vec_items self.new.running.started) (λ s. s.caller.number) }
         ensures service { self.new.service ≡ self.old.service }
         ensures rt { self.new.rt ≡ self.old.rt }
     {
@@ -452,10 +472,11 @@ impl<H: Host + Network, V: Service, O: Asked<V::Jobs>> Open<H, V, O> {
             (facts_of V.Job.fresh V.Jobs.gives V.Job.reacts V.Job.steps V.Job.refuses) V.Jobs.left O.options
             O.made O.turned))
             started.caller.number self.old.service self.new.service) }
+        ensures caller { IfSome result (λ started. started.caller ≡ caller) }
         ensures none { IfNone result (HearsOfNone V.turns (HasEnded (server_of
             (facts_of V.Job.fresh V.Jobs.gives V.Job.reacts V.Job.steps V.Job.refuses) V.Jobs.left O.options
             O.made O.turned))
-            self.old.service self.new.service) }
+            caller.number self.old.service self.new.service) }
         ensures over { IfSome result (λ started. started.session.promise.stream.value ≡ stream) }
         ensures rt { self.new.rt ≡ self.old.rt }
     {
@@ -535,6 +556,8 @@ impl<H: Host + Network, V: Service, O: Asked<V::Jobs>> Open<H, V, O> {
             (live_of (vec_items self.old.running.started) (λ s. s.caller.number))
             self.new.running.whole self.new.running.faulted self.new.service
             (live_of (vec_items self.new.running.started) (λ s. s.caller.number)) }
+        ensures held { AreHeld self.old.roster (vec_items self.old.running.started) (λ s. s.caller.number)
+            → AreHeld self.new.roster (vec_items self.new.running.started) (λ s. s.caller.number) }
         ensures makes { StillMakes V.makes self.old.service self.new.service }
         ensures rt { self.new.rt ≡ self.old.rt }
     {
@@ -559,6 +582,8 @@ impl<H: Host + Network, V: Service, O: Asked<V::Jobs>> Open<H, V, O> {
             (live_of (vec_items self.old.running.started) (λ s. s.caller.number))
             self.new.running.whole self.new.running.faulted self.new.service
             (live_of (vec_items self.new.running.started) (λ s. s.caller.number)) }
+        ensures held { AreHeld self.old.roster (vec_items self.old.running.started) (λ s. s.caller.number)
+            → AreHeld self.new.roster (vec_items self.new.running.started) (λ s. s.caller.number) }
         ensures fewer { vec_len self.new.running.started + 1 ≡ vec_len self.old.running.started }
         ensures accepted { self.new.running.accepted ≡ self.old.running.accepted }
         ensures makes { StillMakes V.makes self.old.service self.new.service }

@@ -1,6 +1,7 @@
 use Rattle.std.proofs.Common.{ℕ, subst, sym, vec_items, ◌∙◌}
 use Rattle.tn_serve.proofs.Counting.{counts_from_none}
 use Rattle.tn_serve.proofs.Hearing.{hears_all}
+use Rattle.tn_serve.proofs.Holding.{none_held}
 use Rattle.tn_serve.specs.Counted.{HasEnded, facts_of, server_of}
 use Rattle.tn_serve.specs.Turns.{HearsAll}
 use Rattle.tn_serve.proofs.serving.serve_as.Goals as goal
@@ -31,4 +32,6 @@ returns-clause-heard g c =
     started.whole started.faulted joined.running.whole joined.running.faulted c.args.service joined.service
     (c.new-2.ensures.counts.0, c.new-2.ensures.counts.1) (sym started.started.ok.0 ∙ c.new-2.ensures.none)
     (sym joined.running.started.ok.0 ∙ c.join_all.ensures.none)
-    (λ first h. c.join_all.ensures.heard first (c.serve_all.ensures.heard first h))))
+    (λ first h. c.join_all.ensures.heard first (c.serve_all.ensures.heard
+    (none_held c.in_ok-roster.roster (vec_items started.started) (λ s. s.caller.number) c.in_ok-roster.ensures.empty
+    (sym started.started.ok.0 ∙ c.new-2.ensures.none)) first h))))

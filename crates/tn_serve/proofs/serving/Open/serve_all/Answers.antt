@@ -7,7 +7,8 @@ loop-preserved g c =
       _,
       _,
       λ counts. c.handle.ensures.each (i.2 counts),
-      λ first h. c.handle.ensures.heard first (i.3 first h),
-      λ jobs made. i.4 jobs (c.handle.ensures.makes jobs made),
-      c.handle.ensures.rt ∙ i.5,
+      λ held. c.handle.ensures.held (i.3 held),
+      λ held first h. c.handle.ensures.heard (i.3 held) first (i.4 held first h),
+      λ jobs made. i.5 jobs (c.handle.ensures.makes jobs made),
+      c.handle.ensures.rt ∙ i.6,
     )

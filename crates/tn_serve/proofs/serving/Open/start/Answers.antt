@@ -9,7 +9,7 @@ pub returns-in_default-clause-none : goal.returns-in_default-clause-none
 returns-in_default-clause-none g c =
     let server = server_of (facts_of g.V.Job.Job.fresh g.V.Jobs.Maker.gives g.V.Job.Job.reacts g.V.Job.Job.steps g.V.Job.Job.refuses) g.V.Jobs.Maker.left
     g.O.Asked.options g.O.Asked.made g.O.Asked.turned in
-    not_asked g.V.Service.turns (HasEnded server) c.args.self.now.service
+    not_asked g.V.Service.turns (HasEnded server) c.args.caller.number c.args.self.now.service
 
 pub returns-in_default-session-clause-none : goal.returns-in_default-session-clause-none
 returns-in_default-session-clause-none g c =
