@@ -1,11 +1,11 @@
 -- Which session a client runs over a connection.
-use Rattle.std.specs.Prelude.{◌≡◌, ℕ, Option, Some, None, List, [], Result, Ok, Err, IsOk}
+use Rattle.std.specs.Prelude.{◌≡◌, ℕ, Option, Some, None, List, [], Result, Ok, Err, IfErr}
 use Rattle.std.specs.declared.io.Error.{Error}
 use Rattle.std.specs.declared.net.tcp.TcpStream.{TcpStream}
 use Rattle.crossbeam_channel.specs.Claims.{view}
+use Rattle.tn_connect.specs.Faults.{IsToldAs}
 use Rattle.tn_connect.specs.declared.connected.Connected.{Connected}
 use Rattle.tn_connect.specs.declared.fault.ConnectFault.{ConnectFault}
-use Rattle.tn_connect.specs.declared.fault.ConnectFault.TheVariants.{Network, Session, Memory}
 use Rattle.tn_connect.specs.declared.settings.Connecting.{Connecting}
 use Rattle.tn_connect.specs.declared.settings.KeySource.{KeySource}
 use Rattle.tn_connect.specs.declared.settings.KeySource.TheVariants.{Reader, Input, Terminal}
@@ -75,13 +75,11 @@ RunsClient window keys seen now connected =
 abbrev pub connection_of : Connected → TcpStream
 connection_of connected = connected.connection.value
 
--- a session ran over the connection that there is; where one was to run, there was a connection
+-- a session ran over the connection that there is; where there was none, that is told
 abbrev pub NeedsConnection : {A : Type 0} → (A → TcpStream) → Result A ConnectFault → Result TcpStream Error
     → Type 0
 NeedsConnection over (Ok ran) reached = reached ≡ Ok (over ran)
-NeedsConnection over (Err Session) reached = IsOk reached
-NeedsConnection over (Err Network) reached = Unit {0}
-NeedsConnection over (Err Memory) reached = Unit {0}
+NeedsConnection over (Err fault) reached = IfErr reached (λ error. IsToldAs error fault)
 
 -- it was asked for a connection, and this came of it, over that connection
 abbrev pub ConnectsBy : {A : Type 0} → (A → TcpStream) → (Result TcpStream Error → Type 0)

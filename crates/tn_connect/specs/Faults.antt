@@ -1,8 +1,18 @@
 -- Which faults come from where.
+use Rattle.std.specs.Prelude.{◌≡◌, ◌≢◌}
+use Rattle.std.specs.IoError.{error_kind}
+use Rattle.std.specs.declared.io.Error.{Error}
+use Rattle.std.specs.declared.io.ErrorKind.TheVariants.{OutOfMemory}
 use Rattle.tn_connect.specs.declared.fault.ConnectFault.{ConnectFault}
 use Rattle.tn_connect.specs.declared.fault.ConnectFault.TheVariants.{Network, Session, Memory}
 
--- what an error of the network is told as
+-- an error of the network is told as this: out of memory as that
+abbrev pub IsToldAs : Error → ConnectFault → Type 0
+IsToldAs error Network = error_kind error ≢ OutOfMemory
+IsToldAs error Memory = error_kind error ≡ OutOfMemory
+IsToldAs error Session = ⊥
+
+-- it may be what an error of the network is told as
 abbrev pub IsOfNetwork : ConnectFault → Type 0
 IsOfNetwork Network = Unit {0}
 IsOfNetwork Memory = Unit {0}

@@ -75,6 +75,7 @@ struct Talked {
 }
 
 // Lays out a connection's two directions.
+#[tactic(auto, using(crate::proofs::Faults::of_network))]
 fn wire<H: Host, Q: Queue>(
     rt: H,
     alloc: Global,

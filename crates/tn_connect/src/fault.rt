@@ -40,9 +40,9 @@ impl<T: Drop> From<AllocFailed<T>> for ConnectFault {
 }
 
 impl From<io::Error> for ConnectFault {
-    ghost use Rattle.tn_connect.specs.Faults.{IsOfNetwork};
+    ghost use Rattle.tn_connect.specs.Faults.{IsToldAs};
 
-    ghost from_gives = { λ _ told. IsOfNetwork told };
+    ghost from_gives = { λ error told. IsToldAs error told };
 
     fn from(error: io::Error) -> ConnectFault {
         if error.kind() == io::ErrorKind::OutOfMemory {

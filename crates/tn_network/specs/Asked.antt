@@ -1,24 +1,35 @@
 -- What was asked of a network, by several calls of it.
-use Rattle.std.specs.Prelude.{◌≡◌, ℕ, zero, suc, All, List, Contains, MatchResult, Result, Ok, Err, IfOk}
+use Rattle.std.specs.Prelude.{◌≡◌, ℕ, zero, suc, List, [], ◌∷◌, Contains, MatchResult, Result, Ok, Err, IfOk}
+use Rattle.std.specs.IoError.{error_kind}
 use Rattle.std.specs.Net.ToAddrs.{HostAddrs, host_addrs}
 use Rattle.std.specs.declared.io.Error.{Error}
+use Rattle.std.specs.declared.io.ErrorKind.TheVariants.{NotFound}
 use Rattle.std.specs.declared.net.socket_addr.SocketAddr.{SocketAddr}
 use Rattle.std.specs.declared.net.tcp.TcpListener.{TcpListener}
 use Rattle.std.specs.declared.net.tcp.TcpStream.{TcpStream}
 
--- a connection to this address was asked for, and there was none
-abbrev pub Refuses : (SocketAddr → Result TcpStream Error → Type 0) → SocketAddr → Type 0
-Refuses dials address = (error : Error) × dials address (Err error)
+-- a connection to each of these addresses was asked for, in order, and there was none; of the first error,
+-- which was there before, and of theirs this is the last
+abbrev pub RefuseAll : (SocketAddr → Result TcpStream Error → Type 0) → List SocketAddr → Error → Error → Type 0
+RefuseAll dials [] first last = last ≡ first
+RefuseAll dials (address ∷ addresses) first last =
+    (error : Error) × dials address (Err error) × RefuseAll dials addresses error last
+
+-- each of these addresses was asked in vain, and this is the last error, or that nothing was found where there
+-- are none
+abbrev pub AreRefused : (SocketAddr → Result TcpStream Error → Type 0) → List SocketAddr → Error → Type 0
+AreRefused dials addresses last =
+    (first : Error) × (error_kind first ≡ NotFound) × RefuseAll dials addresses first last
 
 -- The addresses of a host were asked for; where there is a connection, one of them was asked for it, and where
--- there is none, each of them was, or no address was found.
+-- there is none, each of them was, or they were not found, and this is why.
 abbrev pub Reaches : (Result HostAddrs Error → Type 0) → (SocketAddr → Result TcpStream Error → Type 0)
     → Result TcpStream Error → Type 0
 Reaches finds dials result =
     (found : Result HostAddrs Error) × finds found
     × MatchResult result (λ stream. (addresses : HostAddrs) × (found ≡ Ok addresses) × (address : SocketAddr)
     × Contains (host_addrs addresses) address × dials address (Ok stream))
-    (λ error. MatchResult found (λ addresses. All (λ address. Refuses dials address) (host_addrs addresses))
+    (λ error. MatchResult found (λ addresses. AreRefused dials (host_addrs addresses) error)
     (λ unfound. error ≡ unfound))
 
 -- each connection of a number below this one was accepted

@@ -2,13 +2,13 @@
 use Rattle.std.specs.Prelude.{◌≡◌, ℕ, ◌⊎◌, List, Result, Ok, Err}
 use Rattle.std.specs.declared.io.Error.{Error}
 use Rattle.std.specs.declared.net.tcp.TcpListener.{TcpListener}
-use Rattle.tn_serve.specs.Faults.{IsOfNetwork}
+use Rattle.tn_serve.specs.Faults.{IsToldAs}
 use Rattle.tn_serve.specs.declared.fault.ServeFault.{ServeFault}
 
--- it failed by what an error of the network is told as
-abbrev pub FailsByNetwork : {A : Type 0} → Result A ServeFault → Type 0
-FailsByNetwork (Ok done) = ⊥
-FailsByNetwork (Err fault) = IsOfNetwork fault
+-- it failed by what this error is told as
+abbrev pub FailsBy : {A : Type 0} → Error → Result A ServeFault → Type 0
+FailsBy error (Ok done) = ⊥
+FailsBy error (Err fault) = IsToldAs error fault
 
 abbrev refused : Error → Result TcpListener Error
 refused error = Err error
@@ -17,4 +17,4 @@ refused error = Err error
 abbrev pub IsCaused : {A : Type 0} → (Result TcpListener Error → Type 0) → List ℕ → List ℕ
     → Result A ServeFault → Type 0
 IsCaused listens old new result = (new ≡ old)
-    ⊎ ((error : Error) × listens (refused error) × FailsByNetwork result)
+    ⊎ ((error : Error) × listens (refused error) × FailsBy error result)

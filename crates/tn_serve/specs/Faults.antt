@@ -1,14 +1,18 @@
 -- Which faults come from where.
+use Rattle.std.specs.Prelude.{◌≡◌, ◌≢◌}
+use Rattle.std.specs.IoError.{error_kind}
+use Rattle.std.specs.declared.io.Error.{Error}
+use Rattle.std.specs.declared.io.ErrorKind.TheVariants.{OutOfMemory}
 use Rattle.tn_serve.specs.declared.fault.ServeFault.{ServeFault}
 use Rattle.tn_serve.specs.declared.fault.ServeFault.TheVariants.{Network, Limit, Memory}
 use Rattle.tn_roster.specs.declared.RosterFault.{RosterFault}
 use Rattle.tn_roster.specs.declared.RosterFault.TheVariants as roster
 
--- what an error of the network is told as
-abbrev pub IsOfNetwork : ServeFault → Type 0
-IsOfNetwork Network = Unit {0}
-IsOfNetwork Memory = Unit {0}
-IsOfNetwork Limit = ⊥
+-- an error of the network is told as this: out of memory as that
+abbrev pub IsToldAs : Error → ServeFault → Type 0
+IsToldAs error Network = error_kind error ≢ OutOfMemory
+IsToldAs error Memory = error_kind error ≡ OutOfMemory
+IsToldAs error Limit = ⊥
 
 -- what a fault of the roster is told as
 abbrev pub told_as : RosterFault → ServeFault

@@ -54,9 +54,9 @@ impl From<RosterFault> for ServeFault {
 }
 
 impl From<io::Error> for ServeFault {
-    ghost use Rattle.tn_serve.specs.Faults.{IsOfNetwork};
+    ghost use Rattle.tn_serve.specs.Faults.{IsToldAs};
 
-    ghost from_gives = { λ _ told. IsOfNetwork told };
+    ghost from_gives = { λ error told. IsToldAs error told };
 
     fn from(error: io::Error) -> ServeFault {
         if error.kind() == io::ErrorKind::OutOfMemory {

@@ -67,6 +67,10 @@ abbrev pub command_in : Typed → List EscapeCommand
 command_in (typed.Command command) = command ∷ []
 command_in _ = []
 
+abbrev pub is_key : SessionInput → Bool
+is_key (input.Key byte) = true
+is_key (input.Control control) = false
+
 -- what a session gets of what is typed, in its order; where the flag is set, an escape character came before
 abbrev pub inputs : Keyboard → Bool → List ℕ → List SessionInput
 inputs keyboard waits [] = []

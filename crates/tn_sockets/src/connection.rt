@@ -1,6 +1,6 @@
 //! One end of a connection, as a session uses it.
 
-ghost use Rattle.std.specs.Prelude.{◌≡◌, IfOk};
+ghost use Rattle.std.specs.Prelude.{◌≡◌, IfOk, Some};
 ghost use Rattle.libc.specs.Net.{SockOption};
 
 use crate::attended::Standing;
@@ -57,7 +57,8 @@ impl Connection<TcpStream> {
 impl<S: Drop> Connection<S> {
     /// The same, of which the reading side has to know when it is finished.
     pub fn with_standing(self, standing: Arc<Standing, Global>) -> Connection<S>
-        ensures { result.stream ≡ self.stream }
+        ensures stream { result.stream ≡ self.stream }
+        ensures standing { result.standing ≡ Some standing }
     {
         let standing = Some(standing);
         Connection { standing, ..self }

@@ -2,7 +2,9 @@
 //! asked for between them.
 
 ghost use Rattle.std.specs.Prelude.{◌≡◌, ◌≤◌, ◌+◌, ◌++◌, IsTrue, length, map, option_to_list, take};
+ghost use Rattle.std.specs.List.{count_by};
 ghost use Rattle.std.specs.VecDeque.{deque_capacity, deque_len};
+ghost use Rattle.tn_sockets.specs.Typing.{is_key};
 ghost use Rattle.tn_sockets.specs.declared.escaping.SessionInput.TheVariants as input;
 
 use crate::escaping::SessionInput;
@@ -21,10 +23,16 @@ pub(crate) fn makes_room(kept: &mut VecDeque<SessionInput>, count: usize) -> boo
 }
 
 /// How many of what is kept are keys.
-pub(crate) fn count_keys(kept: &VecDeque<SessionInput>) -> usize {
-    kept.iter()
-        .filter(|input| matches!(input, SessionInput::Key(_)))
-        .count()
+pub(crate) fn count_keys(kept: &VecDeque<SessionInput>) -> usize
+    ensures { result ≡ count_by is_key kept.now.items }
+{
+    let mut count = 0usize;
+    for input in kept {
+        if matches!(input, SessionInput::Key(_)) {
+            count += 1;
+        }
+    }
+    count
 }
 
 /// Gives the first keys, as many as there is room for, and none behind a control function.

@@ -32,8 +32,8 @@ pub fn write_front<W: Drain>(writer: &mut W, bytes: &[u8]) -> usize
     at
 }
 
-/// Writes these bytes, or the first of them where a write fails, and returns whether it wrote all, as
-/// `write_front` does.
+/// Writes these bytes one write after another, and returns true. Where a write fails (see `write_front`) it
+/// stops, and returns false: the first of them are written.
 pub fn write_all<W: Drain>(writer: &mut W, bytes: &[u8]) -> bool
     ensures writes { Writes result (W.contents writer.old) (W.contents writer.new) bytes.now }
     ensures tells { Tells result (W.told writer.old) (W.told writer.new) }

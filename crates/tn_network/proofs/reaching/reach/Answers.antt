@@ -1,14 +1,12 @@
-use Rattle.std.proofs.Common.{All, Ok, Contains, refl, [], ◌∷◌, ◌++◌, subst}
-use Rattle.std.proofs.lemmas.List.Elements.{All-nil, All-push}
+use Rattle.std.proofs.Common.{Ok, Contains, refl, [], ◌∷◌, ◌++◌, subst}
 use Rattle.std.specs.Array.Iter.{array_into_iter_items}
 use Rattle.std.specs.Net.ToAddrs.{HostAddrs, host_addrs}
-use Rattle.tn_network.specs.Asked.{Refuses}
-use Rattle.std.specs.declared.net.socket_addr.SocketAddr.{SocketAddr}
-use Rattle.tn_network.proofs.Tried.{none_left, taken, tried_all, tried_one}
+use Rattle.tn_network.specs.Asked.{AreRefused}
+use Rattle.tn_network.proofs.Tried.{none_left, refuse_more, taken, tried_all, tried_one}
 use Rattle.tn_network.proofs.reaching.reach.Goals as goal
 
 pub loop-address-init : goal.loop-address-init
-loop-address-init g c = (_, _, ([], refl, All-nil (λ address. Refuses (g.N.Network.dials c.args.net.now) address)))
+loop-address-init g c = (_, _, ([], refl, refl))
 
 pub returns-in-Ok-dial-clause-reaches : goal.returns-in-Ok-dial-clause-reaches
 returns-in-Ok-dial-clause-reaches g c =
@@ -30,14 +28,17 @@ pub loop-address-preserved : goal.loop-address-preserved
 loop-address-preserved g c =
     let i = c.loop-address.invariant.2 in
     let step = taken _ _ _ _ c.in-Some.address c.in-Some.ensures.steps.0 c.in-Some.ensures.steps.1 in
-    let Refused : SocketAddr → Type 0 = λ address. Refuses (g.N.Network.dials c.args.net.now) address in
-    let each = All-push Refused i.0 c.in-Some.address i.2 (c.in-Err-dial.error, c.in-Err-dial.ensures) in
+    let each = refuse_more (g.N.Network.dials c.args.net.now) i.0 c.in-Some.address _ _ c.in-Err-dial.error i.2 c.in-Err-dial.ensures in
     (_, _, (i.0 ++ c.in-Some.address ∷ [], (tried_one _ i.0 _ _ c.in-Some.address i.1 step).0, each))
 
 pub returns-clause-reaches : goal.returns-clause-reaches
 returns-clause-reaches g c =
     let i = c.loop-address.invariant.2 in
     let it = c.loop-address.address-iterator in
-    let Refused : SocketAddr → Type 0 = λ address. Refuses (g.N.Network.dials c.args.net.now) address in
-    let each = tried_all Refused _ i.0 _ i.1 (none_left (array_into_iter_items it.iter) it.n (λ some. (c.in-None.ensures.steps some).0)) i.2 in
-    (Ok c.in-Ok.addresses, c.in-Ok.ensures, subst (λ (it : HostAddrs). All Refused (host_addrs it)) c.into_iter-address-iterator.ensures.into_iter_gives each)
+    let dials = g.N.Network.dials c.args.net.now in
+    let each = tried_all dials _ i.0 _ _ _ i.1 (none_left (array_into_iter_items it.iter) it.n (λ some. (c.in-None.ensures.steps some).0)) i.2 in (
+      Ok c.in-Ok.addresses,
+      c.in-Ok.ensures,
+      subst (λ (it : HostAddrs). AreRefused dials (host_addrs it) c.loop-address.last) c.into_iter-address-iterator.ensures.into_iter_gives
+          (_, c.from-last.ensures, each),
+    )

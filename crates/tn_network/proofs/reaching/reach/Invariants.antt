@@ -1,13 +1,14 @@
-use Rattle.std.proofs.Common.{◌≡◌, ◌++◌, All, List}
+use Rattle.std.proofs.Common.{◌≡◌, ◌++◌, List}
 use Rattle.std.specs.Net.ToAddrs.{host_addrs}
 use Rattle.std.specs.declared.net.socket_addr.SocketAddr.{SocketAddr}
-use Rattle.tn_network.specs.Asked.{Refuses}
+use Rattle.tn_network.specs.Asked.{RefuseAll}
 use Rattle.tn_network.proofs.reaching.reach.Given as goal
 
--- the addresses that were tried and refused, and then those that are left, are those that were found
+-- the addresses that were tried and refused, the last with this error, and then those that are left, are those
+-- that were found
 abbrev pub invariant-loop-address : goal.invariant-loop-address
 invariant-loop-address g l =
     (goal.iterator-loop-address g).can_next l.address-iterator ×
     (goal.iterator-loop-address g).is_finite l.address-iterator ×
     ((tried : List SocketAddr) × (host_addrs l.initial.address-iterator ≡ tried ++ host_addrs l.address-iterator)
-    × All (λ address. Refuses (g.N.Network.dials l.net) address) tried)
+    × RefuseAll (g.N.Network.dials l.net) tried l.initial.last l.last)
