@@ -44,14 +44,16 @@ abbrev pub Accepts : (Result TcpListener Error → Type 0)
 Accepts shares accepts count =
     (listener : TcpListener) × shares (Ok listener) × AcceptsAll (accepts listener) count
 
--- A listener was asked for; where all went well, so many connections of it were accepted.
+-- A listener was asked for. Where there is one, and all went well, so many connections of it were accepted;
+-- where there is none, it failed by that error.
 abbrev pub Listens : {A E : Type 0} → (Result TcpListener Error → Type 0)
     → (TcpListener → Result TcpListener Error → Type 0)
-    → (TcpListener → ℕ → Result (TcpStream × SocketAddr) Error → Type 0) → (A → ℕ) → Result A E → Type 0
-Listens listens shares accepts count_of result =
+    → (TcpListener → ℕ → Result (TcpStream × SocketAddr) Error → Type 0) → (A → ℕ)
+    → (Error → Result A E → Type 0) → Result A E → Type 0
+Listens listens shares accepts count_of fails result =
     (bound : Result TcpListener Error) × listens bound
-    × IfOk result (λ done. (listener : TcpListener) × (bound ≡ Ok listener)
-    × Accepts (shares listener) accepts (count_of done))
+    × MatchResult bound (λ listener. IfOk result (λ done. Accepts (shares listener) accepts (count_of done)))
+    (λ error. fails error result)
 
 -- What is known of one network: what each of its calls gives evidence of.
 pub record Asking : Type 1 where

@@ -11,6 +11,7 @@ use Rattle.tn_connect.specs.declared.connected.Connected.{Connected}
 use Rattle.tn_connect.specs.declared.fault.ConnectFault.{ConnectFault}
 use Rattle.tn_connect.specs.declared.fault.ConnectFault.TheVariants as connect
 use Rattle.tn_lines.specs.declared.line_ends.LineEnd.{LineEnd}
+use Rattle.tn_serve.specs.Causes.{FailsBy}
 use Rattle.tn_serve.specs.Ends.{IfAny, ServesUntil}
 use Rattle.tn_serve.specs.declared.fault.ServeFault.{ServeFault}
 use Rattle.tn_serve.specs.declared.fault.ServeFault.TheVariants as serve
@@ -40,7 +41,8 @@ pub record EndsServing (machine : Machine) (serving : ServeWords) (ended : Resul
       (IfAny machine.sees (option_map string_bytes serving.until)))
   pub listened : UnlessMemory ended (Listens
       (machine.network.listens (string_bytes serving.host) serving.port)
-      machine.network.shares machine.network.accepts (λ (served : Served). served.accepted) ended)
+      machine.network.shares machine.network.accepts (λ (served : Served). served.accepted)
+      (λ error ended. FailsBy error ended) ended)
   pub limit : IsErrOf ended serve.Limit → ¬ IsLimit serving.sessions
   pub unwritten : new ≡ old
 

@@ -12,6 +12,7 @@ use Rattle.tn_connect.specs.declared.talks.TalkReport.{TalkReport}
 use Rattle.tn_connect.specs.declared.connected.Connected.{Connected}
 use Rattle.tn_connect.specs.declared.fault.ConnectFault.{ConnectFault}
 use Rattle.tn_lines.specs.declared.line_ends.LineEnd.{LineEnd}
+use Rattle.tn_serve.specs.Causes.{FailsBy}
 use Rattle.tn_serve.specs.Ends.{IfAny, ServesUntil}
 use Rattle.tn_serve.specs.declared.fault.ServeFault.{ServeFault}
 use Rattle.tn_serve.specs.declared.served.Served.{Served}
@@ -48,7 +49,7 @@ RunsAsked machine (Serve serving) origin bytes old new = (served : Served)
     × ServesUntil (count_as serving.count) (IfAny machine.sees (option_map string_bytes serving.until)) served
     × Listens (machine.network.listens (string_bytes serving.host) serving.port) machine.network.shares
     machine.network.accepts
-    (λ (served : Served). served.accepted) (ok served) × (new ≡ old)
+    (λ (served : Served). served.accepted) (λ error ended. FailsBy error ended) (ok served) × (new ≡ old)
 RunsAsked machine (Connect connecting) origin bytes old new =
     ((connected : Connected) × (connecting.plain ≡ None)
     × RunsClient (window_as connecting) (foreseen origin bytes) old new connected

@@ -1,7 +1,7 @@
 //! `tn serve`: its own job, or a line service that each session is joined to.
 
 ghost use Rattle.std.specs.Prelude.{◌≡◌, None, IfOk, IfSome, IsErrOf, option_map, string_bytes};
-ghost use Rattle.tn_serve.specs.Causes.{IsCaused};
+ghost use Rattle.tn_serve.specs.Causes.{FailsBy, IsCaused};
 ghost use Rattle.tn_serve.specs.Counted.{CountsSessions, facts_of, server_of};
 ghost use Rattle.tn_serve.specs.Ends.{IfAny, ServesUntil};
 ghost use Rattle.tn_serve.specs.Services.{WasTurnedAway};
@@ -39,7 +39,8 @@ where
         (IfAny (H.sees rt) (option_map string_bytes asked.now.until))) }
     ensures listened { UnlessMemory result (Listens
         (H.listens rt (string_bytes asked.now.host) asked.now.port)
-        (H.shares rt) (H.accepts rt) (λ (served : Served). served.accepted) result) }
+        (H.shares rt) (H.accepts rt) (λ (served : Served). served.accepted)
+        (λ error ended. FailsBy error ended) result) }
     ensures caused { IsCaused (H.listens rt (string_bytes asked.now.host) asked.now.port)
         causes.old.items causes.new.items result }
 

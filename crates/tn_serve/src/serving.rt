@@ -3,7 +3,7 @@
 ghost use Rattle.std.specs.Prelude.{◌≡◌, ◌⊎◌, ◌<◌, ◌≤◌, ◌+◌, ◌^◌, ◌-◌, true, IsTrue, IfOk, IfSome, IfNone};
 ghost use Rattle.std.specs.Prelude.{IsErrOf};
 ghost use Rattle.std.specs.Prelude.{vec_items, vec_len};
-ghost use Rattle.tn_serve.specs.Causes.{IsCaused};
+ghost use Rattle.tn_serve.specs.Causes.{FailsBy, IsCaused};
 ghost use Rattle.tn_serve.specs.Counted.{CountsSessions, HasEnded, StillCounts, facts_of, server_of};
 ghost use Rattle.tn_serve.specs.Ends.{ServesAll, ServesUntil};
 ghost use Rattle.tn_serve.specs.Places.{AreHeld, AreHeldBeside, HasNoPlace, RunsAll, RunsOver};
@@ -78,7 +78,7 @@ where
         (facts_of V.Job.fresh V.Jobs.gives V.Job.reacts V.Job.steps V.Job.refuses) V.Jobs.left serving.options
         (V.makes service) (WasTurnedAway (H.dismisses rt)))) service served.whole served.faulted) }
     ensures listened { Listens (H.listens rt at.entry.host.now at.entry.port) (H.shares rt) (H.accepts rt)
-        (λ (served : Served). served.accepted) result }
+        (λ (served : Served). served.accepted) (λ error ended. FailsBy error ended) result }
     ensures caused { IsCaused (H.listens rt at.entry.host.now at.entry.port)
         causes.old.items causes.new.items result }
     ensures limit { IsErrOf result ServeFault.Limit → ¬ IsLimit serving.sessions }
