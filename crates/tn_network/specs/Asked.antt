@@ -10,19 +10,20 @@ use Rattle.std.specs.declared.net.tcp.TcpStream.{TcpStream}
 
 -- a connection to each of these addresses was asked for, in order, and there was none; of the first error,
 -- which was there before, and of theirs this is the last
-abbrev pub RefuseAll : (SocketAddr → Result TcpStream Error → Type 0) → List SocketAddr → Error → Error → Type 0
+abbrev pub RefuseAll : (SocketAddr → Result TcpStream Error → Type 0) → List SocketAddr → Error → Error
+    → Type 0
 RefuseAll dials [] first last = last ≡ first
 RefuseAll dials (address ∷ addresses) first last =
     (error : Error) × dials address (Err error) × RefuseAll dials addresses error last
 
--- each of these addresses was asked in vain, and this is the last error, or that nothing was found where there
--- are none
+-- each of these addresses was asked in vain, and this is the last error; where there are none, that nothing
+-- was found
 abbrev pub AreRefused : (SocketAddr → Result TcpStream Error → Type 0) → List SocketAddr → Error → Type 0
 AreRefused dials addresses last =
     (first : Error) × (error_kind first ≡ NotFound) × RefuseAll dials addresses first last
 
--- The addresses of a host were asked for; where there is a connection, one of them was asked for it, and where
--- there is none, each of them was, or they were not found, and this is why.
+-- The addresses of a host were asked for; where there is a connection, one of them was asked for it, and
+-- where there is none, each of them was, or they were not found, and this is why.
 abbrev pub Reaches : (Result HostAddrs Error → Type 0) → (SocketAddr → Result TcpStream Error → Type 0)
     → Result TcpStream Error → Type 0
 Reaches finds dials result =

@@ -3,7 +3,8 @@
 //! ```
 //! let link = Arc::new(alloc, Link::new())?;
 //! let reader = rt.stdin();
-//! let streams = Streams { origin: KeySource::Input, reader, sizes: None, stands: None, terminal: None, link };
+//! let origin = KeySource::Input;
+//! let streams = Streams { origin, reader, sizes: None, stands: None, terminal: None, link };
 //! let status = run_words(rt, alloc, Ok(words), streams, &mut rt.stdout(), &mut rt.stderr());
 //! ```
 //!

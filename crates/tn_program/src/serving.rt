@@ -54,10 +54,12 @@ where
 
     // jobs that are joined to the service that was asked for
     ensures joins { IfSome asked.now.to (λ to. IfOk result (λ served. CountsSessions (server_of (facts_of
-        ⟦<Gateway<ServiceReader<H, TcpStream>, ServiceWriter<H, TcpStream, Noting<H>>> as Job>⟧.fresh ⟦<Joiner<H, Noting<H>> as Maker>⟧.gives
+        ⟦<Gateway<ServiceReader<H, TcpStream>, ServiceWriter<H, TcpStream, Noting<H>>> as Job>⟧.fresh
+        ⟦<Joiner<H, Noting<H>> as Maker>⟧.gives
         ⟦<Gateway<ServiceReader<H, TcpStream>, ServiceWriter<H, TcpStream, Noting<H>>> as Job>⟧.reacts
         ⟦<Gateway<ServiceReader<H, TcpStream>, ServiceWriter<H, TcpStream, Noting<H>>> as Job>⟧.steps
-        ⟦<Gateway<ServiceReader<H, TcpStream>, ServiceWriter<H, TcpStream, Noting<H>>> as Job>⟧.refuses) ⟦<Joiner<H, Noting<H>> as Maker>⟧.left
+        ⟦<Gateway<ServiceReader<H, TcpStream>, ServiceWriter<H, TcpStream, Noting<H>>> as Job>⟧.refuses)
+        ⟦<Joiner<H, Noting<H>> as Maker>⟧.left
         (options_as asked.now) (JoinsAsAsked rt (string_bytes to.host) to.port (lines_as asked.now))
         (WasTurnedAway (H.dismisses rt))) served.whole served.faulted served.refused)) }
     ensures limit { IsErrOf result ServeFault.Limit → ¬ IsLimit asked.now.sessions }

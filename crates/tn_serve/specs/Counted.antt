@@ -38,8 +38,8 @@ server_of facts left options made turned =
     record { facts = facts; left = left; options = options; made = made; turned = turned }
 
 module _ {M J : Type 0} (server : ServerFacts M J) where
-  -- a session that was joined: what made its jobs, the connection that it was to run over, and what its thread
-  -- gave back
+  -- a session that was joined: what made its jobs, the connection that it was to run over, and what its
+  -- thread gave back
   pub record Joined : Type 0 where
     pub jobs : M
     pub made : ∥ server.made jobs ∥₁

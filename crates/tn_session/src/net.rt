@@ -219,8 +219,8 @@ fn tell_end<R: Wait, Rd: Source, G: Gate>(
 // tools/progress: proctype Net, ClientNet and ClientKeys
 /// Sends the pieces that the reader gives, each for a credit where these are needed, with the sizes and the
 /// control functions that it tells between them, and then how it ended, behind its last words: after
-/// 4,294,967,295 reads as if one had failed. Where it is told to stop it leaves after a piece. `None` where the
-/// other end is gone.
+/// 4,294,967,295 reads as if one had failed. Where it is told to stop it leaves after a piece. `None` where
+/// the other end is gone.
 pub(crate) fn run_reader<R: Wait, Rd: Source + Drop, G: Gate>(
     rt: &R,
     alloc: Global,
