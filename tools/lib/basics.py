@@ -9,6 +9,7 @@ import time
 TOP = os.path.dirname(os.path.dirname(os.path.dirname(os.path.realpath(__file__))))
 PROGRAM = os.path.join(TOP, "crates", "tn", "out", "tn")
 LISTENS = "0A"
+KEEPALIVE = "02"
 
 
 def give_up(text):
@@ -73,3 +74,13 @@ def wait_for_port(port, process=None, seconds=60):
         if time.monotonic() > deadline or (process is not None and process.poll() is not None):
             give_up(f"nothing listens on port {port}")
         time.sleep(0.02)
+
+
+def probed_in(here, there):
+    """In how many seconds keepalive probes the peer of a connection from this port of the machine to that one; None where it does not."""
+    with open("/proc/net/tcp", encoding="ascii") as file:
+        for fields in (line.split() for line in file):
+            if fields[1].endswith(f":{here:04X}") and fields[2].endswith(f":{there:04X}"):
+                timer, ticks = fields[5].split(":")
+                return int(ticks, 16) / os.sysconf("SC_CLK_TCK") if timer == KEEPALIVE else None
+    return None
