@@ -1,6 +1,7 @@
 """What the tools in Python share."""
 import argparse
 import os
+import re
 import socket
 import subprocess
 import sys
@@ -74,6 +75,14 @@ def wait_for_port(port, process=None, seconds=60):
         if time.monotonic() > deadline or (process is not None and process.poll() is not None):
             give_up(f"nothing listens on port {port}")
         time.sleep(0.02)
+
+
+def timed_runs():
+    """The first line of docs/first-run.txt, and the run of each crate: its name, when it began and ended, in minutes, and its processors."""
+    with open(os.path.join(TOP, "docs", "first-run.txt"), encoding="utf-8") as file:
+        head = file.readline().strip()
+        rows = re.findall(r"^(\w+): ([0-9.]+) to ([0-9.]+) minutes, by (\d+)$", file.read(), re.M)
+    return head, [(name, float(began), float(ended), int(jobs)) for name, began, ended, jobs in rows]
 
 
 def probed_in(here, there):
