@@ -1,5 +1,6 @@
 """What the tools in Python share."""
 import argparse
+import ctypes
 import os
 import re
 import socket
@@ -11,6 +12,9 @@ TOP = os.path.dirname(os.path.dirname(os.path.dirname(os.path.realpath(__file__)
 PROGRAM = os.path.join(TOP, "crates", "tn", "out", "tn")
 LISTENS = "0A"
 KEEPALIVE = "02"
+
+# The system call that shares a descriptor of another process (Linux 5.6).
+PIDFD_GETFD = 438
 
 
 def give_up(text):
@@ -75,6 +79,23 @@ def wait_for_port(port, process=None, seconds=60):
         if time.monotonic() > deadline or (process is not None and process.poll() is not None):
             give_up(f"nothing listens on port {port}")
         time.sleep(0.02)
+
+
+def shared(process, descriptor):
+    """A copy of this descriptor of another process."""
+    copied = ctypes.CDLL(None, use_errno=True).syscall(PIDFD_GETFD, process, descriptor, 0)
+    if copied < 0:
+        raise OSError(ctypes.get_errno(), f"descriptor {descriptor} cannot be shared")
+    return copied
+
+
+def sockets_of(number):
+    """The sockets of the process with this number, which are shared with it."""
+    process = os.pidfd_open(number)
+    names = [name for name in os.listdir(f"/proc/{number}/fd") if os.readlink(f"/proc/{number}/fd/{name}").startswith("socket:")]
+    sockets = [socket.socket(fileno=shared(process, int(name))) for name in names]
+    os.close(process)
+    return sockets
 
 
 def timed_runs():

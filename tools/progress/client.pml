@@ -35,17 +35,8 @@ bool c_blocked_out, c_blocked_screen;	/* the core waits in a write */
 /* Link::hang_up shuts down both directions */
 #define HANG_UP link_down = true; fin[C2S] = true
 
-/* Link::leave, after which both directions end once all was sent */
-inline link_leave() {
-	link_left = true;
-	if
-	:: atomic { link_sent -> HANG_UP }
-	:: !link_sent
-	fi
-}
-
+/* Link::end_sending */
 inline link_end_sending() {
-	link_sent = true;
 	if
 	:: atomic { link_left -> HANG_UP }
 	:: !link_left
@@ -182,7 +173,7 @@ proctype ClientKeys() {
 #endif
 		fi;
 		if
-		:: atomic { asks_to_close -> asks_to_close = false; x = 0 }; link_leave(); goto again
+		:: atomic { asks_to_close -> asks_to_close = false; x = 0 }; link_left = true; goto again
 		:: !asks_to_close
 		fi;
 #endif

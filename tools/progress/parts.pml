@@ -12,8 +12,8 @@
 #endif
 
 #ifdef CLIENT
-bool link_closed, link_left, link_down;	/* Link: nothing more comes; the user has left; both directions are shut */
-bool link_dark, link_sent;	/* the screen takes no more; nothing more is sent */
+bool link_closed, link_left, link_down;	/* Link: nothing more comes; the user has left (Link::leave); both directions are shut */
+bool link_dark;	/* the screen takes no more */
 #endif
 
 #define C2S 0		/* from the client to the server */

@@ -25,9 +25,7 @@ pub struct Link {
     left: AtomicBool,
     /// LINEMODE is on.
     linemode: AtomicBool,
-    /// Nothing more is sent.
-    sent: AtomicBool,
-    /// How often something could not be sent at once since then.
+    /// How often something could not be sent at once since the user left, or since nothing more comes.
     late: AtomicUsize,
     /// How many keys were typed and never came to the session.
     dropped: AtomicUsize,
@@ -49,7 +47,6 @@ impl Link {
             dark: AtomicBool::new(false),
             left: AtomicBool::new(false),
             linemode: AtomicBool::new(false),
-            sent: AtomicBool::new(false),
             late: AtomicUsize::new(0),
             dropped: AtomicUsize::new(0),
             edits_here: AtomicBool::new(false),
@@ -86,9 +83,6 @@ impl Link {
     /// The user leaves: what still fails is no fault, and both directions end once all was sent.
     pub(crate) fn leave(&self) {
         self.left.store(true, Ordering::SeqCst);
-        if self.sent.load(Ordering::SeqCst) {
-            self.hang_up();
-        }
     }
 
     /// Whether the user has left.
@@ -96,9 +90,9 @@ impl Link {
         self.left.load(Ordering::SeqCst)
     }
 
-    /// Nothing more is sent.
+    /// Nothing more is sent: the keys have ended, so a user who leaves has left by now, or nothing that is typed
+    /// has any effect any more.
     pub(crate) fn end_sending(&self) {
-        self.sent.store(true, Ordering::SeqCst);
         if self.is_left() {
             self.hang_up();
         }
