@@ -1,5 +1,6 @@
-//! A job of one's own at a port: it quotes what each client types. This run serves one connection, to a
-//! client in this program, which sends what comes on standard input and prints what it was sent.
+//! A job of one's own at a port: it quotes what each client of this machine types. This run serves one
+//! connection, to a client in this program, which sends what comes on standard input and prints what it was
+//! sent.
 #![tactic(auto)]
 
 ghost use Rattle.std.specs.Prelude.{◌≡◌, IfOk};
@@ -36,14 +37,15 @@ impl Service for Quoters {
 
     type Jobs = OneQuoter;
 
-    fn session(&mut self, _alloc: Global, _call: Call) -> Result<OneQuoter, AllocError> {
-        Ok(OneQuoter(true))
+    // Clients of this machine alone are quoted.
+    fn session(&mut self, _alloc: Global, call: Call) -> Result<OneQuoter, AllocError> {
+        Ok(OneQuoter(call.peer.ip().is_loopback()))
     }
 
     fn ended(&mut self, _number: usize, _finished: &Finished) {}
 }
 
-// Makes the job, unless it was made already.
+// Makes the job, unless it was made already or is not to be.
 #[derive(Drop)]
 struct OneQuoter(bool);
 
