@@ -7,3 +7,5 @@ pub mod Giving
 pub mod LastWords
 pub mod Sorting
 pub mod Meaning
+pub mod Hearing
+pub mod Tracing

@@ -6,3 +6,5 @@ pub mod Ends
 pub mod Sizes
 pub mod Mapping
 pub mod Typing
+pub mod Presence
+pub mod Traces

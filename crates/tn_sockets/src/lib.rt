@@ -63,4 +63,5 @@ mod sending;
 mod sizes;
 mod terminal;
 mod trace;
+mod trace_lines;
 mod write_log;

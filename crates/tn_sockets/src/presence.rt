@@ -1,5 +1,9 @@
 //! What of a client's bytes is typed.
 
+ghost use Rattle.std.specs.Prelude.{◌≡◌, []};
+ghost use Rattle.tn_nvt.specs.Feeding.{LeadsTo};
+ghost use Rattle.tn_sockets.specs.Presence.{TellsOfPiece, is_typed as typed_item, stands_for_key};
+
 use std::alloc::Global;
 use tn_codes::Command;
 use tn_nvt::{Decoder, Item, Params, Refused, Sink};
@@ -13,7 +17,9 @@ pub(crate) struct TypedPieces {
 
 impl TypedPieces {
     /// Nothing came yet.
-    pub(crate) fn new(alloc: Global) -> TypedPieces {
+    pub(crate) fn new(alloc: Global) -> TypedPieces
+        ensures { LeadsTo [] [] result.decoder }
+    {
         TypedPieces {
             decoder: Decoder::new(alloc),
         }
@@ -21,10 +27,12 @@ impl TypedPieces {
 
     /// Whether something of the next piece is typed. Once memory ran out for the parameters of a
     /// subnegotiation, all is.
-    pub(crate) fn has_typed(&mut self, piece: &[u8]) -> bool {
-        let mut seen = Seen(false);
+    pub(crate) fn has_typed(&mut self, piece: &[u8]) -> bool
+        ensures { TellsOfPiece self.old.decoder piece.now result self.new.decoder }
+    {
+        let mut seen = Seen { typed: false };
         match self.decoder.feed_to(piece, &mut seen) {
-            Ok(()) => seen.0,
+            Ok(()) => seen.typed,
             Err(_) => true,
         }
     }
@@ -32,21 +40,25 @@ impl TypedPieces {
 
 /// Whether something that is typed was seen.
 #[derive(Drop)]
-struct Seen(bool);
+pub(crate) struct Seen {
+    typed: bool,
+}
 
 impl Sink for Seen {
-    ghost takes = { λ _ _ _. Unit {0} };
+    ghost use Rattle.tn_sockets.specs.Presence.{LosesNone, Sees};
 
-    ghost gives_up = { λ _ _ _. Unit {0} };
+    ghost takes = { Sees };
+
+    ghost gives_up = { LosesNone };
 
     fn run(&mut self, _bytes: &[u8]) -> Result<(), Refused> {
-        self.0 = true;
+        self.typed = true;
         Ok(())
     }
 
     fn item(&mut self, item: Item) -> Result<(), Refused> {
         if is_typed(&item) {
-            self.0 = true;
+            self.typed = true;
         }
         Ok(())
     }
@@ -56,7 +68,9 @@ impl Sink for Seen {
     }
 }
 
-fn is_typed(item: &Item) -> bool {
+fn is_typed(item: &Item) -> bool
+    ensures { result ≡ typed_item item.now }
+{
     match item {
         Item::Byte(_) | Item::Newline => true,
         Item::Cmd(command) => is_key(*command),
@@ -65,7 +79,9 @@ fn is_typed(item: &Item) -> bool {
 }
 
 // Whether a command stands for a key at the terminal.
-fn is_key(command: Command) -> bool {
+fn is_key(command: Command) -> bool
+    ensures { result ≡ stands_for_key command }
+{
     matches!(
         command,
         Command::Eof

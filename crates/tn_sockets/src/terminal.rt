@@ -1,5 +1,7 @@
 //! The terminal, as a client speaks to its user there.
 
+ghost use Rattle.std.specs.Prelude.{◌≡◌};
+
 use std::fs::File;
 use std::io::Write;
 
@@ -23,7 +25,10 @@ pub struct Terminal {
 
 impl Terminal {
     /// The terminal with this screen, which this launcher set.
-    pub fn new(screen: Option<File>, launcher: Option<File>) -> Terminal {
+    pub fn new(screen: Option<File>, launcher: Option<File>) -> Terminal
+        ensures screen { result.screen ≡ screen }
+        ensures launcher { result.launcher ≡ launcher }
+    {
         Terminal {
             screen,
             launcher,

@@ -1,14 +1,17 @@
 //! A trace of what comes and goes: a line for each item, in the order in which it passes, with the seconds
 //! since the beginning.
 
+ghost use Rattle.std.specs.Prelude.{◌≡◌, IsTrue, IsFalse, OnOk, OnErr};
+ghost use Rattle.tn_sockets.specs.Traces.{HoldsNothing, Passes};
+
+use crate::trace_lines::{Side, write_timed};
 use std::alloc::{AllocError, Global};
 use std::fs::File;
 use std::io;
 use std::io::Write;
 use std::sync::{Arc, Mutex, Wait};
 use std::time::{Clock, Duration, Instant};
-use tn_decode::{Lines, Prefix};
-use tn_nvt::Decoder;
+use tn_decode::Prefix;
 
 /// Which way bytes pass.
 #[derive(Clone, Copy)]
@@ -17,60 +20,37 @@ pub(crate) enum Direction {
     Went,
 }
 
-// One direction of a connection, as it is read.
+// Both directions, and what their lines are written to. After a failure nothing more is written.
 #[derive(Drop)]
-struct Side {
-    decoder: Decoder,
-    lines: Lines,
-}
-
-impl Side {
-    fn new(alloc: Global, prefix: Prefix) -> Side {
-        Side {
-            decoder: Decoder::new(alloc),
-            lines: Lines::new(alloc, prefix),
-        }
-    }
-
-    fn read(&mut self, bytes: &[u8]) -> Result<(), AllocError> {
-        match self.decoder.feed_to(bytes, &mut self.lines) {
-            Ok(()) => Ok(()),
-            Err(_) => Err(AllocError),
-        }
-    }
-
-    // The lines of what was read, the data that are held too.
-    fn take_lines(&mut self) -> Result<Vec<u8>, AllocError> {
-        self.lines.end_data()?;
-        Ok(self.lines.take_text())
-    }
-}
-
-// Both directions, and the file. After a failure nothing more is written.
-#[derive(Drop)]
-struct Sides {
+pub(crate) struct Sides<W> {
+    alloc: Global,
     came: Side,
     went: Side,
-    file: File,
+    file: W,
     failed: bool,
+    ghost empty: { IsFalse failed → HoldsNothing came × HoldsNothing went },
 }
 
-impl Sides {
-    // Writes each line of what passes at this time.
-    fn pass(&mut self, time: Duration, direction: Direction, bytes: &[u8]) -> io::Result<()> {
-        let side = match direction {
-            Direction::Came => &mut self.came,
-            Direction::Went => &mut self.went,
+impl<W: Write> Sides<W> {
+    // Writes the lines of what passes at this time. Where that fails nothing more is to be written.
+    fn pass(&mut self, time: Duration, direction: Direction, piece: &[u8]) -> io::Result<()>
+        requires whole { IsFalse self.now.failed }
+        ensures came { OnOk result (direction ≡ Direction.Came → Passes W.contents time piece.now
+            self.old.came self.new.came self.old.file self.new.file) }
+        ensures went_stays { OnOk result (direction ≡ Direction.Came → self.new.went ≡ self.old.went) }
+        ensures went { OnOk result (direction ≡ Direction.Went → Passes W.contents time piece.now
+            self.old.went self.new.went self.old.file self.new.file) }
+        ensures came_stays { OnOk result (direction ≡ Direction.Went → self.new.came ≡ self.old.came) }
+        ensures ok { OnOk result (IsFalse self.new.failed) }
+        ensures err { OnErr result (IsTrue self.new.failed) }
+    {
+        self.failed = true;
+        let text = match direction {
+            Direction::Came => self.came.lines_of(piece)?,
+            Direction::Went => self.went.lines_of(piece)?,
         };
-        side.read(bytes)?;
-        let lines = side.take_lines()?;
-        for line in lines.split(|byte| *byte == b'\n') {
-            if !line.is_empty() {
-                write!(self.file, "{}.{:03} ", time.as_secs(), time.subsec_millis())?;
-                self.file.write_all(line)?;
-                self.file.write_all(b"\n")?;
-            }
-        }
+        write_timed(self.alloc, time, &text, &mut self.file)?;
+        self.failed = false;
         Ok(())
     }
 }
@@ -81,7 +61,7 @@ impl Sides {
 pub struct Trace<H> {
     rt: H,
     begin: Option<Instant>,
-    sides: Option<Arc<Mutex<Sides>, Global>>,
+    sides: Option<Arc<Mutex<Sides<File>>, Global>>,
 }
 
 impl<H: Clock + Copy + Wait> Trace<H> {
@@ -93,6 +73,7 @@ impl<H: Clock + Copy + Wait> Trace<H> {
             return Ok(Trace { rt, begin, sides });
         };
         let sides = Sides {
+            alloc,
             came: Side::new(alloc, Prefix::Came),
             went: Side::new(alloc, Prefix::Gone),
             file,
@@ -126,8 +107,8 @@ impl<H: Clock + Copy + Wait> Trace<H> {
             return;
         };
         let mut sides = sides.lock(&self.rt);
-        if !sides.failed && sides.pass(self.time(), direction, bytes).is_err() {
-            sides.failed = true;
+        if !sides.failed {
+            let _ = sides.pass(self.time(), direction, bytes);
         }
     }
 

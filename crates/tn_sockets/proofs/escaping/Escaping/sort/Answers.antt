@@ -1,6 +1,5 @@
-use Rattle.std.proofs.Common.{◌≡◌, ◌<◌, ℕ, true, is_ok, refl, [], ◌∷◌, List, ap, inr, sym, ◌∙◌, append-nil, arith, length, take}
-use Rattle.std.proofs.Math.ListN.{get_or}
-use Rattle.std.specs.VecDeque.{deque_len, deque_capacity}
+use Rattle.std.proofs.Common.{◌≡◌, true, is_ok, refl, ap, inr, sym, ◌∙◌, append-nil, arith, take}
+use Rattle.std.specs.VecDeque.{deque_len}
 use Rattle.tn_sockets.proofs.Sorting.{none_yet, obeys_none, one_more, commands_with, pushed, pushed_len}
 use Rattle.tn_sockets.specs.declared.escaping.EscapeCommand.TheVariants.{Close}
 use Rattle.tn_sockets.specs.declared.escaping.SessionInput.TheVariants as input

@@ -1,5 +1,5 @@
 -- What these first bytes gave is kept and obeyed, and there is room for the others.
-use Rattle.std.proofs.Common.{◌≡◌, ◌≤◌, ◌+◌, length}
+use Rattle.std.proofs.Common.{◌≤◌, ◌+◌}
 use Rattle.std.specs.VecDeque.{deque_len, deque_capacity}
 use Rattle.tn_sockets.proofs.Sorting.{IsSorted}
 use Rattle.tn_sockets.proofs.escaping.Escaping.sort.Given as goal

@@ -1,0 +1,106 @@
+//! The lines of a trace: one for each item that passes, behind the seconds since the beginning.
+
+ghost use Rattle.std.specs.Duration.{as_nanos};
+ghost use Rattle.std.specs.Io.KnownBytes.{Appends};
+ghost use Rattle.std.specs.Prelude.{◌≡◌, ◌==◌, ◌++◌, [], ◌∷◌, true, IfOk, OnOk};
+ghost use Rattle.tn_nvt.specs.Feeding.{LeadsTo};
+ghost use Rattle.tn_sockets.specs.Traces.{HoldsNothing, Shows, last_digit, stamp_where, time_text};
+ghost use Rattle.tn_sockets.specs.Traces.{timed_lines};
+
+use std::alloc::{AllocError, Global};
+use std::io;
+use std::io::Write;
+use std::time::Duration;
+use tn_decode::{Lines, Prefix};
+use tn_nvt::Decoder;
+
+/// One direction of a connection, as it is read. No line waits in it.
+#[derive(Drop)]
+pub(crate) struct Side {
+    decoder: Decoder,
+    lines: Lines,
+}
+
+impl Side {
+    /// Nothing was read yet.
+    pub(crate) fn new(alloc: Global, prefix: Prefix) -> Side
+        ensures decoder { LeadsTo [] [] result.decoder }
+        ensures prefix { result.lines.prefix ≡ prefix }
+        ensures empty { HoldsNothing result }
+    {
+        Side {
+            decoder: Decoder::new(alloc),
+            lines: Lines::new(alloc, prefix),
+        }
+    }
+
+    /// The lines of the items that the next piece completes. Data at its end are a line too.
+    pub(crate) fn lines_of(&mut self, piece: &[u8]) -> Result<Vec<u8>, AllocError>
+        requires empty { HoldsNothing self.now }
+        ensures { IfOk result (λ text. Shows self.old piece.now text.items self.new) }
+    {
+        match self.decoder.feed_to(piece, &mut self.lines) {
+            Ok(()) => {},
+            Err(_) => return Err(AllocError),
+        }
+        self.lines.end_data()?;
+        Ok(self.lines.take_text())
+    }
+}
+
+/// Writes a text at this time: each line of it is behind the time.
+pub(crate) fn write_timed<W: Write>(
+    alloc: Global,
+    time: Duration,
+    text: &[u8],
+    out: &mut W,
+) -> io::Result<()>
+    ensures { OnOk result (Appends (W.contents out.old) (W.contents out.new)
+        (timed_lines (time_text (as_nanos time)) true text.now)) }
+{
+    let stamp = stamp(alloc, time)?;
+    let lines = timed(alloc, &stamp, text)?;
+    out.write_all(&lines)
+}
+
+// The seconds of a time, to the millisecond, and a space.
+fn stamp(alloc: Global, time: Duration) -> Result<Vec<u8>, AllocError>
+    ensures { IfOk result (λ text. text.items ≡ time_text (as_nanos time)) }
+{
+    let mut text = format!(in alloc; "{}.", time.as_secs())?.into_bytes();
+    let millis = time.subsec_millis();
+    text.extend_from_slice(&[digit(millis / 100), digit(millis / 10), digit(millis), b' '])?;
+    Ok(text)
+}
+
+// The last digit of a number.
+fn digit(number: u32) -> u8
+    ensures { result ≡ last_digit number }
+{
+    b'0' + (number % 10) as u8
+}
+
+// The text, each line of it behind the stamp.
+fn timed(alloc: Global, stamp: &[u8], text: &[u8]) -> Result<Vec<u8>, AllocError>
+    ensures { IfOk result (λ lines. lines.items ≡ timed_lines stamp.now true text.now) }
+{
+    let mut lines = Vec::new(alloc);
+    let mut begins = true;
+    for byte in text {
+        begins = push_timed(begins, *byte, stamp, &mut lines)?;
+    }
+    Ok(lines)
+}
+
+// Appends a byte, behind the stamp where a line begins with it. Returns whether another line begins then.
+fn push_timed(begins: bool, byte: u8, stamp: &[u8], lines: &mut Vec<u8>) -> Result<bool, AllocError>
+    ensures pushed { OnOk result (lines.new.items
+        ≡ lines.old.items ++ (stamp_where begins stamp.now ++ byte ∷ [])) }
+    ensures begins { IfOk result (λ begins. begins ≡ (byte == 10)) }
+{
+    if begins {
+        lines.extend_from_slice(stamp)?;
+    }
+    lines.push(byte)?;
+    Ok(byte == b'\n')
+}
