@@ -25,13 +25,13 @@ class Asked:
 
     @classmethod
     def read(cls, head):
+        """Reads the words, of which the comment at the head of the tool tells."""
         words = basics.Words(head)
         words.add_argument("program", metavar="PROGRAM", nargs="?", default=cls.program)
         words.add_argument("--launcher", metavar="LAUNCHER", default=cls.launcher)
         given = words.parse_args()
         cls.program = basics.checked_program(given.program)
         cls.launcher = os.path.realpath(given.launcher)
-        return cls.program, cls.launcher
 
 
 class Failed(Exception):
