@@ -41,7 +41,7 @@ where
         (H.listens rt (string_bytes asked.now.host) asked.now.port)
         (H.shares rt) (H.accepts rt) (λ (served : Served). served.accepted)
         (λ error ended. FailsBy error ended) result) }
-    ensures caused { IsCaused (H.listens rt (string_bytes asked.now.host) asked.now.port)
+    ensures caused { IsCaused (string_bytes asked.now.host) asked.now.port (H.listens rt)
         causes.old.items causes.new.items result }
 
     // its own job, as often as was asked for

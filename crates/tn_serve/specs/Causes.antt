@@ -1,5 +1,6 @@
 -- Why a server could not listen.
-use Rattle.std.specs.Prelude.{◌≡◌, ℕ, ◌⊎◌, List, Result, Ok, Err}
+use Rattle.std.specs.Prelude.{◌≡◌, ℕ, ◌==◌, ◌⊎◌, Bool, false, List, [], ◌∷◌, ◌++◌, codes, decimal, if◌then◌else◌, Result, Ok, Err}
+use Rattle.std.specs.List.{list_any}
 use Rattle.std.specs.declared.io.Error.{Error}
 use Rattle.std.specs.declared.net.tcp.TcpListener.{TcpListener}
 use Rattle.tn_serve.specs.Faults.{IsToldAs}
@@ -13,8 +14,31 @@ FailsBy error (Err fault) = IsToldAs error fault
 abbrev refused : Error → Result TcpListener Error
 refused error = Err error
 
--- there is a cause only where the listener that was asked for was refused
-abbrev pub IsCaused : {A : Type 0} → (Result TcpListener Error → Type 0) → List ℕ → List ℕ
+-- whether a text begins with a bracket
+abbrev pub is_bracketed : List ℕ → Bool
+is_bracketed [] = false
+is_bracketed (c ∷ cs) = c == 91
+
+-- an address of IPv6 between brackets (RFC 3986, 3.2.2), and any other host
+abbrev pub bracketed : List ℕ → List ℕ
+bracketed host =
+    if list_any (λ c. c == 58) host
+    then (if is_bracketed host then host else codes "[" ++ host ++ codes "]")
+    else host
+
+-- the line tells that nothing listens at this host and port, and why, in words of its own
+abbrev pub TellsWhyNot : List ℕ → ℕ → List ℕ → Type 0
+TellsWhyNot host port line =
+    (why : List ℕ)
+    × (line ≡ codes "tn: cannot listen on " ++ bracketed host ++ codes ":" ++ decimal port ++ codes ": " ++ why ++ codes "\n")
+
+-- that was told by one more line
+abbrev pub HasTold : List ℕ → ℕ → List ℕ → List ℕ → Type 0
+HasTold host port old new = (line : List ℕ) × TellsWhyNot host port line × (new ≡ old ++ line)
+
+-- There is a cause only where the listener that was asked for was refused, and then it tells that.
+abbrev pub IsCaused : {A : Type 0} → List ℕ → ℕ → (List ℕ → ℕ → Result TcpListener Error → Type 0) → List ℕ → List ℕ
     → Result A ServeFault → Type 0
-IsCaused listens old new result = (new ≡ old)
-    ⊎ ((error : Error) × listens (refused error) × FailsBy error result)
+IsCaused host port listens old new result =
+    (new ≡ old)
+    ⊎ (HasTold host port old new × ((error : Error) × listens host port (refused error) × FailsBy error result))

@@ -1,6 +1,7 @@
 -- How the sessions of a server ended.
-use Rattle.std.specs.Prelude.{◌≡◌, ◌≤◌, ◌⊎◌, ℕ, IsTrue, false, Option, Some, None, Result, Ok, Err, IfOk}
+use Rattle.std.specs.Prelude.{◌≡◌, ◌≤◌, ◌⊎◌, ℕ, pos, IsTrue, false, Option, Some, None, Result, Ok, Err, IfOk}
 use Rattle.std.specs.Prelude.{IsOk}
+use Rattle.std.specs.IoError.{raw_os_error}
 use Rattle.std.specs.declared.io.Error.{Error}
 use Rattle.std.specs.declared.net.socket_addr.SocketAddr.{SocketAddr}
 use Rattle.std.specs.declared.net.tcp.TcpStream.{TcpStream}
@@ -59,6 +60,12 @@ ServesUntil count told served = ServesAll count served ⊎ ((served.accepted ≤
 abbrev pub IfAny : {A : Type 0} → (A → Type 0) → Option A → Type 0
 IfAny P None = ⊥
 IfAny P (Some x) = P x
+
+-- the listener takes no connection, and never will (POSIX, accept: EBADF, EINVAL, ENOTSOCK)
+abbrev pub IsBroken : Error → Type 0
+IsBroken error =
+    (raw_os_error error ≡ Some (pos 9))
+    ⊎ ((raw_os_error error ≡ Some (pos 22)) ⊎ (raw_os_error error ≡ Some (pos 88)))
 
 -- each connection of a number below this count was accepted, and where it says so, it was told that no more
 -- are to come

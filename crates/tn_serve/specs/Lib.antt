@@ -6,3 +6,5 @@ pub mod Services
 pub mod Servers
 pub mod Turns
 pub mod Counted
+pub mod Times
+pub mod Notes

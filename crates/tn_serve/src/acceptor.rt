@@ -1,7 +1,7 @@
 //! Connections are accepted in a thread of their own.
 
-ghost use Rattle.std.specs.Prelude.{◌≡◌, true, IsTrue, false, IsFalse, Ok, IfNone, IfOk, IfSome};
-ghost use Rattle.tn_serve.specs.Ends.{AcceptsUntil, AreEnough};
+ghost use Rattle.std.specs.Prelude.{◌≡◌, true, IsTrue, false, IsFalse, Ok, IfErr, IfNone, IfOk, IfSome};
+ghost use Rattle.tn_serve.specs.Ends.{AcceptsUntil, AreEnough, IsBroken};
 
 use crate::events::Event;
 use crate::until::Until;
@@ -143,11 +143,12 @@ impl<H: Host + Network, U: Until + Drop + Send + 'static> Acceptor<H, U> {
 
     // The connection of this number, or none where it is told that none is to come any more. One that its
     // peer closed before it was accepted is skipped. Where the machine has no descriptor or no memory for
-    // one, that is told once and tried again after a pause.
+    // one, that is told once and tried again after a pause. It fails where the listener is broken.
     fn next(&self, number: u64) -> io::Result<Option<(TcpStream, SocketAddr)>>
         ensures came { IfOk result (λ next. IfSome next (λ came.
             H.accepts self.now.rt self.now.listener number (Ok came))) }
         ensures told { IfOk result (λ next. IfNone next (U.ends self.now.until)) }
+        ensures broken { IfErr result IsBroken }
     {
         let mut is_starved = false;
         for _ in self.rt.forever() {
@@ -167,7 +168,7 @@ impl<H: Host + Network, U: Until + Drop + Send + 'static> Acceptor<H, U> {
                 },
             }
         }
-        Err(io::Error::from(ErrorKind::NotConnected))
+        Err(io::Error::from_raw_os_error(libc::EBADF))
     }
 
     // Waits for a while, since the machine can give no connection. That is told where it was not told before.
@@ -197,7 +198,9 @@ fn is_passing(kind: ErrorKind) -> bool {
 }
 
 // The listener takes no connection, and never will.
-fn is_broken(error: &io::Error) -> bool {
+fn is_broken(error: &io::Error) -> bool
+    ensures { IsTrue result → IsBroken error.now }
+{
     matches!(
         error.raw_os_error(),
         Some(libc::EBADF | libc::EINVAL | libc::ENOTSOCK)

@@ -2,6 +2,7 @@
 
 ghost use Rattle.std.specs.Prelude.{◌≡◌, IsTrue, false, IsFalse};
 ghost use Rattle.tn_serve.specs.Ends.{IsWhole};
+ghost use Rattle.tn_serve.specs.Notes.{entries_of};
 
 use tn_session::{Report, SessionFault};
 
@@ -25,6 +26,15 @@ impl Finished {
         match &self.report {
             Ok(report) => report.ended.is_whole(),
             Err(_) => false,
+        }
+    }
+    /// The entries that went to its job.
+    pub(crate) fn entries(&self) -> u64
+        ensures { result ≡ entries_of self.now }
+    {
+        match &self.report {
+            Ok(report) => report.entries,
+            Err(_) => 0,
         }
     }
 }

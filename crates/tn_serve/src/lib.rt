@@ -33,6 +33,7 @@ mod events;
 mod fault;
 mod finished;
 mod listening;
+mod note_texts;
 mod notes;
 mod running;
 mod served;

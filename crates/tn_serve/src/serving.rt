@@ -22,9 +22,8 @@ use crate::events::Event;
 use crate::fault::ServeFault;
 use crate::finished::Finished;
 use crate::listening::{At, listen_at};
-use crate::notes::{
-    note_began, note_closed, note_cut, note_end, note_full, note_listening, note_refused_accept,
-};
+use crate::note_texts;
+use crate::notes::note;
 use crate::running::{Running, Started, tell_fault};
 use crate::served::Served;
 use crate::service::Service;
@@ -34,7 +33,7 @@ use crate::traffic::{Noted, Passed, Traffic};
 use crate::turned::TurnedAway;
 use crate::until::{Never, Until};
 use crossbeam_channel::{Receiver, RecvTimeoutError, Sender};
-use std::alloc::Global;
+use std::alloc::{AllocError, Global};
 use std::io::Write;
 use std::marker::Brand;
 use std::net::{SocketAddr, TcpListener, TcpStream};
@@ -79,11 +78,11 @@ where
         (V.makes service) (WasTurnedAway (H.dismisses rt)))) service served.whole served.faulted) }
     ensures listened { Listens (H.listens rt at.entry.host.now at.entry.port) (H.shares rt) (H.accepts rt)
         (λ (served : Served). served.accepted) (λ error ended. FailsBy error ended) result }
-    ensures caused { IsCaused (H.listens rt at.entry.host.now at.entry.port)
+    ensures caused { IsCaused at.entry.host.now at.entry.port (H.listens rt)
         causes.old.items causes.new.items result }
     ensures limit { IsErrOf result ServeFault.Limit → ¬ IsLimit serving.sessions }
 {
-    let listener = listen_at(&rt, at, causes)?;
+    let listener = listen_at(&rt, alloc, at, causes)?;
     serve_as::<H, U, V, E, Brand>(rt, alloc, &listener, serving, until, service, errors)
 }
 
@@ -148,7 +147,7 @@ fn serve_as<
     let roster = Roster::new(alloc, usize::from(serving.sessions))?;
     let (sender, receiver) = crossbeam_channel::bounded(alloc, EVENTS)?;
     if let (true, Ok(address)) = (serving.verbose, listener.local_addr()) {
-        note_listening(&rt, alloc, &address, errors);
+        note(&rt, alloc, note_texts::listening(alloc, &address), errors);
     }
     let acceptor = Acceptor {
         rt,
@@ -280,8 +279,9 @@ impl<H: Host + Network, V: Service, O: Asked<V::Jobs>> Open<H, V, O> {
         match event {
             Event::Came(stream, peer) => return self.admit(stream, &peer, errors),
             Event::Ended(number) => return self.end(number, errors),
-            Event::Starved(error) => return note_refused_accept(
-                &self.rt, self.alloc, &error, errors,
+            Event::Starved(error) => return self.note(
+                note_texts::starved(self.alloc, &error),
+                errors,
             ),
             Event::Cut(number, bytes) => return self.tell_cut(number, bytes, errors),
             Event::Quiet => return,
@@ -339,31 +339,36 @@ impl<H: Host + Network, V: Service, O: Asked<V::Jobs>> Open<H, V, O> {
         self.take_in(stream, caller, errors);
     }
 
+    // Writes a note.
+    fn note<E: Write>(&self, text: Result<Vec<u8>, AllocError>, errors: &mut E) {
+        note(&self.rt, self.alloc, text, errors);
+    }
+
     // Notes that a session begins, where that is wanted.
     fn tell_began<E: Write>(&self, caller: &Caller, errors: &mut E) {
         if self.serving.verbose {
-            note_began(&self.rt, self.alloc, caller, errors);
+            self.note(note_texts::began(self.alloc, caller), errors);
         }
     }
 
     // Notes that there was no room for a connection, where that is wanted.
     fn tell_full<E: Write>(&self, serial: u64, peer: &SocketAddr, errors: &mut E) {
         if self.serving.verbose {
-            note_full(&self.rt, self.alloc, serial, peer, errors);
+            self.note(note_texts::full(self.alloc, serial, peer), errors);
         }
     }
 
     // Notes that no connection is accepted any more, where that is wanted.
     fn tell_closed<E: Write>(&self, errors: &mut E) {
         if self.serving.verbose {
-            note_closed(&self.rt, self.alloc, errors);
+            self.note(note_texts::closed(self.alloc), errors);
         }
     }
 
     // Notes that a line of a session may have been cut, where that is wanted.
     fn tell_cut<E: Write>(&self, number: usize, bytes: usize, errors: &mut E) {
         if let (true, Some(caller)) = (self.serving.verbose, self.running.caller_of(number)) {
-            note_cut(&self.rt, self.alloc, &caller, bytes, errors);
+            self.note(note_texts::cut(self.alloc, &caller, bytes), errors);
         }
     }
 
@@ -617,13 +622,10 @@ impl<H: Host + Network, V: Service, O: Asked<V::Jobs>> Open<H, V, O> {
             tell_fault(errors);
         }
         if self.serving.verbose || !is_whole || unreached.is_some() {
-            note_end(
-                &self.rt,
-                self.alloc,
-                caller,
-                passed,
-                finished,
-                unreached.unwrap_or(b""),
+            let causes = unreached.unwrap_or(b"");
+            let lasted = caller.lasted(&self.rt);
+            self.note(
+                note_texts::ended(self.alloc, caller, causes, finished, lasted, passed),
                 errors,
             );
         }

@@ -1,59 +1,89 @@
 //! The time that a note begins with.
 
+ghost use Rattle.std.specs.Duration.{as_nanos};
+ghost use Rattle.std.specs.Prelude.{◌≡◌, IfOk};
+ghost use Rattle.tn_serve.specs.Times.{IsStamp, IsTimeText, hyphenated, instant_text, last_digit};
+
 use httpdate::HttpDate;
 use std::alloc::{AllocError, Global};
-use std::time::{Clock, SystemTime};
+use std::time::{Clock, Duration, SystemTime};
 
-/// A line that begins with the time and a space: in UTC, to the millisecond, as `2026-11-26T20:11:07.123Z`.
-/// It is empty where the machine has no clock or no memory for it.
-pub(crate) fn stamp<C: Clock>(clock: &C, alloc: Global) -> Vec<u8> {
-    let mut line = Vec::new(alloc);
+/// The time and a space: in UTC, to the millisecond, as `2026-11-26T20:11:07.123Z`. It is empty where the
+/// machine has no clock.
+pub(crate) fn stamp<C: Clock>(clock: &C, alloc: Global) -> Result<Vec<u8>, AllocError>
+    ensures { IfOk result (λ text. IsStamp text.items) }
+{
     let Ok(now) = SystemTime::now(clock) else {
-        return line;
+        return Ok(Vec::new(alloc));
     };
-    let Ok(since) = now.duration_since(SystemTime::UNIX_EPOCH) else {
-        return line;
-    };
-    let Ok(date) = HttpDate::from_unix_secs(since.as_secs()) else {
-        return line;
-    };
-    let _ = write_time(&mut line, &date.to_bytes(), since.subsec_millis());
-    line
+    match now.duration_since(SystemTime::UNIX_EPOCH) {
+        Ok(since) => since_1970(alloc, since),
+        Err(_) => Ok(Vec::new(alloc)),
+    }
 }
 
-// The parts of a date of HTTP, as `Thu, 26 Nov 2026 20:11:07 GMT`, in the order of ISO 8601.
-fn write_time(line: &mut Vec<u8>, date: &[u8; 29], millis: u32) -> Result<(), AllocError> {
-    line.extend_from_slice(&date[12..16])?;
-    line.extend_from_slice(month(&date[8..11]))?;
-    line.extend_from_slice(&date[5..7])?;
-    line.push(b'T')?;
-    line.extend_from_slice(&date[17..25])?;
-    line.push(b'.')?;
-    line.push(digit(millis / 100))?;
-    line.push(digit(millis / 10))?;
-    line.push(digit(millis))?;
-    line.extend_from_slice(b"Z ")
+// The text of a time since 1970.
+fn since_1970(alloc: Global, since: Duration) -> Result<Vec<u8>, AllocError>
+    ensures { IfOk result (λ text. IsTimeText (as_nanos since) text.items) }
+{
+    match HttpDate::from_unix_secs(since.as_secs()) {
+        Ok(date) => time_text(alloc, &date, since.subsec_millis()),
+        Err(_) => Ok(Vec::new(alloc)),
+    }
+}
+
+// A second and its milliseconds. The numbers of the date are those of HTTP's, as `Thu, 26 Nov 2026 20:11:07
+// GMT`, in the order of RFC 3339.
+fn time_text(alloc: Global, date: &HttpDate, millis: u32) -> Result<Vec<u8>, AllocError>
+    ensures { IfOk result (λ text. text.items ≡ instant_text date.now.parts millis) }
+{
+    let shown = date.to_bytes();
+    let mut text = Vec::new(alloc);
+    text.extend_from_slice(&shown[12..16])?;
+    text.extend_from_slice(month(&shown[8..11]))?;
+    text.extend_from_slice(&shown[5..7])?;
+    text.push(b'T')?;
+    text.extend_from_slice(&shown[17..25])?;
+    text.push(b'.')?;
+    text.extend_from_slice(&[digit(millis / 100), digit(millis / 10), digit(millis)])?;
+    text.extend_from_slice(b"Z ")?;
+    Ok(text)
 }
 
 // The last digit of a number.
-fn digit(number: u32) -> u8 {
+fn digit(number: u32) -> u8
+    ensures { result ≡ last_digit number }
+{
     b'0' + (number % 10) as u8
 }
 
 // The number of a month between hyphens.
-fn month(name: &[u8]) -> &'static [u8] {
-    match name {
-        b"Jan" => b"-01-",
-        b"Feb" => b"-02-",
-        b"Mar" => b"-03-",
-        b"Apr" => b"-04-",
-        b"May" => b"-05-",
-        b"Jun" => b"-06-",
-        b"Jul" => b"-07-",
-        b"Aug" => b"-08-",
-        b"Sep" => b"-09-",
-        b"Oct" => b"-10-",
-        b"Nov" => b"-11-",
-        _ => b"-12-",
+fn month(name: &[u8]) -> &'static [u8]
+    ensures { result.now ≡ hyphenated name.now }
+{
+    if name == b"Jan".as_slice() {
+        b"-01-"
+    } else if name == b"Feb".as_slice() {
+        b"-02-"
+    } else if name == b"Mar".as_slice() {
+        b"-03-"
+    } else if name == b"Apr".as_slice() {
+        b"-04-"
+    } else if name == b"May".as_slice() {
+        b"-05-"
+    } else if name == b"Jun".as_slice() {
+        b"-06-"
+    } else if name == b"Jul".as_slice() {
+        b"-07-"
+    } else if name == b"Aug".as_slice() {
+        b"-08-"
+    } else if name == b"Sep".as_slice() {
+        b"-09-"
+    } else if name == b"Oct".as_slice() {
+        b"-10-"
+    } else if name == b"Nov".as_slice() {
+        b"-11-"
+    } else {
+        b"-12-"
     }
 }

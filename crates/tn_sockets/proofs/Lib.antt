@@ -9,3 +9,5 @@ pub mod Sorting
 pub mod Meaning
 pub mod Hearing
 pub mod Tracing
+pub mod LineTexts
+pub mod Stamping

@@ -1,11 +1,12 @@
 -- What a trace has of a piece that passes: a line for each item, each behind the seconds since the beginning.
 use Rattle.std.specs.Prelude.{◌≡◌, ◌==◌, ℕ, ◌+◌, ◌/◌, ◌%◌, Bool, true, false, Option, List, [], ◌∷◌, ◌++◌, codes, decimal}
 use Rattle.std.specs.Io.KnownBytes.{Appends}
+use Rattle.std.specs.List.{flat_map}
 use Rattle.std.specs.declared.time.Duration.{Duration}
 use Rattle.std.specs.Duration.{as_nanos}
 use Rattle.tn_nvt.specs.declared.items.Item.{Item}
 use Rattle.tn_nvt.specs.Feeding.{Advances}
-use Rattle.tn_decode.specs.Lines.{decoded}
+use Rattle.tn_decode.specs.Lines.{decoded, lines_of, whole_line}
 use Rattle.tn_decode.specs.Printing.{prefix_text}
 use Rattle.tn_sockets.specs.declared.trace_lines.Side.{Side}
 
@@ -19,12 +20,17 @@ time_text nanos =
     decimal (nanos / 1_000_000_000) ++ codes "."
     ++ last_digit (millis / 100) ∷ last_digit (millis / 10) ∷ last_digit millis ∷ codes " "
 
+-- the lines of items as they are printed at a time: a stamp, a prefix, the line
+abbrev pub stamped : List ℕ → List ℕ → List Item → List ℕ
+stamped stamp prefix items = flat_map (λ line. stamp ++ whole_line prefix line) (lines_of items)
+
 -- the stamp where a line begins
 abbrev pub stamp_where : Bool → List ℕ → List ℕ
 stamp_where true stamp = stamp
 stamp_where false stamp = []
 
--- text, each line of it behind the stamp; whether a line begins with it is told
+-- how that is written, byte by byte of a text: each line of it behind the stamp; whether a line begins with it
+-- is told
 unfoldable pub timed_lines : List ℕ → Bool → List ℕ → List ℕ
 timed_lines stamp begins [] = []
 timed_lines stamp begins (b ∷ bs) = stamp_where begins stamp ++ b ∷ timed_lines stamp (b == 10) bs
@@ -42,9 +48,12 @@ pub record Shows (old : Side) (piece text : List ℕ) (new : Side) : Type 0 wher
   pub prefix : new.lines.prefix ≡ old.lines.prefix
   pub empty : HoldsNothing new
 
--- The lines of a piece that passes on this side were written, with this time.
+-- The piece's items were written, each line of them behind the prefix of this side, and that behind this time.
 pub record Passes {W : Type 0} (contents : W → Option (List ℕ)) (time : Duration) (piece : List ℕ) (old new : Side)
     (before after : W) : Type 0 where
-  pub text : List ℕ
-  pub shows : Shows old piece text new
-  pub written : Appends (contents before) (contents after) (timed_lines (time_text (as_nanos time)) true text)
+  pub items : List Item
+  pub adds : Advances old.decoder piece items new.decoder
+  pub written : Appends (contents before) (contents after)
+      (stamped (time_text (as_nanos time)) (prefix_text old.lines.prefix) items)
+  pub prefix : new.lines.prefix ≡ old.lines.prefix
+  pub empty : HoldsNothing new

@@ -1,4 +1,5 @@
-use Rattle.std.proofs.Common.{inl, refl, ◌∙◌}
+use Rattle.std.proofs.Common.{inl, refl, subst, ◌∙◌, List, ℕ}
+use Rattle.tn_serve.specs.Causes.{IsCaused}
 use Rattle.tn_program.proofs.Asked.{answers, joins, unless}
 use Rattle.tn_program.proofs.serving.serve_asked.Goals as goal
 
@@ -16,3 +17,13 @@ returns-clause-joins g c =
 
 pub returns-in_err-from_str-clause-caused : goal.returns-in_err-from_str-clause-caused
 returns-in_err-from_str-clause-caused g c = inl refl
+
+pub returns-in_default-clause-caused : goal.returns-in_default-clause-caused
+returns-in_default-clause-caused g c =
+    subst (λ (host : List ℕ). IsCaused host c.args.asked.now.port (g.H.Network.listens c.args.rt) c.args.causes.now.items c.serve.new.causes.items c.serve.result)
+    c.as_str.ensures.value c.serve.ensures.caused
+
+pub returns-clause-caused : goal.returns-clause-caused
+returns-clause-caused g c =
+    subst (λ (host : List ℕ). IsCaused host c.args.asked.now.port (g.H.Network.listens c.args.rt) c.args.causes.now.items c.serve-2.new.causes.items c.serve-2.result)
+    c.as_str.ensures.value c.serve-2.ensures.caused
