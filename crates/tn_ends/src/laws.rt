@@ -1,5 +1,6 @@
-//! The headline over two programs, as a law over what their calls promise.
+//! The headline over two programs, as a law over what their calls promise; and what both ends take as typed.
 
+ghost use Rattle.tn_ends.specs.Keys.{TypedAreKeys};
 ghost use Rattle.tn_ends.specs.Programs.{HeadlineOfPrograms};
 ghost use Rattle.tn_session.specs.Facts.{job_facts};
 ghost use Rattle.tn_session.specs.Makers.{begins};
@@ -16,3 +17,8 @@ pub fn what_you_type_over_a_connection_is_read<M: Maker>()
 {
     what_you_type_is_what_the_job_reads::<M>();
 }
+
+/// Of the commands of a client's stream, those that count as typed are those that the terminal takes as keys.
+pub fn what_counts_as_typed_is_a_key()
+    ensures { TypedAreKeys }
+{}
