@@ -6,7 +6,7 @@
 //! reader, keys ---------Message--> client::Core --> client end
 //! ```
 //!
-//! Here stand what both are told, and how a session ends:
+//! Here stand what both are told, how a session ends, and who watches its threads:
 //!
 //! ```
 //! let piece = Message::Piece(Text::from(bytes)); // bytes from the network, or keys
@@ -19,8 +19,10 @@
 
 pub use faults::{Ended, SessionFault};
 pub use messages::Message;
+pub use watching::{Gate, Place};
 
 pub mod client;
 mod faults;
 mod messages;
 pub mod server;
+mod watching;

@@ -17,14 +17,13 @@ ghost use Rattle.tn_session.specs.declared.mail.Sender.TheVariants.{Back};
 use crate::channels::{MailPass, MailSeat};
 use crate::credit::StepCredits;
 use crate::mail::Sender;
-use crate::parties::{Gate, Place};
 use crate::sending::say;
 use crate::stops::{StopSeat, is_stopped};
 use std::alloc::Global;
 use std::collections::VecDeque;
 use std::sync::Wait;
 use tn_jobs::{After, Job, JobId, JobState, Reaction, judge};
-use tn_machines::Message;
+use tn_machines::{Gate, Message, Place};
 
 /// A background job that runs.
 #[derive(Drop)]

@@ -17,7 +17,7 @@ use crate::channels::{
 use crate::client_loop::run_core;
 use crate::mail::{Mail, Sender};
 use crate::net::ReaderPart;
-use crate::parties::{ClientPorts, Gate, Place, Report};
+use crate::parties::{ClientPorts, Report};
 use crate::session::MAILS;
 use crate::stops::{StopPass, StopSeat, Watched, make_stops};
 use crate::threads::{ClientReturned, ClientStarted, ThreadLeft, start_reader};
@@ -27,8 +27,8 @@ use std::alloc::{AllocError, Global};
 use std::sync::{Arc, Wait};
 use std::thread::Threads;
 use tn_discipline::Limit;
-use tn_machines::SessionFault;
 use tn_machines::client::{ClientProgress, Core};
+use tn_machines::{Gate, Place, SessionFault};
 use tn_streams::{Drain, Finish, Source};
 
 // The core's ends of the mailbox.

@@ -15,14 +15,13 @@ ghost use Rattle.tn_streams.specs.Sending.{StaysOpen, IsFinished};
 use crate::channels::{MailPass, MailReceiver};
 use crate::closing::finish_once;
 use crate::mail::{Mail, Sender};
-use crate::parties::Gate;
 use crate::stops::Watched;
 use crate::term::{finish_unless, leaves};
 use crate::transcript::{Output, Transcript};
 use std::alloc::Global;
 use std::sync::Wait;
-use tn_machines::Message;
 use tn_machines::client::{ClientMark, ClientProgress, Core, Origin, Told};
+use tn_machines::{Gate, Message};
 use tn_streams::{Drain, Finish, write_all};
 
 /// How many threads send mails.

@@ -13,13 +13,12 @@ ghost use Rattle.tn_session.specs.declared.mail.Sender.TheVariants.{Desk};
 use crate::channels::{MailPass, MailSeat};
 use crate::entries::{EntryPass, EntryReceiver, EntrySeat, Takes};
 use crate::mail::Sender;
-use crate::parties::{Gate, Place};
 use crate::sending::say;
 use std::alloc::Global;
 use std::sync::Wait;
 use tn_discipline::Entry;
 use tn_jobs::{After, Job, JobId, Reaction};
-use tn_machines::Message;
+use tn_machines::{Gate, Message, Place};
 
 // Takes one entry or the end. `None` where the other end is gone.
 fn next_entry<R: Wait>(

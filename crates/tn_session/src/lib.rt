@@ -6,11 +6,11 @@ pub use channels::{AllRoles, Knows, MailPass, MailReceiver, MailSender, View};
 pub use client::client_session;
 pub use entries::{EntryPass, EntryReceiver, EntrySender, Hand, InTurn};
 pub use mail::{Mail, Sender};
-pub use parties::{ClientPorts, Gate, Maker, Place, Ports, Report, Unwatched};
+pub use parties::{ClientPorts, Maker, Ports, Report, Unwatched};
 pub use session::serve_session;
 pub use stops::{Stop, StopPass};
 pub use tn_machines::client::Terms;
-pub use tn_machines::{Ended, Message, SessionFault};
+pub use tn_machines::{Ended, Gate, Message, Place, SessionFault};
 pub use tn_streams::Finish;
 pub use transcript::{Seal, Transcript};
 

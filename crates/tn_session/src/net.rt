@@ -15,15 +15,14 @@ ghost use Rattle.tn_streams.specs.Known.{known_typing};
 use crate::channels::{MailPass, MailSeat, MailSender};
 use crate::credit::{CreditSeat, take_credit};
 use crate::mail::Sender;
-use crate::parties::{Gate, Place};
 use crate::sending::say;
 use crate::stops::{StopSeat, is_stopped};
 use std::alloc::{AllocError, Global};
 use std::sync::{Arc, Wait};
 use tn_discipline::Text;
 use tn_jobs::{After, JobId};
-use tn_machines::Message;
 use tn_machines::server::MAX_PIECE;
+use tn_machines::{Gate, Message, Place};
 use tn_streams::{Source, is_interrupted};
 
 /// What a read gave.

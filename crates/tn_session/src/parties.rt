@@ -8,9 +8,8 @@ use crate::entries::EntryPass;
 use crate::stops::StopPass;
 use crate::transcript::Transcript;
 use std::alloc::{AllocError, Global};
-use tn_jobs::{Job, JobId};
-use tn_machines::Ended;
-use tn_machines::client::Terms;
+use tn_jobs::Job;
+use tn_machines::{Ended, Gate, Place};
 
 /// Who makes the jobs of a session: the first is the foreground job, and up to fifteen more run in the
 /// background.
@@ -29,35 +28,6 @@ pub trait Maker {
         ensures fresh { IfOk result (λ next. IfSome next (λ job. Self.Job.fresh job)) }
         ensures makes { MakesJob (left self.old) (left self.new) result }
         ensures gives { IfOk result (λ next. IfSome next (λ job. gives self.old job self.new)) };
-}
-
-/// A place that a thread of a session comes by.
-#[derive(Clone, Copy, Debug, PartialEq, Eq)]
-pub enum Place {
-    /// A piece was read from the network and sent on.
-    NetPiece,
-    /// A piece of keys was read and sent on.
-    KeysPiece,
-    /// The foreground job is to answer an entry.
-    DeskEntry,
-    /// A background job is to make a step.
-    BackStep,
-    /// The terminal has handled what this job said.
-    TermSaid(JobId),
-    /// The terminal has put an entry for the foreground job.
-    TermTook,
-}
-
-/// Who watches the threads. It changes no answer.
-pub trait Gate {
-    /// A thread comes by this place.
-    fn at(&self, place: Place);
-
-    /// A client's core has handled a message, and these are its terms now.
-    fn agreed(&self, _terms: Terms) {}
-
-    /// Nothing has any effect on a client's core any more: who waits for its user need not wait on.
-    fn over(&self) {}
 }
 
 /// A gate that does nothing: nobody watches the threads.

@@ -23,14 +23,13 @@ use crate::closing::finish_once;
 use crate::credit::{CreditGiver, CreditPass, CreditSender, give_credit, is_piece};
 use crate::entries::{EntryPass, EntrySender, Puts};
 use crate::mail::{Mail, Sender};
-use crate::parties::{Gate, Place};
 use crate::stops::Watched;
 use crate::transcript::Output;
 use std::sync::Wait;
 use tn_discipline::Entry;
 use tn_jobs::JobId;
-use tn_machines::Message;
 use tn_machines::server::{MessageOutcome, Put, ServerMark, ServerProgress, Term};
+use tn_machines::{Gate, Message, Place};
 use tn_streams::Finish;
 
 /// How many threads send mails.

@@ -22,7 +22,6 @@ use crate::desk::run_desk;
 use crate::entries::{EntryPass, EntryReceiver, EntrySeat};
 use crate::mail::Sender;
 use crate::net::{ReaderPart, run_reader};
-use crate::parties::Gate;
 use crate::stops::StopSeat;
 use std::alloc::Global;
 use std::collections::VecDeque;
@@ -32,6 +31,7 @@ use std::sync::{Arc, Wait};
 use std::thread;
 use std::thread::{Promise, PromisedHandle, Threads};
 use tn_jobs::{Job, JobId};
+use tn_machines::Gate;
 use tn_streams::Source;
 
 /// What a thread gives back that may be told to stop: its pass, and the seat where it may have been told.

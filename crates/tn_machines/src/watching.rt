@@ -1,0 +1,36 @@
+//! Who watches the threads of a session.
+//!
+//! The trait has methods with bodies, and the crate that starts the threads asks whether a gate may cross
+//! them. Where both are one crate its check takes twice as long.
+
+use crate::client::Terms;
+use tn_jobs::JobId;
+
+/// A place that a thread of a session comes by.
+#[derive(Clone, Copy, Debug, PartialEq, Eq)]
+pub enum Place {
+    /// A piece was read from the network and sent on.
+    NetPiece,
+    /// A piece of keys was read and sent on.
+    KeysPiece,
+    /// The foreground job is to answer an entry.
+    DeskEntry,
+    /// A background job is to make a step.
+    BackStep,
+    /// The terminal has handled what this job said.
+    TermSaid(JobId),
+    /// The terminal has put an entry for the foreground job.
+    TermTook,
+}
+
+/// Who watches the threads. It changes no answer.
+pub trait Gate {
+    /// A thread comes by this place.
+    fn at(&self, place: Place);
+
+    /// A client's core has handled a message, and these are its terms now.
+    fn agreed(&self, _terms: Terms) {}
+
+    /// Nothing has any effect on a client's core any more: who waits for its user need not wait on.
+    fn over(&self) {}
+}
