@@ -1,5 +1,4 @@
-//! Tests of both ends together, of running sessions over memory and of the program's runs: scripts with what
-//! comes of them, under a sentence as their name, and random worlds beside one local terminal. Nothing
+//! Tests of running sessions over memory, some with gates that hold their threads, and of both in one loop. Nothing
 //! here is part of the program, and nothing of it is proved but that it is safe and, where it has no thread,
 //! that it ends.
 #![tactic(auto)]

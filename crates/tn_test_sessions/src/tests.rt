@@ -1,15 +1,11 @@
 //! The tests.
 
-mod agreement;
-mod decoding;
-mod forward;
-mod keys;
-mod midline;
+mod cores;
+mod gates;
+mod makers;
 mod one_loop;
-mod playing;
-mod programs;
-mod random_prints;
-mod random_terminals;
+mod parting;
 mod refusals;
-mod running;
-mod worlds;
+mod sessions;
+mod sizes;
+mod terminals;

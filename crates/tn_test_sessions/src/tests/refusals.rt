@@ -1,155 +1,232 @@
-//! Ends that stop or fail, and what is left then.
+//! Sessions whose reader or writer fails, or for which memory is refused.
 
-use super::playing::{ALL, agrees, open, play, play_all, rests, rests_with, types, waiting};
+ghost use Rattle.std.specs.Prelude.{◌≡◌, ◌≤◌, Some, None, length};
+ghost use Rattle.std.specs.Io.{WritesAtMost};
+ghost use Rattle.std.specs.Io.KnownBytes.{WriteAppends};
+ghost use Rattle.tn_streams.specs.Counting.{told_by};
+
+use super::sessions::{Jobs, ended};
 use std::alloc::Global;
-use std::cmp::Ordering;
+use std::io::{self, ErrorKind};
 use std::process::Abort;
-use tn_client::ClientFault;
-use tn_discipline::{Entry, Limit, Sig};
-use tn_pty::PtyFault;
+use std::sync::{Arc, Wait};
+use std::thread::Threads;
+use tn_discipline::{Limit, Settings};
 use tn_server::{Editing, ServerFault};
-use tn_test_models::payloads::mask;
-use tn_world::{Cause, Event, World, WorldFault};
+use tn_session::{Ended, Finish, Report, SessionFault, Unwatched, serve_session};
+use tn_streams::{Drain, Source, Tally, nothing_to_say};
 
-const KEYS: [u8; 7] = [b'a', b',', 127, 127, b'b', 3, 13];
+/// Gives some bytes at once, then fails so many times, and then ends; it foretells how many of its calls will
+/// fail.
+#[derive(Drop)]
+struct Once {
+    bytes: &'static [u8],
+    failures: u32,
+}
 
-/// How many events there are without one that stops an end.
-const EVENTS: usize = 23;
-
-// A line is typed in two parts, erased across both, closed and taken: the event at this place.
-fn event(place: usize) -> Event {
-    match place {
-        0 => Event::Mask(Some(mask(&[0, 0, 0, 0, 0, 8]))),
-        1 | 18 | 21 => Event::ToClient(ALL),
-        2 | 17 | 20 => Event::ToServer(ALL),
-        3..=16 => typed_or_read(place),
-        _ => Event::Take,
+impl Once {
+    fn give(&mut self, buf: &mut [u8]) -> usize
+        ensures bound { result ≤ length buf.new }
+        ensures length { length buf.new ≡ length buf.old }
+        ensures failures { self.new.failures ≡ self.old.failures }
+    {
+        let count = self.bytes.len().min(buf.len());
+        let (front, rest) = self.bytes.split_at(count);
+        buf[..count].copy_from_slice(front);
+        self.bytes = rest;
+        count
     }
 }
 
-// The keys stand at odd places, and behind each a byte comes to the server.
-fn typed_or_read(place: usize) -> Event {
-    match KEYS.get((place / 2).saturating_sub(1)) {
-        Some(key) if place % 2 == 1 => Event::Key(*key),
-        _ => Event::ToServer(1),
+impl Source for Once {
+    ghost foretold = { λ once. Some (record { failing = once.failures; interrupted = 0 }) };
+
+    fn last_words(&self) -> &'static [u8] {
+        nothing_to_say()
+    }
+
+    fn read_some(&mut self, buf: &mut [u8]) -> io::Result<usize> {
+        if self.bytes.is_empty() && self.failures > 0 {
+            self.failures -= 1;
+            return Err(io::Error::from(ErrorKind::Other));
+        }
+        Ok(self.give(buf))
     }
 }
 
-// The same events, but that the server or the client stops at one place.
-fn with_a_stop(at: usize, place: usize, server: bool) -> Event {
-    match at.cmp(&place) {
-        Ordering::Less => event(at),
-        Ordering::Equal if server => Event::ServerStops,
-        Ordering::Equal => Event::ClientStops,
-        Ordering::Greater => event(at.saturating_sub(1)),
+/// Takes what it is given, but for one call, which fails or takes nothing; it tells how many of its calls
+/// failed.
+#[derive(Drop)]
+struct Failing {
+    taken: Vec<u8>,
+    before: u32,
+    takes_none: bool,
+    tally: Tally,
+}
+
+impl Failing {
+    fn take(&mut self, buf: &[u8]) -> io::Result<usize>
+        ensures bound { WritesAtMost result buf.now }
+        ensures bytes { WriteAppends None None result buf.now }
+        ensures tally { self.new.tally ≡ self.old.tally }
+    {
+        if self.before == 0 {
+            if self.takes_none {
+                return Ok(0);
+            }
+            return Err(io::Error::from(ErrorKind::Other));
+        }
+        self.before = self.before.saturating_sub(1);
+        self.taken.extend_from_slice(buf)?;
+        Ok(buf.len())
     }
 }
 
-fn stops(
-    rt: &impl Abort,
+impl Drain for Failing {
+    ghost told = { λ f. told_by f.tally };
+
+    fn write_some(&mut self, buf: &[u8]) -> io::Result<usize> {
+        let answer = self.take(buf);
+        self.tally = self.tally.after_write(buf, &answer);
+        answer
+    }
+}
+
+impl Finish for Failing {
+    fn finish(&mut self) {}
+}
+
+/// The opening words, the line, and GA.
+const WHOLE: [u8; 20] = [
+    255, 253, 34, 255, 253, 31, 255, 251, 3, 255, 253, 3, 255, 251, 1, 97, 13, 10, 255, 249,
+];
+
+// A session to which a line comes, and then the end of the input or a fault.
+fn served<R: Threads + Wait + Copy + Send + 'static>(
+    rt: R,
     alloc: Global,
-    world: &mut World,
-    place: usize,
-    server: bool,
-) -> Result<(), WorldFault> {
-    assert!(rt; rests_with(world, Editing::Local)?);
-    for at in 0..=EVENTS {
-        play(world, with_a_stop(at, place, server))?;
-        agrees(rt, alloc, world, 254);
+    failures: u32,
+    writer: &mut Failing,
+) -> Result<Report, SessionFault> {
+    let Ok(gate) = Arc::new(alloc, Unwatched) else {
+        return Err(SessionFault::Memory);
+    };
+    let reader = Once {
+        bytes: b"a\r\0",
+        failures,
+    };
+    let (settings, limit) = (Settings::standard(), Limit::standard());
+    let (maker, editing) = (Jobs { left: 1 }, Editing::Remote);
+    match serve_session(
+        rt, alloc, reader, writer, settings, limit, editing, maker, gate,
+    ) {
+        Ok((report, _ports)) => Ok(report),
+        Err(fault) => Err(fault),
     }
-    Ok(())
 }
 
-fn stops_at(rt: &impl Abort, alloc: Global, place: usize, server: bool) -> Result<(), WorldFault> {
-    let mut world = open(alloc, Limit::standard())?;
-    stops(rt, alloc, &mut world, place, server)
-}
-
-#[test]
-fn an_end_that_stops_leaves_the_first_entries(rt: HostRuntime) -> Result<(), WorldFault> {
-    for server in [true, false] {
-        for place in 0..=EVENTS {
-            stops_at(&rt, rt.alloc(), place, server)?;
-        }
+fn writer(alloc: Global, before: u32, takes_none: bool) -> Failing {
+    Failing {
+        taken: Vec::new(alloc),
+        before,
+        takes_none,
+        tally: Tally::new(),
     }
-    Ok(())
 }
 
-// Whether the server refuses the last of these events for this, and so many entries are taken and wait then.
-fn refuses(world: &mut World, events: &[Event], fault: ServerFault, made: (usize, usize)) -> bool {
-    let at = events.len().saturating_sub(1);
-    let cause = Cause::Server(fault);
-    let refused = play_all(world, events) == Err(WorldFault { at, cause });
-    refused && (world.taken().len(), waiting(world)) == made
-}
-
-// A world with as many entries as wait at most, and two more in flight.
-fn falls_behind(rt: &impl Abort, world: &mut World) -> Result<(), WorldFault> {
-    assert!(rt; rests(world)?);
-    types(world, &[13; 1_026])?;
-    is_too_far_behind(rt, world);
-    has_failed(rt, world);
-    Ok(())
-}
-
-fn is_too_far_behind(rt: &impl Abort, world: &mut World) {
-    let fault = ServerFault::Pty(PtyFault::TooFarAhead);
-    assert!(rt; refuses(world, &[Event::ToServer(ALL)], fault, (0, 1_024)));
-}
-
-fn has_failed(rt: &impl Abort, world: &mut World) {
-    let events = [Event::Take, Event::Key(b'a'), Event::ToServer(ALL)];
-    assert!(rt; refuses(world, &events, ServerFault::Failed, (1, 1_023)));
-    assert!(rt; world.typed().len() == 1_027);
-    assert!(rt; !world.mark());
-}
-
-#[test]
-fn a_server_that_is_too_far_behind_keeps_what_it_has(rt: HostRuntime) -> Result<(), WorldFault> {
-    let mut world = open(rt.alloc(), Limit::standard())?;
-    falls_behind(&rt, &mut world)
-}
-
-fn is_of_memory(cause: Cause) -> bool {
-    matches!(
-        cause,
-        Cause::Memory
-            | Cause::Server(
-                ServerFault::Memory | ServerFault::Failed | ServerFault::Pty(PtyFault::Memory)
+// How a session may end where an allocation was refused.
+fn is_refused(answer: &Result<Report, SessionFault>) -> bool {
+    match answer {
+        Err(fault) => matches!(
+            fault,
+            SessionFault::Memory | SessionFault::Start | SessionFault::Channel
+        ),
+        Ok(report) => matches!(
+            report.ended,
+            Ended::Fault(
+                SessionFault::Memory
+                    | SessionFault::Write
+                    | SessionFault::Server(ServerFault::Memory | ServerFault::Pty(_))
             )
-            | Cause::Client(ClientFault::Memory | ClientFault::Failed)
-    )
-}
-
-// Whether what was made begins what the keys give: an interrupt, and a line of `b`.
-fn begins(world: &World) -> bool {
-    let count = waiting(world);
-    match world.taken() {
-        [] => count <= 2,
-        [Entry::Signal(Sig::Int)] => count <= 1,
-        [Entry::Signal(Sig::Int), Entry::Text(text)] => {
-            count == 0 && text.as_slice() == b"b\n".as_slice()
-        },
-        _ => false,
+        ),
     }
 }
 
-fn fails(rt: &impl Abort, world: &mut World) {
-    if rests_with(world, Editing::Local) != Ok(true) {
-        return;
-    }
-    for at in 0..=EVENTS {
-        if let Err(fault) = play(world, with_a_stop(at, EVENTS, true)) {
-            assert!(rt; fault.at == 0 && is_of_memory(fault.cause), "{fault:?}");
+// The session ends so and writes all; where an allocation was refused, a second one does, and the first
+// has written a front.
+fn ends<R: Abort + Threads + Wait + Copy + Send + 'static>(
+    rt: R,
+    alloc: Global,
+    failures: u32,
+    how: Ended,
+) {
+    for _try in 0..2 {
+        let mut writer = writer(alloc, u32::MAX, false);
+        let answer = served(rt, alloc, failures, &mut writer);
+        if answer == Ok(ended(how, 1, 1, 0)) && writer.taken.as_slice() == WHOLE.as_slice() {
+            return;
         }
-        assert!(rt; begins(world));
+        // After a failed read a refusal is not told any more: the first fault counts.
+        let failed = failures > 0 && answer == Ok(ended(how, 1, 1, 0));
+        assert!(rt; failed || is_refused(&answer), "{answer:?}");
+        assert!(rt; WHOLE.starts_with(writer.taken.as_slice()));
+    }
+    assert!(rt; false, "refused twice");
+}
+
+#[test]
+fn a_session_tells_a_failed_read(rt: HostRuntime) {
+    ends(rt, rt.alloc(), 1, Ended::Fault(SessionFault::Read));
+}
+
+#[test]
+fn a_session_ends_where_its_input_does(rt: HostRuntime) {
+    ends(rt, rt.alloc(), 0, Ended::HangUp);
+}
+
+// Whether a write failed, the one behind so many; or it is not known, where an allocation was refused.
+fn fails_to_write<R: Abort + Threads + Wait + Copy + Send + 'static>(
+    rt: R,
+    alloc: Global,
+    before: u32,
+) -> Option<bool> {
+    let mut writer = writer(alloc, before, before % 2 == 0);
+    let answer = served(rt, alloc, 0, &mut writer);
+    assert!(rt; WHOLE.starts_with(writer.taken.as_slice()));
+    match how_it_ended(&answer) {
+        Some(Ended::HangUp) => {
+            assert!(rt; writer.taken.as_slice() == WHOLE.as_slice() && writer.tally.failed() == 0);
+            Some(false)
+        },
+        Some(Ended::Fault(SessionFault::Write)) => {
+            assert!(rt; writer.tally.failed() == 1);
+            Some(true)
+        },
+        _ => {
+            assert!(rt; is_refused(&answer), "{answer:?}");
+            None
+        },
     }
 }
 
-// Where the toolchain refuses an allocation, a piece may fail an end: what is left agrees all the same.
-#[test]
-fn an_end_that_fails_leaves_the_first_entries(rt: HostRuntime) {
-    if let Ok(mut world) = open(rt.alloc(), Limit::standard()) {
-        fails(&rt, &mut world);
+fn how_it_ended(answer: &Result<Report, SessionFault>) -> Option<Ended> {
+    match answer {
+        Ok(report) => Some(report.ended),
+        Err(_) => None,
     }
+}
+
+#[test]
+fn a_session_tells_a_failed_write(rt: HostRuntime) {
+    let mut refused = 0u32;
+    let mut failed = 0u32;
+    for before in 0..16 {
+        match fails_to_write(rt, rt.alloc(), before) {
+            Some(true) => failed = failed.saturating_add(1),
+            Some(false) => {},
+            None => refused = refused.saturating_add(1),
+        }
+    }
+    assert!(rt; refused <= 1);
+    assert!(rt; (2..16).contains(&failed), "{failed}");
 }
