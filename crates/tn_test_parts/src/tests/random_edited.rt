@@ -66,6 +66,21 @@ fn is_as_defined(rt: &impl Abort, pair: &Pair, plain: &Terminal) {
     }
 }
 
+// The input in two runs, behind this line, does what it did at the other pair.
+fn are_two_runs_alike(
+    rt: &impl Abort,
+    begun: Option<(Pair, Terminal)>,
+    front: &[u8],
+    rest: &[u8],
+    other: &Pair,
+) {
+    if let Some((mut pair, _)) = begun {
+        assert!(rt; pair.edited_run(front).is_ok());
+        assert!(rt; pair.edited_run(rest).is_ok());
+        are_same(rt, &pair, other);
+    }
+}
+
 // The input in two runs, behind this line.
 fn are_runs_alike(rt: &impl Abort, alloc: Global, settings: &Settings, line: &[u8], input: &[u8]) {
     let Some((mut each, mut plain)) = begun(alloc, settings, line) else {
@@ -77,13 +92,8 @@ fn are_runs_alike(rt: &impl Abort, alloc: Global, settings: &Settings, line: &[u
     }
     is_as_defined(rt, &each, &plain);
     for cut in 0..=input.len() {
-        let Some((mut pair, _)) = begun(alloc, settings, line) else {
-            return;
-        };
         let (front, rest) = input.split_at(cut.min(input.len()));
-        assert!(rt; pair.edited_run(front).is_ok());
-        assert!(rt; pair.edited_run(rest).is_ok());
-        are_same(rt, &pair, &each);
+        are_two_runs_alike(rt, begun(alloc, settings, line), front, rest, &each);
     }
 }
 

@@ -93,25 +93,26 @@ pub(crate) fn reads_apart(rt: &impl Abort, alloc: Global, stream: &[u8], wanted:
     assert!(rt; fed.is_err() || log.items.as_slice() == wanted);
 }
 
+// The same with cuts, and whole.
+fn is_read_as(rt: &impl Abort, alloc: Global, stream: &str, wanted: &[Item]) {
+    let stream = bytes_of(alloc, stream);
+    reads(rt, alloc, &stream, wanted);
+    assert!(rt; read_whole(alloc, &stream).as_slice() == wanted);
+}
+
 #[test]
 fn streams_are_read_wherever_they_are_cut(rt: HostRuntime) -> Result<(), AllocError> {
     let alloc = rt.alloc();
+    is_read_as(&rt, alloc, "ffff0d00", &[Item::Byte(255), Item::Byte(13)]);
+    let will = [Item::Byte(13), Item::Neg(Verb::Will, 1)];
+    is_read_as(&rt, alloc, "0dfffb01", &will);
+    is_read_as(&rt, alloc, "0d0d00", &[Item::Byte(13), Item::Byte(13)]);
+    is_read_as(&rt, alloc, "fff0ff4142fffafff0", &[Item::Byte(66)]);
+    is_read_as(&rt, alloc, "fffa2201fffb63", &[Item::Neg(Verb::Will, 99)]);
+    let ayt = [Item::Cmd(Command::Ayt), Item::Newline];
+    is_read_as(&rt, alloc, "fffa2201fff60d0a", &ayt);
     let naws = [sub(alloc, 31, &[0, 255, 0, 24])?];
-    for (stream, wanted) in [
-        ("ffff0d00", [Item::Byte(255), Item::Byte(13)].as_slice()),
-        ("0dfffb01", &[Item::Byte(13), Item::Neg(Verb::Will, 1)]),
-        ("0d0d00", &[Item::Byte(13), Item::Byte(13)]),
-        ("fff0ff4142fffafff0", &[Item::Byte(66)]),
-        ("fffa2201fffb63", &[Item::Neg(Verb::Will, 99)]),
-        (
-            "fffa2201fff60d0a",
-            &[Item::Cmd(Command::Ayt), Item::Newline],
-        ),
-        ("fffa1f00ffff0018fff0", naws.as_slice()),
-    ] {
-        reads(&rt, alloc, &bytes_of(alloc, stream), wanted);
-        assert!(rt; read_whole(alloc, &bytes_of(alloc, stream)).as_slice() == wanted);
-    }
+    is_read_as(&rt, alloc, "fffa1f00ffff0018fff0", &naws);
     Ok(())
 }
 
@@ -130,22 +131,25 @@ fn a_subnegotiation_has_at_most_512_parameters(rt: HostRuntime) {
     }
 }
 
+/// Streams, where each is cut, and the calls that it makes.
+const RUNS: &[(&str, usize, &[usize])] = &[
+    ("610a62ffff630d64", 0, &[3, 0, 1, 0, 1]),
+    ("610a62ffff630d64", 1, &[1, 2, 0, 1, 0, 1]),
+    ("610a62ffff630d64", 4, &[3, 0, 1, 0, 1]),
+    ("610a62ffff630d64", 7, &[3, 0, 1, 0, 1]),
+    ("6162ff056364fff6", 0, &[2, 2, 0]),
+    (
+        "616263ffff61626364ffff6162636465ffff",
+        0,
+        &[3, 0, 4, 0, 5, 0],
+    ),
+    ("6162636465fffb0161626364650d0061", 3, &[3, 2, 0, 5, 0, 1]),
+];
+
 #[test]
 fn a_run_is_as_long_as_can_be(rt: HostRuntime) {
     let alloc = rt.alloc();
-    for (stream, at, calls) in [
-        ("610a62ffff630d64", 0, [3, 0, 1, 0, 1].as_slice()),
-        ("610a62ffff630d64", 1, &[1, 2, 0, 1, 0, 1]),
-        ("610a62ffff630d64", 4, &[3, 0, 1, 0, 1]),
-        ("610a62ffff630d64", 7, &[3, 0, 1, 0, 1]),
-        ("6162ff056364fff6", 0, &[2, 2, 0]),
-        (
-            "616263ffff61626364ffff6162636465ffff",
-            0,
-            &[3, 0, 4, 0, 5, 0],
-        ),
-        ("6162636465fffb0161626364650d0061", 3, &[3, 2, 0, 5, 0, 1]),
-    ] {
+    for &(stream, at, calls) in RUNS {
         let stream = bytes_of(alloc, stream);
         let (first, second) = stream.split_at(stream.len().min(at));
         let mut decoder = Decoder::new(alloc);
