@@ -91,54 +91,45 @@ impl From<AllocError> for WordsFault {
 /// Why words that `clap` takes ask for nothing.
 #[derive(Clone, Copy, Debug, ErrorText)]
 enum Lack<'a> {
-    #[error("error: the following required arguments were not provided:\n  HOST, or --port <P>\n\n\
-         Usage: tn connect [OPTIONS] [HOST] [PORT]\n\nFor more information, try '--help'.\n")]
-    Port,
-    #[error("error: more than one port is given\n\n\
-         Usage: tn connect [OPTIONS] [HOST] [PORT]\n\nFor more information, try '--help'.\n")]
-    OnePort,
-    /// The text writes no host, with a port or without.
-    #[error("error: invalid value '{0}' for '[HOST]': it is no host, nor one with a port of 1 to 65535 \
-         behind a colon\n\nFor more information, try '--help'.\n")]
-    Host(&'a str),
-    #[error("error: '--lf' and '--cr' exclude each other, and need '--plain'\n\n\
-         For more information, try '--help'.\n")]
-    LineEnd,
-    #[error("error: '--plain' excludes '--escape', '--trace', '--width' and '--height'\n\n\
-         For more information, try '--help'.\n")]
-    Telnet,
-    /// The text writes no key.
-    #[error("error: invalid value '{0}' for '--escape <C>': it is neither `none` nor a caret and one of \
-         A to Z, [, \\, ], ^ and _\n\nFor more information, try '--help'.\n")]
-    Escape(&'a str),
-    /// The text is no such word.
-    #[error("error: invalid value '{0}' for '--keys <WHOSE>': it is neither `own` nor `standard`\n\n\
-         For more information, try '--help'.\n")]
-    Characters(&'a str),
-    #[error("error: '--crlf' and '--cr' exclude each other, and need '--to'\n\n\
-         For more information, try '--help'.\n")]
-    ServiceLineEnd,
-    #[error("error: '--line-cut' needs '--to'\n\nFor more information, try '--help'.\n")]
-    Service,
-    /// The text is no such word.
-    #[error("error: invalid value '{0}' for '--line-cut <WHAT>': it is neither `send` nor `end`\n\n\
-         For more information, try '--help'.\n")]
-    Cut(&'a str),
-    #[error("error: '--until <FILE>' needs a path of 1 to 4095 bytes\n\n\
-         For more information, try '--help'.\n")]
-    Path,
-    /// The number of connections is none of its range, or is given for a server without end.
-    #[error("error: '--count' and '--forever' exclude each other\n\n\
-         For more information, try '--help'.\n")]
-    Count,
-    /// The text writes no address.
-    #[error("error: invalid value '{0}' for '--to <HOST:PORT>': it is no host with a port of 1 to 65535 \
-         behind a colon\n\nFor more information, try '--help'.\n")]
-    Address(&'a str),
-    /// `clap` takes no such words.
-    #[error("error: a value is missing or out of its range\n\nFor more information, try '--help'.\n")]
-    Value,
+    /// That is wrong.
+    #[error("error: {0}\n\nFor more information, try '--help'.\n")]
+    Words(&'static str),
+    /// The text is no value for that.
+    #[error("error: invalid value '{0}' for {1}\n\nFor more information, try '--help'.\n")]
+    Value(&'a str, &'static str),
 }
+
+const NO_PORT: &str =
+    "the following required arguments were not provided:\n  HOST, or --port <P>\n\n\
+     Usage: tn connect [OPTIONS] [HOST] [PORT]";
+
+const MORE_PORTS: &str = "more than one port is given\n\nUsage: tn connect [OPTIONS] [HOST] [PORT]";
+
+const NO_HOST: &str = "'[HOST]': it is no host, nor one with a port of 1 to 65535 behind a colon";
+
+const NO_LINE_END: &str = "'--lf' and '--cr' exclude each other, and need '--plain'";
+
+const NO_TELNET: &str = "'--plain' excludes '--escape', '--trace', '--width' and '--height'";
+
+const NO_ESCAPE: &str =
+    "'--escape <C>': it is neither `none` nor a caret and one of A to Z, [, \\, ], ^ and _";
+
+const NO_CHARACTERS: &str = "'--keys <WHOSE>': it is neither `own` nor `standard`";
+
+const NO_SERVICE_LINE_END: &str = "'--crlf' and '--cr' exclude each other, and need '--to'";
+
+const NO_SERVICE: &str = "'--line-cut' needs '--to'";
+
+const NO_CUT: &str = "'--line-cut <WHAT>': it is neither `send` nor `end`";
+
+const NO_PATH: &str = "'--until <FILE>' needs a path of 1 to 4095 bytes";
+
+const TWO_COUNTS: &str = "'--count' and '--forever' exclude each other";
+
+const NO_ADDRESS: &str =
+    "'--to <HOST:PORT>': it is no host with a port of 1 to 65535 behind a colon";
+
+const NO_VALUE: &str = "a value is missing or out of its range";
 
 /// Reads the words of a command line, the program's name first.
 pub fn read_words(alloc: Global, words: &[&str]) -> Result<Asked, WordsFault>
@@ -157,7 +148,7 @@ fn asked_of(alloc: Global, matches: &ArgMatches<'_>) -> Result<Asked, WordsFault
     ensures lacks { IfErr result (Lacks (AsksNothing (subcommand_rows_of matches.now))) }
 {
     let Some((name, words)) = matches.subcommand() else {
-        return Err(lacking(alloc, &Lack::Value));
+        return Err(lacking(alloc, &Lack::Words(NO_VALUE)));
     };
     match name {
         LOCAL => Ok(Asked::Local),
@@ -172,7 +163,7 @@ fn asked_of(alloc: Global, matches: &ArgMatches<'_>) -> Result<Asked, WordsFault
             Ok(connecting) => Ok(Asked::Connect(connecting)),
             Err(fault) => Err(fault),
         },
-        _ => Err(lacking(alloc, &Lack::Value)),
+        _ => Err(lacking(alloc, &Lack::Words(NO_VALUE))),
     }
 }
 
@@ -182,23 +173,23 @@ fn serving(alloc: Global, words: &ArgMatches<'_>) -> Result<ServeWords, WordsFau
         (Lacks ((asked : ServeWords) → ¬ AsksServe (rows_of (found_of words.now)) asked)) }
 {
     let Some(host) = words.get_str(HOST) else {
-        return Err(lacking(alloc, &Lack::Value));
+        return Err(lacking(alloc, &Lack::Words(NO_VALUE)));
     };
     let to = to_of(alloc, words)?;
     let Some(line_end) = service_line_end_in(words) else {
-        return Err(lacking(alloc, &Lack::ServiceLineEnd));
+        return Err(lacking(alloc, &Lack::Words(NO_SERVICE_LINE_END)));
     };
     let Some(ends_cut) = ends_cut_in(words) else {
         return Err(lacking(alloc, &cut_lack(words)));
     };
     let Some(count) = count_in(words) else {
-        return Err(lacking(alloc, &Lack::Count));
+        return Err(lacking(alloc, &Lack::Words(TWO_COUNTS)));
     };
     let until = until_of(alloc, words)?;
     let host = String::from_str(alloc, host)?;
     match serving_at(host, to, line_end, ends_cut, count, until, words) {
         Some(serving) => Ok(serving),
-        None => Err(lacking(alloc, &Lack::Value)),
+        None => Err(lacking(alloc, &Lack::Words(NO_VALUE))),
     }
 }
 
@@ -213,7 +204,7 @@ fn to_of(alloc: Global, words: &ArgMatches<'_>) -> Result<Option<Address>, Words
     };
     match Address::from_text(alloc, text)? {
         Some(address) => Ok(Some(address)),
-        None => Err(lacking(alloc, &Lack::Address(text))),
+        None => Err(lacking(alloc, &Lack::Value(text, NO_ADDRESS))),
     }
 }
 
@@ -271,8 +262,8 @@ fn cut_of(text: &str) -> Option<bool>
 // What is wrong where the words choose nothing for such a line.
 fn cut_lack<'a>(words: &ArgMatches<'a>) -> Lack<'a> {
     match words.get_str(LINE_CUT) {
-        Some(text) if is_given(words, TO) => Lack::Cut(text),
-        _ => Lack::Service,
+        Some(text) if is_given(words, TO) => Lack::Value(text, NO_CUT),
+        _ => Lack::Words(NO_SERVICE),
     }
 }
 
@@ -287,7 +278,7 @@ fn until_of(alloc: Global, words: &ArgMatches<'_>) -> Result<Option<String>, Wor
         return Ok(None);
     };
     if !is_path(text) {
-        return Err(lacking(alloc, &Lack::Path));
+        return Err(lacking(alloc, &Lack::Words(NO_PATH)));
     }
     let path = String::from_str(alloc, text)?;
     Ok(Some(path))
@@ -375,7 +366,7 @@ fn connecting(alloc: Global, words: &ArgMatches<'_>) -> Result<ConnectWords, Wor
     let trace = trace_of(alloc, words)?;
     match connecting_to(place, escape, characters, plain, trace, words) {
         Some(connecting) => Ok(connecting),
-        None => Err(lacking(alloc, &Lack::Value)),
+        None => Err(lacking(alloc, &Lack::Words(NO_VALUE))),
     }
 }
 
@@ -420,7 +411,7 @@ fn place_of(alloc: Global, words: &ArgMatches<'_>) -> Result<Address, WordsFault
 {
     let Some((host, within)) = named_place(words) else {
         let text = words.get_str(HOST).unwrap_or(THIS_MACHINE);
-        return Err(lacking(alloc, &Lack::Host(text)));
+        return Err(lacking(alloc, &Lack::Value(text, NO_HOST)));
     };
     let Some(port) = port_of(words, within) else {
         return Err(lacking(alloc, &port_lack(words)));
@@ -471,9 +462,9 @@ fn one_port(
 // Why the words give no port.
 fn port_lack<'a>(words: &ArgMatches<'_>) -> Lack<'a> {
     if is_given(words, HOST) || is_given(words, PORT.name) {
-        Lack::OnePort
+        Lack::Words(MORE_PORTS)
     } else {
-        Lack::Port
+        Lack::Words(NO_PORT)
     }
 }
 
@@ -485,7 +476,7 @@ fn escape_of(alloc: Global, words: &ArgMatches<'_>) -> Result<Escape, WordsFault
     let text = escape_text(words);
     match Escape::from_text(text) {
         Some(escape) => Ok(escape),
-        None => Err(lacking(alloc, &Lack::Escape(text))),
+        None => Err(lacking(alloc, &Lack::Value(text, NO_ESCAPE))),
     }
 }
 
@@ -509,7 +500,7 @@ fn characters_of(alloc: Global, words: &ArgMatches<'_>) -> Result<Characters, Wo
     };
     match Characters::from_text(text) {
         Some(characters) => Ok(characters),
-        None => Err(lacking(alloc, &Lack::Characters(text))),
+        None => Err(lacking(alloc, &Lack::Value(text, NO_CHARACTERS))),
     }
 }
 
@@ -552,9 +543,9 @@ fn has_telnet_option(words: &ArgMatches<'_>) -> bool
 // What is wrong where the words choose no line end.
 fn line_end_lack<'a>(words: &ArgMatches<'_>) -> Lack<'a> {
     if is_flagged(words, PLAIN) && has_telnet_option(words) {
-        Lack::Telnet
+        Lack::Words(NO_TELNET)
     } else {
-        Lack::LineEnd
+        Lack::Words(NO_LINE_END)
     }
 }
 
