@@ -1,17 +1,75 @@
 -- Commands that get their arguments one by one.
-use Rattle.std.proofs.Common.{◌≡◌, ◌∙◌, ap, false, ◌||◌}
-use Rattle.clap.specs.Words.{AddsArg, App, Rule, app_of, rule_of, with_rule}
+use Rattle.std.proofs.Common.{◌≡◌, ◌∙◌, ap, refl, Result, Ok, Err, IfOk}
+use Rattle.std.proofs.lemmas.Result.{IfOk-weaker}
+use Rattle.std.specs.Prelude.{IsOkAnd}
+use Rattle.clap.specs.Words.{App, Rule, Shape, app_of, rule_of, shape_of, with_rule, with_subcommand}
 use Rattle.clap.specs.declared.builder.arg.Arg.{Arg}
 use Rattle.clap.specs.declared.builder.command.Command.{Command}
-use Rattle.clap.specs.declared.builder.command.Command.TheViews.{out-Command}
+use Rattle.tn_words.specs.Growing.{Grown}
+use Rattle.tn_words.specs.declared.commands.Growing.{Growing}
 
--- what a parse reads of a command with one argument more
-pub with_one_more : (old new : Command) (arg : Arg) (app : App) (rule : Rule) → AddsArg old arg new → arg.global ≡ false
-    → rule_of arg ≡ rule → app_of old ≡ app → app_of new ≡ with_rule app rule
-with_one_more old new arg app rule adds local is was =
-    adds.shape local ∙ (ap (λ a. with_rule a (rule_of arg)) was ∙ ap (with_rule app) is)
+same : {E : Type 0} (r : Result Command E) → IfOk r (λ n. IsOkAnd r (λ o. app_of n ≡ app_of o))
+same (Ok c) = refl
+same (Err e) = tt
 
--- it has no global argument, where it had none
-pub still_local : (old new : Command) (arg : Arg) → AddsArg old arg new → arg.global ≡ false
-    → (out-Command old).has_globals ≡ false → (out-Command new).has_globals ≡ false
-still_local old new arg adds local was = adds.globals ∙ (ap (λ b. b || arg.global) was ∙ local)
+-- a command grows by nothing, and then by one thing more
+pub none_more : (g : Growing) → Grown g g (λ app. app)
+none_more g = record { shape = same g.command; local = λ was. was }
+
+joined : {E : Type 0} (more again : App → App) (a b c : Result Command E) → IfOk b (λ n. IsOkAnd a (λ o. app_of n ≡ more (app_of o)))
+    → IfOk c (λ n. IsOkAnd b (λ o. app_of n ≡ again (app_of o))) → IfOk c (λ n. IsOkAnd a (λ o. app_of n ≡ again (more (app_of o))))
+joined more again (Ok a) (Ok b) (Ok c) one two = two ∙ ap again one
+joined more again (Err e) (Ok b) (Ok c) one two = absurd one
+joined more again a (Err e) (Ok c) one two = absurd two
+joined more again a b (Err e) one two = tt
+
+pub then_more : {a b c : Growing} {more again : App → App} → Grown a b more → Grown b c again → Grown a c (λ app. again (more app))
+then_more {a = a} {b = b} {c = c} {more = more} {again = again} one two = record {
+  shape = joined more again a.command b.command c.command one.shape two.shape;
+  local = λ was. two.local (one.local was);
+}
+
+by_rule : {b c : Growing} {rule : Rule} (arg : Arg) → Grown b c (λ app. with_rule app (rule_of arg)) → rule_of arg ≡ rule → Grown b c (λ app. with_rule app rule)
+by_rule {b = b} {c = c} {rule = rule} arg grown is = record {
+  shape = ruled b.command c.command grown.shape;
+  local = grown.local;
+} where
+  ruled : {E : Type 0} (o n : Result Command E) → IfOk n (λ n. IsOkAnd o (λ o. app_of n ≡ with_rule (app_of o) (rule_of arg)))
+      → IfOk n (λ n. IsOkAnd o (λ o. app_of n ≡ with_rule (app_of o) rule))
+  ruled (Ok o) (Ok n) was = was ∙ ap (with_rule (app_of o)) is
+  ruled (Err e) (Ok n) was = absurd was
+  ruled o (Err e) was = tt
+
+pub one_more : {a b c : Growing} {more : App → App} {rule : Rule} (arg : Arg) → Grown a b more → Grown b c (λ app. with_rule app (rule_of arg))
+    → rule_of arg ≡ rule → Grown a c (λ app. with_rule (more app) rule)
+one_more arg grown next is = then_more grown (by_rule arg next is)
+
+by_shape : {b c : Growing} {shape : Shape} (sub : Command) → Grown b c (λ app. with_subcommand app (shape_of sub)) → shape_of sub ≡ shape
+    → Grown b c (λ app. with_subcommand app shape)
+by_shape {b = b} {c = c} {shape = shape} sub grown is = record {
+  shape = shaped b.command c.command grown.shape;
+  local = grown.local;
+} where
+  shaped : {E : Type 0} (o n : Result Command E) → IfOk n (λ n. IsOkAnd o (λ o. app_of n ≡ with_subcommand (app_of o) (shape_of sub)))
+      → IfOk n (λ n. IsOkAnd o (λ o. app_of n ≡ with_subcommand (app_of o) shape))
+  shaped (Ok o) (Ok n) was = was ∙ ap (with_subcommand (app_of o)) is
+  shaped (Err e) (Ok n) was = absurd was
+  shaped o (Err e) was = tt
+
+pub subcommand_more : {a b c : Growing} {more : App → App} {shape : Shape} (sub : Command) → Grown a b more
+    → Grown b c (λ app. with_subcommand app (shape_of sub)) → shape_of sub ≡ shape → Grown a c (λ app. with_subcommand (more app) shape)
+subcommand_more sub grown next is = then_more grown (by_shape sub next is)
+
+-- what a parse reads of a command that has grown
+pub app_from : {start g : Growing} {more : App → App} (app : App) → Grown start g more → IfOk start.command (λ o. app_of o ≡ app)
+    → IfOk g.command (λ n. app_of n ≡ more app)
+app_from {start = start} {g = g} {more = more} app grown is = go start.command g.command is grown.shape where
+  go : {E : Type 0} (o n : Result Command E) → IfOk o (λ o. app_of o ≡ app) → IfOk n (λ n. IsOkAnd o (λ o. app_of n ≡ more (app_of o)))
+      → IfOk n (λ n. app_of n ≡ more app)
+  go (Ok o) (Ok n) is was = was ∙ ap more is
+  go (Err e) (Ok n) is was = absurd was
+  go o (Err e) is was = tt
+
+pub shape_from : {start g : Growing} {more : App → App} (app : App) → Grown start g more → IfOk start.command (λ o. app_of o ≡ app)
+    → IfOk g.command (λ n. shape_of n ≡ (more app).top)
+shape_from {g = g} app grown is = IfOk-weaker g.command _ _ (λ n was. ap (λ (a : App). a.top) was) (app_from app grown is)

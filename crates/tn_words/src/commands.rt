@@ -2,10 +2,11 @@
 
 ghost use Rattle.std.specs.Prelude.{◌≡◌, false, IfOk, codes, pos};
 ghost use Rattle.tn_words.specs.Commands.{tn, alone, offline, plain, serve, connect, whole_rule};
+ghost use Rattle.tn_words.specs.Growing.{Grown};
 ghost use Rattle.tn_words.specs.Commands.{with_default, flag_rule};
 ghost use Rattle.tn_words.specs.Commands.{host_rule, line_rule, maybe_port_rule, number_rule, place_rule};
 ghost use Rattle.tn_words.specs.Commands.{port_rule, text_rule, wait_rule};
-ghost use Rattle.clap.specs.Words.{app_of, new_app, rule_of, shape_of, with_rule};
+ghost use Rattle.clap.specs.Words.{app_of, new_app, rule_of, shape_of, with_rule, with_subcommand};
 ghost use Rattle.clap.specs.declared.builder.command.Command.TheViews.{out-Command};
 ghost use Rattle.clap.specs.declared.builder.value_parser.ValueParser.TheVariants as parser;
 
@@ -149,25 +150,72 @@ const VERSION: &str = "1.2.0";
 /// What `tn --version` prints.
 pub const VERSION_LINE: &str = "tn 1.2.0\n";
 
+// A command that gets its arguments one by one, until memory is short.
+#[derive(Drop)]
+struct Growing<'a> {
+    command: Result<Command<'a>, AllocError>,
+}
+
+impl<'a> Growing<'a> {
+    fn arg(self, arg: Arg<'a>) -> Growing<'a>
+        ensures grown { arg.entry.global ≡ false
+            → Grown self.entry result (λ app. with_rule app (rule_of arg.entry)) }
+    {
+        match self.command {
+            Ok(command) => Growing {
+                command: command.arg(arg),
+            },
+            Err(error) => {
+                drop(arg);
+                Growing {
+                    command: Err(error),
+                }
+            },
+        }
+    }
+
+    fn subcommand(self, subcommand: Command<'a>) -> Growing<'a>
+        ensures grown { (out-Command subcommand.entry).has_globals ≡ false
+            → Grown self.entry result (λ app. with_subcommand app (shape_of subcommand.entry)) }
+    {
+        match self.command {
+            Ok(command) => Growing {
+                command: command.subcommand(subcommand),
+            },
+            Err(error) => {
+                drop(subcommand);
+                Growing {
+                    command: Err(error),
+                }
+            },
+        }
+    }
+}
+
 /// The whole command line.
 pub(crate) fn tn_command<'a>(alloc: Global) -> Result<Command<'a>, AllocError>
     ensures { IfOk result (λ command. app_of command ≡ tn) }
 {
-    let command = offline_command(alloc)?;
-    let command = command.subcommand(serve_command(alloc)?)?;
-    let command = command.subcommand(connect_command(alloc)?)?;
-    Ok(command)
+    let serve = serve_command(alloc)?;
+    let connect = connect_command(alloc)?;
+    offline_command(alloc)
+        .subcommand(serve)
+        .subcommand(connect)
+        .command
 }
 
 // The subcommands that need no network.
-fn offline_command<'a>(alloc: Global) -> Result<Command<'a>, AllocError>
-    ensures { IfOk result (λ command. app_of command ≡ offline) }
+fn offline_command<'a>(alloc: Global) -> Growing<'a>
+    ensures { IfOk result.command (λ command. app_of command ≡ offline) }
 {
-    let command = bare_command(alloc).subcommand(local_command(alloc))?;
-    let command = command.subcommand(replay_command(alloc))?;
-    let command = command.subcommand(decode_command(alloc))?;
-    let command = command.subcommand(world_command(alloc))?;
-    Ok(command)
+    let command = Growing {
+        command: Ok(bare_command(alloc)),
+    };
+    command
+        .subcommand(local_command(alloc))
+        .subcommand(replay_command(alloc))
+        .subcommand(decode_command(alloc))
+        .subcommand(world_command(alloc))
 }
 
 // The command without its subcommands.
@@ -278,126 +326,119 @@ fn serve_command<'a>(alloc: Global) -> Result<Command<'a>, AllocError>
         "Example:\n  tn serve --port 2323 --count 2\n\nAnd in another terminal, one after the other:\n  \
          tn connect --port 2323\n  telnet 127.0.0.1 2323",
     );
-    let command = with_server_options(alloc, command)?;
-    let command = with_session_options(alloc, command)?;
-    let command = with_gateway_options(alloc, command)?;
-    Ok(command)
+    let command = with_server_options(
+        alloc,
+        Growing {
+            command: Ok(command),
+        },
+    );
+    let command = with_session_options(alloc, command);
+    with_gateway_options(alloc, command).command
 }
 
-fn with_server_options<'a>(alloc: Global, command: Command<'a>) -> Result<Command<'a>, AllocError>
-    requires { (out-Command command).has_globals ≡ false }
-    ensures app { IfOk result (λ new. app_of new
-        ≡ with_rule (with_rule (with_rule (with_rule (with_rule (with_rule
-        (with_rule (app_of command.entry) host_rule) port_rule)
+fn with_server_options<'a>(alloc: Global, command: Growing<'a>) -> Growing<'a>
+    ensures { Grown command.entry result (λ app. with_rule (with_rule (with_rule (with_rule (with_rule
+        (with_rule (with_rule app host_rule) port_rule)
         (with_default (whole_rule (codes "limit") 1 64) (codes "8")))
         (with_default (whole_rule (codes "per-host") 1 64) (codes "64")))
         (whole_rule (codes "count") 1 1000000)) (flag_rule (codes "forever"))) (text_rule (codes "until"))) }
-    ensures local { IfOk result (λ new. (out-Command new).has_globals ≡ false) }
 {
-    let command = command
-        .arg(host_option(alloc))?
-        .arg(required_port(alloc, "The port to listen on"))?
-        .arg(whole_option(alloc, LIMIT, "8", "How many sessions there may be at once"))?
+    command
+        .arg(host_option(alloc))
+        .arg(required_port(alloc, "The port to listen on"))
+        .arg(whole_option(alloc, LIMIT, "8", "How many sessions there may be at once"))
         .arg(whole_option(
             alloc,
             PER_HOST,
             "64",
             "How many of them there may be from one address",
-        ))?
+        ))
         .arg(optional_number(
             alloc,
             COUNT,
             "Ends after this many accepted connections; default: 1",
-        ))?
+        ))
         .arg(flag_option(
             alloc,
             FOREVER,
             "Serves until it is stopped, in place of a count",
-        ))?
+        ))
         .arg(text_option(
             alloc,
             UNTIL,
             "FILE",
             "Accepts no more once this file is there, lets its sessions end, and ends with status 0",
-        ))?;
-    Ok(command)
+        ))
 }
 
-fn with_session_options<'a>(alloc: Global, command: Command<'a>) -> Result<Command<'a>, AllocError>
-    requires { (out-Command command).has_globals ≡ false }
-    ensures app { IfOk result (λ new. app_of new
-        ≡ with_rule (with_rule (with_rule (with_rule (with_rule (with_rule
-        (app_of command.entry) (with_default (whole_rule (codes "ticks") 0 1000) (codes "0"))) line_rule)
+fn with_session_options<'a>(alloc: Global, command: Growing<'a>) -> Growing<'a>
+    ensures { Grown command.entry result (λ app. with_rule (with_rule (with_rule (with_rule (with_rule
+        (with_rule app (with_default (whole_rule (codes "ticks") 0 1000) (codes "0"))) line_rule)
         (with_default (whole_rule (codes "idle") 0 86400) (codes "0")))
         (with_default (whole_rule (codes "longest") 0 86400) (codes "0"))) (flag_rule (codes "local")))
         (flag_rule (codes "verbose"))) }
-    ensures local { IfOk result (λ new. (out-Command new).has_globals ≡ false) }
 {
-    let command = command
+    command
         .arg(whole_option(
             alloc,
             TICKS,
             "0",
             "How often a job in the background writes `tick`",
-        ))?
-        .arg(line_option(alloc))?
+        ))
+        .arg(line_option(alloc))
         .arg(whole_option(
             alloc,
             IDLE,
             "0",
             "Ends a session whose client types nothing for this many seconds; 0 never does",
-        ))?
+        ))
         .arg(whole_option(
             alloc,
             LONGEST,
             "0",
             "Ends each session after this many seconds; 0 never does",
-        ))?
+        ))
         .arg(flag_option(
             alloc,
             LOCALLY,
             "Lets the client edit the lines, where it can",
-        ))?
+        ))
         .arg(flag_option(
             alloc,
             VERBOSE,
             "Notes on standard error who connects and how each session ends",
-        ))?;
-    Ok(command)
+        ))
 }
 
-fn with_gateway_options<'a>(alloc: Global, command: Command<'a>) -> Result<Command<'a>, AllocError>
-    requires { (out-Command command).has_globals ≡ false }
-    ensures app { IfOk result (λ new. app_of new
-        ≡ with_rule (with_rule (with_rule (with_rule (app_of command.entry)
-        (text_rule (codes "to"))) (flag_rule (codes "crlf"))) (flag_rule (codes "cr"))) (text_rule (codes "line-cut"))) }
-    ensures local { IfOk result (λ new. (out-Command new).has_globals ≡ false) }
+fn with_gateway_options<'a>(alloc: Global, command: Growing<'a>) -> Growing<'a>
+    ensures { Grown command.entry result (λ app. with_rule (with_rule (with_rule (with_rule app
+        (text_rule (codes "to"))) (flag_rule (codes "crlf"))) (flag_rule (codes "cr")))
+        (text_rule (codes "line-cut"))) }
 {
-    let command = command
+    command
         .arg(text_option(
             alloc,
             TO,
             "HOST:PORT",
             "Joins each session to the line service there: lines go to it, and what it says comes back",
-        ))?
+        ))
         .arg(flag_option(
             alloc,
             CRLF,
             "Ends each line to that service with CR LF in place of LF",
-        ))?
+        ))
         .arg(flag_option(
             alloc,
             CR,
             "Ends each line to that service with CR in place of LF",
-        ))?
+        ))
         .arg(text_option(
             alloc,
             LINE_CUT,
             "WHAT",
             "With a line as long as one may be, which may have been cut: `send` it, which is the default, or \
              `end` the session",
-        ))?;
-    Ok(command)
+        ))
 }
 
 fn connect_command<'a>(alloc: Global) -> Result<Command<'a>, AllocError>
@@ -419,107 +460,89 @@ fn connect_command<'a>(alloc: Global) -> Result<Command<'a>, AllocError>
         "Example, where `tn serve --port 2323` runs in another terminal:\n  \
          printf 'hello\\rexit\\r' | tn connect --port 2323",
     );
-    let command = with_connect_options(alloc, command)?;
-    Ok(command)
-}
-
-fn with_connect_options<'a>(alloc: Global, command: Command<'a>) -> Result<Command<'a>, AllocError>
-    requires app { app_of command ≡ new_app (codes "connect") }
-    requires local { (out-Command command).has_globals ≡ false }
-    ensures shape { IfOk result (λ command. shape_of command ≡ connect) }
-    ensures local { IfOk result (λ command. (out-Command command).has_globals ≡ false) }
-{
-    let command = with_places(alloc, command)?;
-    let command = with_window_options(alloc, command)?;
-    let command = with_terminal_options(alloc, command)?;
-    let command = with_plain_options(alloc, command)?;
-    Ok(command)
+    let command = with_places(
+        alloc,
+        Growing {
+            command: Ok(command),
+        },
+    );
+    let command = with_window_options(alloc, command);
+    let command = with_terminal_options(alloc, command);
+    with_plain_options(alloc, command).command
 }
 
 // Where to connect to.
-fn with_places<'a>(alloc: Global, command: Command<'a>) -> Result<Command<'a>, AllocError>
-    requires { (out-Command command).has_globals ≡ false }
-    ensures app { IfOk result (λ new. app_of new ≡ with_rule (with_rule (with_rule
-        (app_of command.entry) (place_rule (codes "host"))) (number_rule (codes "at") 1 65535)) maybe_port_rule) }
-    ensures local { IfOk result (λ new. (out-Command new).has_globals ≡ false) }
+fn with_places<'a>(alloc: Global, command: Growing<'a>) -> Growing<'a>
+    ensures { Grown command.entry result (λ app. with_rule (with_rule (with_rule
+        app (place_rule (codes "host"))) (number_rule (codes "at") 1 65535)) maybe_port_rule) }
 {
-    let command = command
-        .arg(host_place(alloc))?
-        .arg(port_place(alloc))?
+    command
+        .arg(host_place(alloc))
+        .arg(port_place(alloc))
         .arg(port_option(
             alloc,
             "The port, in place of the one behind HOST or within it",
-        ))?;
-    Ok(command)
+        ))
 }
 
-fn with_window_options<'a>(alloc: Global, command: Command<'a>) -> Result<Command<'a>, AllocError>
-    requires { (out-Command command).has_globals ≡ false }
-    ensures app { IfOk result (λ new. app_of new ≡ with_rule (with_rule (with_rule (app_of command.entry)
+fn with_window_options<'a>(alloc: Global, command: Growing<'a>) -> Growing<'a>
+    ensures { Grown command.entry result (λ app. with_rule (with_rule (with_rule app
         (whole_rule (codes "width") 0 65535)) (whole_rule (codes "height") 0 65535)) line_rule) }
-    ensures local { IfOk result (λ new. (out-Command new).has_globals ≡ false) }
 {
-    let command = command
+    command
         .arg(optional_number(
             alloc,
             WIDTH,
             "The width of the window, in characters; 0 tells none; default: the terminal's, or 80",
-        ))?
+        ))
         .arg(optional_number(
             alloc,
             HEIGHT,
             "The height of the window, in lines; 0 tells none; default: the terminal's, or 24",
-        ))?
-        .arg(line_option(alloc))?;
-    Ok(command)
+        ))
+        .arg(line_option(alloc))
 }
 
-fn with_terminal_options<'a>(alloc: Global, command: Command<'a>) -> Result<Command<'a>, AllocError>
-    requires { (out-Command command).has_globals ≡ false }
-    ensures app { IfOk result (λ new. app_of new ≡ with_rule (with_rule (with_rule (with_rule (with_rule
-        (app_of command.entry) (text_rule (codes "escape"))) (text_rule (codes "keys")))
+fn with_terminal_options<'a>(alloc: Global, command: Growing<'a>) -> Growing<'a>
+    ensures { Grown command.entry result (λ app. with_rule (with_rule (with_rule (with_rule (with_rule
+        app (text_rule (codes "escape"))) (text_rule (codes "keys")))
         (text_rule (codes "trace"))) wait_rule) (flag_rule (codes "quiet"))) }
-    ensures local { IfOk result (λ new. (out-Command new).has_globals ≡ false) }
 {
-    let command = command
-        .arg(escape_option(alloc))?
+    command
+        .arg(escape_option(alloc))
         .arg(text_option(
             alloc,
             KEYS,
             "WHOSE",
             "Takes the keys of a terminal by its `own` special characters, which is the default, or by the \
              `standard` ones",
-        ))?
+        ))
         .arg(text_option(
             alloc,
             TRACE,
             "FILE",
             "Writes to this file what goes over the connection",
-        ))?
-        .arg(wait_option(alloc))?
+        ))
+        .arg(wait_option(alloc))
         .arg(flag_option(
             alloc,
             QUIET,
             "Tells nothing of the connection at a terminal, but what fails",
-        ))?;
-    Ok(command)
+        ))
 }
 
-fn with_plain_options<'a>(alloc: Global, command: Command<'a>) -> Result<Command<'a>, AllocError>
-    requires { (out-Command command).has_globals ≡ false }
-    ensures app { IfOk result (λ new. app_of new ≡ with_rule (with_rule (with_rule (app_of command.entry)
+fn with_plain_options<'a>(alloc: Global, command: Growing<'a>) -> Growing<'a>
+    ensures { Grown command.entry result (λ app. with_rule (with_rule (with_rule app
         (flag_rule (codes "plain"))) (flag_rule (codes "lf"))) (flag_rule (codes "cr"))) }
-    ensures local { IfOk result (λ new. (out-Command new).has_globals ≡ false) }
 {
-    let command = command
+    command
         .arg(flag_option(
             alloc,
             PLAIN,
             "Edits lines here, and sends each with CR LF, without Telnet",
-        ))?
-        .arg(flag_option(alloc, LF, "With --plain: ends each line with LF"))?
-        .arg(flag_option(alloc, CR, "With --plain: ends each line with CR"))?;
-    Ok(command)
+        ))
+        .arg(flag_option(alloc, LF, "With --plain: ends each line with LF"))
+        .arg(flag_option(alloc, CR, "With --plain: ends each line with CR"))
 }
 
 // A subcommand without options, with its help texts.

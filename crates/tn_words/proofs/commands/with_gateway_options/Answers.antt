@@ -1,21 +1,9 @@
-use Rattle.std.proofs.Common.{refl}
-use Rattle.tn_words.proofs.Commanding.{with_one_more, still_local}
+use Rattle.tn_words.proofs.Commanding.{none_more, one_more}
 use Rattle.tn_words.proofs.commands.with_gateway_options.Goals as goal
 
-pub returns-clause-app : goal.returns-clause-app
-returns-clause-app c =
-    let a1 = with_one_more c.args.command c.in_ok-arg.field-0 c.text_option.result _ _ c.in_ok-arg.ensures c.text_option.ensures.local
-    c.text_option.ensures.rule refl in
-    let a2 = with_one_more c.in_ok-arg.field-0 c.in_ok-arg-2.field-0 c.flag_option.result _ _ c.in_ok-arg-2.ensures c.flag_option.ensures.local
-    c.flag_option.ensures.rule a1 in
-    let a3 = with_one_more c.in_ok-arg-2.field-0 c.in_ok-arg-3.field-0 c.flag_option-2.result _ _ c.in_ok-arg-3.ensures c.flag_option-2.ensures.local
-    c.flag_option-2.ensures.rule a2 in
-    with_one_more c.in_ok-arg-3.field-0 c.in_ok-command.command c.text_option-2.result _ _ c.in_ok-command.ensures c.text_option-2.ensures.local
-    c.text_option-2.ensures.rule a3
-
-pub returns-clause-local : goal.returns-clause-local
-returns-clause-local c =
-    let a1 = still_local c.args.command c.in_ok-arg.field-0 c.text_option.result c.in_ok-arg.ensures c.text_option.ensures.local c.requires in
-    let a2 = still_local c.in_ok-arg.field-0 c.in_ok-arg-2.field-0 c.flag_option.result c.in_ok-arg-2.ensures c.flag_option.ensures.local a1 in
-    let a3 = still_local c.in_ok-arg-2.field-0 c.in_ok-arg-3.field-0 c.flag_option-2.result c.in_ok-arg-3.ensures c.flag_option-2.ensures.local a2 in
-    still_local c.in_ok-arg-3.field-0 c.in_ok-command.command c.text_option-2.result c.in_ok-command.ensures c.text_option-2.ensures.local a3
+pub returns : goal.returns
+returns c =
+    let a1 = one_more c.text_option.result (none_more c.args.command) (c.arg.ensures.grown c.text_option.ensures.local) c.text_option.ensures.rule in
+    let a2 = one_more c.flag_option.result a1 (c.arg-2.ensures.grown c.flag_option.ensures.local) c.flag_option.ensures.rule in
+    let a3 = one_more c.flag_option-2.result a2 (c.arg-3.ensures.grown c.flag_option-2.ensures.local) c.flag_option-2.ensures.rule in
+    one_more c.text_option-2.result a3 (c.arg-4.ensures.grown c.text_option-2.ensures.local) c.text_option-2.ensures.rule

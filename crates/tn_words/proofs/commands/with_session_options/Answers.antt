@@ -1,27 +1,11 @@
-use Rattle.std.proofs.Common.{refl}
-use Rattle.tn_words.proofs.Commanding.{with_one_more, still_local}
+use Rattle.tn_words.proofs.Commanding.{none_more, one_more}
 use Rattle.tn_words.proofs.commands.with_session_options.Goals as goal
 
-pub returns-clause-app : goal.returns-clause-app
-returns-clause-app c =
-    let a1 = with_one_more c.args.command c.in_ok-arg.field-0 c.whole_option.result _ _ c.in_ok-arg.ensures c.whole_option.ensures.local
-    c.whole_option.ensures.rule refl in
-    let a2 = with_one_more c.in_ok-arg.field-0 c.in_ok-arg-2.field-0 c.line_option.result _ _ c.in_ok-arg-2.ensures c.line_option.ensures.local
-    c.line_option.ensures.rule a1 in
-    let a3 = with_one_more c.in_ok-arg-2.field-0 c.in_ok-arg-3.field-0 c.whole_option-2.result _ _ c.in_ok-arg-3.ensures c.whole_option-2.ensures.local
-    c.whole_option-2.ensures.rule a2 in
-    let a4 = with_one_more c.in_ok-arg-3.field-0 c.in_ok-arg-4.field-0 c.whole_option-3.result _ _ c.in_ok-arg-4.ensures c.whole_option-3.ensures.local
-    c.whole_option-3.ensures.rule a3 in
-    let a5 = with_one_more c.in_ok-arg-4.field-0 c.in_ok-arg-5.field-0 c.flag_option.result _ _ c.in_ok-arg-5.ensures c.flag_option.ensures.local
-    c.flag_option.ensures.rule a4 in
-    with_one_more c.in_ok-arg-5.field-0 c.in_ok-command.command c.flag_option-2.result _ _ c.in_ok-command.ensures c.flag_option-2.ensures.local
-    c.flag_option-2.ensures.rule a5
-
-pub returns-clause-local : goal.returns-clause-local
-returns-clause-local c =
-    let a1 = still_local c.args.command c.in_ok-arg.field-0 c.whole_option.result c.in_ok-arg.ensures c.whole_option.ensures.local c.requires in
-    let a2 = still_local c.in_ok-arg.field-0 c.in_ok-arg-2.field-0 c.line_option.result c.in_ok-arg-2.ensures c.line_option.ensures.local a1 in
-    let a3 = still_local c.in_ok-arg-2.field-0 c.in_ok-arg-3.field-0 c.whole_option-2.result c.in_ok-arg-3.ensures c.whole_option-2.ensures.local a2 in
-    let a4 = still_local c.in_ok-arg-3.field-0 c.in_ok-arg-4.field-0 c.whole_option-3.result c.in_ok-arg-4.ensures c.whole_option-3.ensures.local a3 in
-    let a5 = still_local c.in_ok-arg-4.field-0 c.in_ok-arg-5.field-0 c.flag_option.result c.in_ok-arg-5.ensures c.flag_option.ensures.local a4 in
-    still_local c.in_ok-arg-5.field-0 c.in_ok-command.command c.flag_option-2.result c.in_ok-command.ensures c.flag_option-2.ensures.local a5
+pub returns : goal.returns
+returns c =
+    let a1 = one_more c.whole_option.result (none_more c.args.command) (c.arg.ensures.grown c.whole_option.ensures.local) c.whole_option.ensures.rule in
+    let a2 = one_more c.line_option.result a1 (c.arg-2.ensures.grown c.line_option.ensures.local) c.line_option.ensures.rule in
+    let a3 = one_more c.whole_option-2.result a2 (c.arg-3.ensures.grown c.whole_option-2.ensures.local) c.whole_option-2.ensures.rule in
+    let a4 = one_more c.whole_option-3.result a3 (c.arg-4.ensures.grown c.whole_option-3.ensures.local) c.whole_option-3.ensures.rule in
+    let a5 = one_more c.flag_option.result a4 (c.arg-5.ensures.grown c.flag_option.ensures.local) c.flag_option.ensures.rule in
+    one_more c.flag_option-2.result a5 (c.arg-6.ensures.grown c.flag_option-2.ensures.local) c.flag_option-2.ensures.rule

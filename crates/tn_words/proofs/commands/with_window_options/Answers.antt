@@ -1,18 +1,8 @@
-use Rattle.std.proofs.Common.{refl}
-use Rattle.tn_words.proofs.Commanding.{with_one_more, still_local}
+use Rattle.tn_words.proofs.Commanding.{none_more, one_more}
 use Rattle.tn_words.proofs.commands.with_window_options.Goals as goal
 
-pub returns-clause-app : goal.returns-clause-app
-returns-clause-app c =
-    let a1 = with_one_more c.args.command c.in_ok-arg.field-0 c.optional_number.result _ _ c.in_ok-arg.ensures c.optional_number.ensures.local
-    c.optional_number.ensures.rule refl in
-    let a2 = with_one_more c.in_ok-arg.field-0 c.in_ok-arg-2.field-0 c.optional_number-2.result _ _ c.in_ok-arg-2.ensures c.optional_number-2.ensures.local
-    c.optional_number-2.ensures.rule a1 in
-    with_one_more c.in_ok-arg-2.field-0 c.in_ok-command.command c.line_option.result _ _ c.in_ok-command.ensures c.line_option.ensures.local
-    c.line_option.ensures.rule a2
-
-pub returns-clause-local : goal.returns-clause-local
-returns-clause-local c =
-    let a1 = still_local c.args.command c.in_ok-arg.field-0 c.optional_number.result c.in_ok-arg.ensures c.optional_number.ensures.local c.requires in
-    let a2 = still_local c.in_ok-arg.field-0 c.in_ok-arg-2.field-0 c.optional_number-2.result c.in_ok-arg-2.ensures c.optional_number-2.ensures.local a1 in
-    still_local c.in_ok-arg-2.field-0 c.in_ok-command.command c.line_option.result c.in_ok-command.ensures c.line_option.ensures.local a2
+pub returns : goal.returns
+returns c =
+    let a1 = one_more c.optional_number.result (none_more c.args.command) (c.arg.ensures.grown c.optional_number.ensures.local) c.optional_number.ensures.rule in
+    let a2 = one_more c.optional_number-2.result a1 (c.arg-2.ensures.grown c.optional_number-2.ensures.local) c.optional_number-2.ensures.rule in
+    one_more c.line_option.result a2 (c.arg-3.ensures.grown c.line_option.ensures.local) c.line_option.ensures.rule

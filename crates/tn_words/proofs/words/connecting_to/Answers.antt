@@ -14,13 +14,13 @@ returns-in_err-number-2-clause-none c none asked asks =
 pub returns-clause-asked : goal.returns-clause-asked
 returns-clause-asked c = record {
   place = c.requires.place;
-  width = search rules;
-  height = search rules;
+  width = c.in_ok-size.ensures.some;
+  height = c.in_ok-size-2.ensures.some;
   line = search rules;
   escape = c.requires.escape;
   characters = c.requires.characters;
   trace = c.requires.trace;
-  wait = search rules;
+  wait = c.in_ok-number-2.ensures.some;
   quiet = record {
     given = λ is. c.get_flag.ensures.value (one_text-rows (found_of c.args.words.now) (codes "quiet") ∙ is);
     not_given = λ is. c.get_flag.ensures.other (one_text-rows (found_of c.args.words.now) (codes "quiet") ∙ is);

@@ -1,4 +1,4 @@
-use Rattle.std.proofs.Common.{codes, subst, sym}
+use Rattle.std.proofs.Common.{subst, sym}
 use Rattle.tn_words.proofs.Asking.{lacks_by}
 use Rattle.tn_words.specs.Escapes.{WritesEscape}
 use Rattle.tn_words.proofs.words.escape_of.Goals as goal

@@ -1,4 +1,4 @@
-use Rattle.std.proofs.Common.{◌∙◌, ap, sym, subst, is_some, Some, codes, string_bytes}
+use Rattle.std.proofs.Common.{◌∙◌, ap, sym, subst, is_some, Some, codes}
 use Rattle.clap.specs.Words.{found_of, rows_of}
 use Rattle.tn_words.proofs.Asking.{lacks_by}
 use Rattle.tn_words.proofs.Given.{given_none, given_some, no_path}
