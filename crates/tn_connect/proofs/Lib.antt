@@ -1,3 +1,4 @@
 mod Faults
 mod Keys
 mod Put
+mod Reached

@@ -86,30 +86,68 @@ fn wire<H: Host, Q: Queue>(
     ensures fault { IfErr result IsOfNetwork }
     ensures nothing_yet { IfOk result (λ wires. view wires.outgoing.pass ≡ putter []) }
 {
+    let sent = Arc::try_clone(&opened.link)?;
+    let trace = opened.trace.try_clone()?;
+    let is_over = Arc::new(alloc, AtomicBool::new(false))?;
+    let seen = Arc::try_clone(&is_over)?;
     let Opened {
         stream,
         link,
-        trace,
+        trace: written,
         queue,
     } = opened;
-    let (reader, writer) = Connection::split(stream)?;
-    reader.set_write_timeout(Some(Duration::from_millis(WRITE_LOOK)))?;
-    link.attach(&rt, reader.try_clone()?);
-    let sent = Arc::try_clone(&link)?;
-    let is_over = Arc::new(alloc, AtomicBool::new(false))?;
+    let (reader, writer) = split(&rt, stream, &link)?;
+    let (outgoing, sending) = queue.sides(rt, alloc, Logged::new(writer), sent, written)?;
     let brought = Brought {
         reader,
-        is_over: Arc::try_clone(&is_over)?,
+        is_over: seen,
     };
-    let incoming = Incoming::new(brought, link, trace.try_clone()?);
-    let (outgoing, sending) = queue.sides(rt, alloc, Logged::new(writer), sent, trace)?;
-    let sender = Sender { sending };
     Ok(Wires {
-        incoming,
+        incoming: Incoming::new(brought, link, trace),
         outgoing,
-        sender,
+        sender: Sender { sending },
         is_over,
     })
+}
+
+// A connection's two directions, as they are read and written.
+#[tactic(auto, using(crate::proofs::Faults::of_network))]
+fn split<H: Host>(
+    rt: &H,
+    stream: TcpStream,
+    link: &Link,
+) -> Result<(TcpStream, Connection<TcpStream>), ConnectFault>
+    ensures fault { IfErr result IsOfNetwork }
+{
+    let (reader, writer) = Connection::split(stream)?;
+    reader.set_write_timeout(Some(Duration::from_millis(WRITE_LOOK)))?;
+    link.attach(rt, reader.try_clone()?);
+    Ok((reader, writer))
+}
+
+// Runs a session over a connection's two directions, with these keys and this screen.
+fn talk_by<H: Host, T: Source + Drop + Send + 'static, S: Write, Q: Queue>(
+    rt: H,
+    alloc: Global,
+    incoming: Incoming<H, Brought<TcpStream>>,
+    outgoing: &mut Outgoing<H, Q>,
+    keys: T,
+    screen: &mut S,
+    connecting: &Connecting,
+) -> Result<(Report, ClientPorts), SessionFault>
+    requires nothing_yet { view outgoing.old.pass ≡ putter [] }
+    ensures ran { IfOk result (λ r. RunsWriting (window_of connecting.now)
+        (known_typing T.remaining T.foretold T.sizes T.words T.controls keys)
+        (S.contents screen.old) (S.contents screen.new) (put_bytes (view outgoing.new.pass)) r.0 r.1) }
+{
+    let Ok(gate) = Publisher::new(alloc, incoming.link()) else {
+        return Err(SessionFault::Memory);
+    };
+    let (width, height) = (connecting.width, connecting.height);
+    let limit = connecting.line_limit;
+    client_session(
+        rt, alloc, incoming, keys, outgoing, screen, width, height, limit, gate,
+    )
 }
 
 // Runs a session over a connection's two directions, with the keys of a reader and this screen.
@@ -128,37 +166,23 @@ fn talk_from<H: Host, K: Read + Drop + Send + 'static, S: Write, Q: Queue>(
         RunsWriting (window_of connecting) (foreseen connecting.origin (K.remaining typing.keys))
         (S.contents screen.old) (S.contents screen.new) (put_bytes (view outgoing.new.pass)) r.0 r.1) }
 {
-    let Ok(gate) = Publisher::new(alloc, incoming.link()) else {
-        return Err(SessionFault::Memory);
-    };
-    let (width, height) = (connecting.width, connecting.height);
-    let limit = connecting.line_limit;
-    let origin = connecting.origin;
-    match origin {
+    match connecting.origin {
         KeySource::Reader => {
             let keys = Keys::new(typing);
-            client_session(
-                rt, alloc, incoming, keys, outgoing, screen, width, height, limit, gate,
-            )
+            talk_by(rt, alloc, incoming, outgoing, keys, screen, &connecting)
         },
         KeySource::Input => {
-            let seconds = connecting.wait;
-            let keys = console_of(rt, alloc, typing, &connecting);
             let keys = Patient {
                 rt,
-                keys,
-                seconds,
+                keys: console_of(rt, alloc, typing, &connecting),
+                seconds: connecting.wait,
                 is_over,
             };
-            client_session(
-                rt, alloc, incoming, keys, outgoing, screen, width, height, limit, gate,
-            )
+            talk_by(rt, alloc, incoming, outgoing, keys, screen, &connecting)
         },
         KeySource::Terminal(_) => {
             let keys = console_of(rt, alloc, typing, &connecting);
-            client_session(
-                rt, alloc, incoming, keys, outgoing, screen, width, height, limit, gate,
-            )
+            talk_by(rt, alloc, incoming, outgoing, keys, screen, &connecting)
         },
     }
 }
@@ -240,50 +264,70 @@ fn talk_and_send<H: Host, K: Read + Drop + Send + 'static, S: Write, Q: Queue + 
     })
 }
 
-// The user's keys, with what they are answered by. It takes eight, as they go together nowhere else.
-fn typing_of<H: Host, K: Drop>(
+// The files that a client has: what `ClientContext` says of them.
+#[derive(Drop)]
+struct Files {
+    trace: Option<File>,
+    sizes: Option<File>,
+    stands: Option<File>,
+    terminal: Option<File>,
+}
+
+// What a session over a connection works with.
+struct Laid<H, K> {
+    opened: Opened<H>,
+    typing: Typing<H, K>,
+    trace: Trace<H>,
+}
+
+// The connection with a queue of its own, the user's keys, held back while much waits there, and the trace.
+// It takes eight, as they go together nowhere else.
+fn lay_out<H: Host, K: Drop>(
+    rt: H,
     alloc: Global,
+    stream: TcpStream,
     host: &str,
     connecting: &Connecting,
     keys: K,
-    throttle: Throttle<H>,
     link: &Arc<Link, Global>,
-    sizes: Option<File>,
-    terminal: Terminal,
-) -> Result<Typing<H, K>, AllocError>
-    ensures { IfOk result (λ typing. typing.keys ≡ keys) }
+    files: Files,
+) -> Result<Laid<H, K>, AllocError>
+    ensures queue { IfOk result (λ laid. IsNew laid.opened.queue) }
+    ensures keys { IfOk result (λ laid. laid.typing.keys ≡ keys) }
 {
-    Ok(Typing {
+    let Files {
+        trace,
+        sizes,
+        stands,
+        terminal,
+    } = files;
+    let trace = Trace::new(rt, alloc, trace)?;
+    let written = trace.try_clone()?;
+    let opened = Arc::try_clone(link)?;
+    let link = Arc::try_clone(link)?;
+    let host = String::from_str(alloc, host)?;
+    let (queue, throttle) = new_queue(rt, alloc)?;
+    let typing = Typing {
         keys,
         throttle,
-        link: Arc::try_clone(link)?,
-        host: String::from_str(alloc, host)?,
+        link,
+        host,
         port: connecting.port,
         width: connecting.width,
         height: connecting.height,
         sizes: Sizes::new(sizes),
-        terminal: Some(terminal),
-    })
-}
-
-// The connection with a queue of its own, and what holds the keys back while much waits there.
-fn opened_over<H: Host>(
-    rt: H,
-    alloc: Global,
-    stream: TcpStream,
-    link: &Arc<Link, Global>,
-    trace: &Trace<H>,
-) -> Result<(Opened<H>, Throttle<H>), AllocError>
-    ensures { IfOk result (λ r. IsNew r.0.queue) }
-{
-    let (queue, throttle) = new_queue(rt, alloc)?;
-    let opened = Opened {
-        stream,
-        link: Arc::try_clone(link)?,
-        trace: trace.try_clone()?,
-        queue,
+        terminal: Some(Terminal::new(terminal, stands)),
     };
-    Ok((opened, throttle))
+    Ok(Laid {
+        opened: Opened {
+            stream,
+            link: opened,
+            trace: written,
+            queue,
+        },
+        typing,
+        trace,
+    })
 }
 
 /// Connects to a host, an address or a name, and runs a client's session over the connection, with these
@@ -297,7 +341,7 @@ pub fn connect<H: Host + Network, K: Read + Drop + Send + 'static, S: Write, E: 
     connecting: Connecting,
     keys: K,
     screen: &mut S,
-    mut notes: ClientContext<'_, E>,
+    notes: ClientContext<'_, E>,
 ) -> Result<Connected, ConnectFault>
     ensures ran { IfOk result (RunsClient (window_of connecting)
         (foreseen connecting.origin (K.remaining keys))
@@ -309,37 +353,42 @@ pub fn connect<H: Host + Network, K: Read + Drop + Send + 'static, S: Write, E: 
     ensures reached { ConnectsBy connection_of
         (Reaches (H.finds rt host.now connecting.port) (H.dials rt)) result }
 {
-    let causes = notes.causes;
-    if notes.trace.is_some() {
-        notes.news.trace();
-    }
-    let stream = reach(&rt, host, connecting.port, &mut notes.news, causes)?;
-    let connection = Snapshot::of(&stream);
-    tell_that_it_stands(&mut notes.stands);
-    notes.news.connect(host, connecting.escape);
-    let (link, sizes) = (&notes.link, notes.sizes);
-    let trace = Trace::new(rt, alloc, notes.trace)?;
-    let (opened, throttle) = opened_over(rt, alloc, stream, link, &trace)?;
-    let terminal = Terminal::new(notes.terminal, notes.stands);
-    let typing = typing_of(
-        alloc,
-        host,
-        &connecting,
-        keys,
-        throttle,
-        link,
+    let ClientContext {
+        trace,
         sizes,
+        mut stands,
         terminal,
-    )?;
+        mut news,
+        causes,
+        link,
+    } = notes;
+    if trace.is_some() {
+        news.trace();
+    }
+    let stream = reach(&rt, host, connecting.port, &mut news, causes)?;
+    let connection = Snapshot::of(&stream);
+    tell_that_it_stands(&mut stands);
+    news.connect(host, connecting.escape);
+    let files = Files {
+        trace,
+        sizes,
+        stands,
+        terminal,
+    };
+    let Laid {
+        opened,
+        typing,
+        trace,
+    } = lay_out(rt, alloc, stream, host, &connecting, keys, &link, files)?;
     let talked = talk_and_send::<H, K, S, Brand>(rt, alloc, opened, typing, screen, connecting)?;
-    note_talked(causes, &talked, link);
+    note_talked(causes, &talked, &link);
     if !trace.is_whole() {
         let _ = writeln!(causes, "tn: the trace is not whole");
     }
     let is_left = link.is_left();
     // A screen that takes no more has ended the connection, and sending fails then.
     let ended = result_of(talked, connection, is_left || link.is_dark());
-    notes.news.close(host, is_left, ended.is_ok());
+    news.close(host, is_left, ended.is_ok());
     ended
 }
 

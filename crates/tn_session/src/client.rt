@@ -84,10 +84,10 @@ fn equip<G: Gate + Drop>(alloc: Global, gate: Arc<G, Global>) -> Result<Outfit<G
     ensures mailbox { IfOk result (λ outfit. IsReadyForTwo outfit.mailbox) }
     ensures stops { IfOk result (λ outfit. AreNewStops outfit.watched.stops outfit.stops) }
 {
-    let mailbox = make_mailbox(alloc)?;
-    let (teller, stops) = make_stops(alloc)?;
     let net_gate = Arc::try_clone(&gate)?;
     let keys_gate = Arc::try_clone(&gate)?;
+    let (teller, stops) = make_stops(alloc)?;
+    let mailbox = make_mailbox(alloc)?;
     Ok(Outfit {
         mailbox,
         stops,

@@ -8,36 +8,41 @@ ghost use Rattle.tn_session.specs.Facts.{job_facts, session_result};
 ghost use Rattle.tn_session.specs.Joining.{IsReady, handler};
 ghost use Rattle.tn_session.specs.Makers.{AreAll, GivesJobs, IsMakerFault, begins};
 ghost use Rattle.tn_session.specs.Notes.{no_notes, noted_of};
-ghost use Rattle.tn_queue.specs.Queue.{putter};
+ghost use Rattle.tn_queue.specs.Queue.{putter, taker};
 ghost use Rattle.tn_session.specs.Session.{IsBegun, IsOpening, IsRun, IsRefusal, IsOfThreads, RunsOn};
 ghost use Rattle.tn_session.specs.Session.{RunningSession, report_of};
-ghost use Rattle.tn_session.specs.Stops.{AreNewStops};
+ghost use Rattle.tn_session.specs.Mailbox.{sender};
+ghost use Rattle.tn_session.specs.Stops.{AreNewStops, StopsStay};
 ghost use Rattle.tn_session.specs.Turning.{IsQueue, ids_of, jobs_of};
 ghost use Rattle.tn_session.specs.Turns.{StaysInReach};
+ghost use Rattle.tn_session.specs.declared.mail.Sender.TheVariants.{Desk, Back};
 ghost use Rattle.tn_streams.specs.Known.{known_reader, known_writing};
 ghost use Rattle.tn_streams.specs.Sending.{StaysOpen, IsFinished};
 ghost use Rattle.tn_machines.specs.server.Welcoming.{too_far_ahead};
 
 use crate::back::Runner;
-use crate::channels::{AllRoles, CutBack, CutDesk, CutNet, MailSeat, View};
+use crate::channels::{AllRoles, CutBack, CutDesk, CutNet, MailPass, MailSeat, View};
 use crate::credit::{
     CREDITS, Credit, CreditSeat, CreditTally, CutReader, Freely, StepCredits, make_step_credits,
 };
-use crate::entries::{CutTaker, EntrySeat, Hand, InTurn};
+use crate::entries::{CutTaker, EntryPass, EntrySeat, Hand, InTurn};
 use crate::joining::settle;
 use crate::mail::{Mail, Sender};
 use crate::making::{Made, make_jobs};
 use crate::net::ReaderPart;
 use crate::parties::{Maker, Ports, Report};
-use crate::stops::{StopSeat, Watched, make_stops};
+use crate::stops::{Watched, make_stops};
 use crate::term::{Ends, Passes, run_term};
-use crate::threads::{BackSeats, Started, start_back, start_desk, start_reader};
+use crate::threads::{
+    BackPart, BackSays, DeskPart, DeskSays, Started, ThreadLeft, start_back, start_desk,
+    start_reader,
+};
 use crate::transcript::Output;
 use crossbeam_channel::bounded_with;
 use std::alloc::{AllocError, Global};
 use std::collections::VecDeque;
 use std::sync::{Arc, Wait};
-use std::thread::Threads;
+use std::thread::{PromisedHandle, Threads};
 use tn_discipline::{Entry, Limit, Settings};
 use tn_jobs::{Job, JobId};
 use tn_machines::server::laws::{all_goes_before_a_hang_up, faults_have_causes, pieces_are_heard};
@@ -265,15 +270,135 @@ where
     Ok((report(term.progress()), ports))
 }
 
+// What the thread that reads the network works with: its seat at the mailbox, the one where it takes credits,
+// and its gate.
+#[derive(Drop)]
+struct NetPart<G> {
+    seat: MailSeat,
+    credits: CreditSeat,
+    gate: Arc<G, Global>,
+}
+
+// What a session runs on: what each thread works with, and what this one does.
+#[derive(Drop)]
+struct Outfit<G> {
+    net: NetPart<G>,
+    desk: DeskPart<G>,
+    back: BackPart<G>,
+    ends: Ends,
+    passes: Passes,
+    watched: Watched<G>,
+}
+
+fn equip<G: Gate + Drop>(alloc: Global, gate: Arc<G, Global>) -> Result<Outfit<G>, AllocError>
+    ensures channels { IfOk result (λ outfit. IsReady (record {
+      ends = outfit.ends;
+      passes = outfit.passes;
+      net = outfit.net.seat;
+      desk = outfit.desk.seat;
+      back = outfit.back.seat;
+      take = outfit.desk.entries;
+      credits = outfit.net.credits;
+      step_credits = outfit.back.credits;
+    })) }
+    ensures stops { IfOk result (λ outfit. AreNewStops outfit.watched.stops outfit.back.stops) }
+{
+    let net_gate = Arc::try_clone(&gate)?;
+    let desk_gate = Arc::try_clone(&gate)?;
+    let back_gate = Arc::try_clone(&gate)?;
+    let (teller, stops) = make_stops(alloc)?;
+    let channels = make_channels(alloc)?;
+    Ok(Outfit {
+        net: NetPart {
+            seat: channels.net,
+            credits: channels.credits,
+            gate: net_gate,
+        },
+        desk: DeskPart {
+            seat: channels.desk,
+            entries: channels.take,
+            gate: desk_gate,
+        },
+        back: BackPart {
+            seat: channels.back,
+            stops,
+            credits: channels.step_credits,
+            gate: back_gate,
+        },
+        ends: channels.ends,
+        passes: channels.passes,
+        watched: Watched {
+            gate,
+            stops: teller,
+        },
+    })
+}
+
+// The threads of the jobs that were started, and the terminal's ends of the channels.
+struct JobThreads<J: Job> {
+    desk: PromisedHandle<Option<(MailPass, EntryPass)>, DeskSays<J>>,
+    back: PromisedHandle<Option<ThreadLeft>, BackSays<J>>,
+    ends: Ends,
+}
+
+// Starts the threads of the jobs. Where one can't be started no more goes to the network, the terminal's ends
+// are given up, and the other has been joined.
+fn start_jobs<R, J, W, G>(
+    rt: R,
+    alloc: Global,
+    posts: Posts<J>,
+    desk: DeskPart<G>,
+    back: BackPart<G>,
+    ends: Ends,
+    writer: &mut W,
+) -> Option<JobThreads<J>>
+where
+    R: Threads + Wait + Copy + Send + 'static,
+    J: Job + Send + 'static,
+    W: Finish,
+    G: Gate + Drop + Send + Sync + 'static,
+    requires desk { IsSeatAt (sends_on desk.seat.to) desk.seat.pass ×
+        (view desk.seat.pass ≡ sender Desk []) }
+    requires entries { IsSeatAt (receives_on desk.entries.from) desk.entries.pass ×
+        (view desk.entries.pass ≡ taker []) }
+    requires back { IsSeatAt (sends_on back.seat.to) back.seat.pass ×
+        (view back.seat.pass ≡ sender Back []) }
+    requires stops { StopsStay (Some back.stops) (Some back.stops) }
+    requires credits { IsSeatAt (receives_on back.credits.seat.from) back.credits.seat.pass }
+    requires fresh { J.fresh posts.job × IsQueue J.fresh posts.queue.items }
+    ensures desk { IfSome result (λ jobs. (sends_on jobs.desk.promise.to.value ≡ sends_on desk.seat.to) ×
+        (receives_on jobs.desk.promise.from.value ≡ receives_on desk.entries.from) ×
+        (jobs.desk.promise.id ≡ posts.first) × (jobs.desk.promise.job.value ≡ posts.job)) }
+    ensures back { IfSome result (λ jobs. (sends_on jobs.back.promise.to.value ≡ sends_on back.seat.to) ×
+        (jobs.back.promise.queue.value ≡ posts.queue) × (jobs.back.promise.tostop ≡ posts.tostop) ×
+        (jobs.back.promise.stops.value ≡ Some back.stops)) }
+    ensures ends { IfSome result (λ jobs. jobs.ends ≡ ends) }
+    ensures unwritten { IfSome result (λ _. writer.new ≡ writer.old) }
+{
+    let Some(desk) = start_desk(rt, alloc, desk, posts.first, posts.job) else {
+        writer.finish();
+        return None;
+    };
+    let Some(back) = start_back(rt, alloc, back, posts.queue, posts.tostop) else {
+        writer.finish();
+        drop(ends);
+        desk.join(&rt);
+        return None;
+    };
+    Some(JobThreads { desk, back, ends })
+}
+
 // Starts the threads, and runs this one as the terminal's. On each path out of it every thread that was
-// started has been joined.
+// started has been joined. It takes eight, since what is lent and what is given here go together nowhere else.
 fn run<R, Rd, W, J, G>(
     rt: R,
     alloc: Global,
     reader: Rd,
     writer: &mut W,
-    begun: Begun<J>,
+    posts: Posts<J>,
     outfit: Outfit<G>,
+    term: &mut Term,
+    output: Output,
 ) -> Result<(Report, Ports), SessionFault>
 where
     R: Threads + Wait + Copy + Send + 'static,
@@ -281,117 +406,59 @@ where
     W: Finish,
     J: Job + Send + 'static,
     G: Gate + Drop + Send + Sync + 'static,
-    requires ready { IsReady outfit.channels }
-    requires stops { AreNewStops outfit.watched.stops outfit.stops }
-    requires fresh { J.fresh begun.posts.job × IsQueue J.fresh begun.posts.queue.items }
-    requires out { begun.output.out.items ≡ [] }
+    requires ready { IsReady (record {
+      ends = outfit.ends;
+      passes = outfit.passes;
+      net = outfit.net.seat;
+      desk = outfit.desk.seat;
+      back = outfit.back.seat;
+      take = outfit.desk.entries;
+      credits = outfit.net.credits;
+      step_credits = outfit.back.credits;
+    }) }
+    requires stops { AreNewStops outfit.watched.stops outfit.back.stops }
+    requires fresh { J.fresh posts.job × IsQueue J.fresh posts.queue.items }
+    requires out { output.out.items ≡ [] }
     ensures fault { IfErr result IsOfThreads }
     ensures ran { IfOk result (λ r.
         RunsOn (job_acts J.reacts J.steps J.refuses)
         (record {
-          first = begun.posts.first;
-          job = begun.posts.job;
-          queue = begun.posts.queue.items;
-          tostop = begun.posts.tostop;
+          first = posts.first;
+          job = posts.job;
+          queue = posts.queue.items;
+          tostop = posts.tostop;
         })
         (known_reader Rd.remaining Rd.foretold Rd.sizes Rd.words reader)
-        (known_writing W.contents W.told writer.old writer.new) (noted_of begun.output.transcript) begun.term
+        (known_writing W.contents W.told writer.old writer.new) (noted_of output.transcript) term.old
         (session_result r.0 r.1)) }
-    ensures in_reach { IfOk result (λ r. StaysInReach begun.term r.0.ended) }
+    ensures in_reach { IfOk result (λ r. StaysInReach term.old r.0.ended) }
     ensures finished { IfOk result (λ r. IsFinished (W.sending writer.old) (W.sending writer.new)) }
 {
-    let Channels {
-        ends,
-        passes,
+    let Outfit {
         net,
         desk,
         back,
-        take,
-        credits,
-        step_credits,
-    } = outfit.channels;
-    let Begun {
-        posts,
-        mut term,
-        output,
-    } = begun;
-    let Posts {
-        first,
-        job,
-        queue,
-        tostop,
-    } = posts;
-    let part = ReaderPart {
-        who: Sender::Net,
-        job: Some(first),
-        place: Place::NetPiece,
-        gate: outfit.net_gate,
-    };
-    let Some(net) = start_reader(rt, alloc, net, reader, part, Some(credits), None) else {
-        writer.finish();
-        return Err(SessionFault::Start);
-    };
-    let Some(desk) = start_desk(rt, alloc, desk, take, first, job, outfit.desk_gate) else {
-        writer.finish();
-        drop(ends);
-        net.join(&rt);
-        return Err(SessionFault::Start);
-    };
-    let seats = BackSeats {
-        stops: outfit.stops,
-        credits: step_credits,
-    };
-    let Some(back) = start_back(rt, alloc, back, queue, tostop, outfit.back_gate, seats) else {
-        writer.finish();
-        drop(ends);
-        net.join(&rt);
-        desk.join(&rt);
-        return Err(SessionFault::Start);
-    };
-    let started = Started { net, desk, back };
-    run_beside(
-        &rt,
-        started,
         ends,
         passes,
-        &mut term,
-        output,
-        writer,
-        outfit.watched,
-    )
-}
-
-// What a session runs on.
-#[derive(Drop)]
-struct Outfit<G> {
-    channels: Channels,
-    stops: StopSeat,
-    net_gate: Arc<G, Global>,
-    desk_gate: Arc<G, Global>,
-    back_gate: Arc<G, Global>,
-    watched: Watched<G>,
-}
-
-fn equip<G: Gate + Drop>(alloc: Global, gate: Arc<G, Global>) -> Result<Outfit<G>, AllocError>
-    ensures channels { IfOk result (λ outfit. IsReady outfit.channels) }
-    ensures stops { IfOk result (λ outfit. AreNewStops outfit.watched.stops outfit.stops) }
-{
-    let channels = make_channels(alloc)?;
-    let (teller, stops) = make_stops(alloc)?;
-    let net_gate = Arc::try_clone(&gate)?;
-    let desk_gate = Arc::try_clone(&gate)?;
-    let back_gate = Arc::try_clone(&gate)?;
-    Ok(Outfit {
-        channels,
-        stops,
-        net_gate,
-        desk_gate,
-        back_gate,
-        watched: Watched {
-            gate,
-            stops: teller,
-        },
-    })
+        watched,
+    } = outfit;
+    let part = ReaderPart {
+        who: Sender::Net,
+        job: Some(posts.first),
+        place: Place::NetPiece,
+        gate: net.gate,
+    };
+    let Some(net) = start_reader(rt, alloc, net.seat, reader, part, Some(net.credits), None) else {
+        writer.finish();
+        return Err(SessionFault::Start);
+    };
+    let Some(jobs) = start_jobs(rt, alloc, posts, desk, back, ends, writer) else {
+        net.join(&rt);
+        return Err(SessionFault::Start);
+    };
+    let JobThreads { desk, back, ends } = jobs;
+    let started = Started { net, desk, back };
+    run_beside(&rt, started, ends, passes, term, output, writer, watched)
 }
 
 // Writes the opening words and runs the threads.
@@ -400,7 +467,7 @@ fn run_begun<R, Rd, W, J, G>(
     alloc: Global,
     reader: Rd,
     writer: &mut W,
-    mut begun: Begun<J>,
+    begun: Begun<J>,
     gate: Arc<G, Global>,
 ) -> Result<(Report, Ports), SessionFault>
 where
@@ -428,8 +495,13 @@ where
     let Ok(outfit) = equip(alloc, gate) else {
         return Err(SessionFault::Memory);
     };
-    open(&mut begun.term, &mut begun.output, writer);
-    run(rt, alloc, reader, writer, begun, outfit)
+    let Begun {
+        posts,
+        mut term,
+        mut output,
+    } = begun;
+    open(&mut term, &mut output, writer);
+    run(rt, alloc, reader, writer, posts, outfit, &mut term, output)
 }
 
 /// Runs a session over a connection: its reader and its writer, a terminal with these settings whose

@@ -166,6 +166,15 @@ pub(crate) fn start_reader<
     }
 }
 
+/// What the thread of the foreground job works with beside its job: its seat at the mailbox, the one where it
+/// takes entries, and its gate.
+#[derive(Drop)]
+pub(crate) struct DeskPart<G> {
+    pub(crate) seat: MailSeat,
+    pub(crate) entries: EntrySeat,
+    pub(crate) gate: Arc<G, Global>,
+}
+
 /// Starts the thread of the foreground job. `None` where it can't be started.
 pub(crate) fn start_desk<
     R: Threads + Wait + Copy + Send + 'static,
@@ -174,20 +183,24 @@ pub(crate) fn start_desk<
 >(
     rt: R,
     alloc: Global,
-    seat: MailSeat,
-    entries: EntrySeat,
+    part: DeskPart<G>,
     id: JobId,
     job: J,
-    gate: Arc<G, Global>,
 ) -> Option<PromisedHandle<Option<(MailPass, EntryPass)>, DeskSays<J>>>
-    requires mailbox { IsSeatAt (sends_on seat.to) seat.pass × (view seat.pass ≡ sender Desk []) }
-    requires entries { IsSeatAt (receives_on entries.from) entries.pass ×
-        (view entries.pass ≡ taker []) }
+    requires mailbox { IsSeatAt (sends_on part.seat.to) part.seat.pass ×
+        (view part.seat.pass ≡ sender Desk []) }
+    requires entries { IsSeatAt (receives_on part.entries.from) part.entries.pass ×
+        (view part.entries.pass ≡ taker []) }
     requires fresh { J.fresh job }
-    ensures { IfSome result (λ h. (sends_on h.promise.to.value ≡ sends_on seat.to) ×
-        (receives_on h.promise.from.value ≡ receives_on entries.from) × (h.promise.id ≡ id) ×
+    ensures { IfSome result (λ h. (sends_on h.promise.to.value ≡ sends_on part.seat.to) ×
+        (receives_on h.promise.from.value ≡ receives_on part.entries.from) × (h.promise.id ≡ id) ×
         (h.promise.job.value ≡ job)) }
 {
+    let DeskPart {
+        seat,
+        entries,
+        gate,
+    } = part;
     let promise = DeskSays {
         to: Snapshot::of(&seat.to),
         from: Snapshot::of(&entries.from),
@@ -208,16 +221,17 @@ pub(crate) fn start_desk<
     }
 }
 
-/// What the thread of the background jobs is given beside its jobs: the seat where it is told to stop, and
-/// the credits for its steps.
+/// What the thread of the background jobs works with beside them: its seat at the mailbox, the one where it
+/// is told to stop, the credits for its steps, and its gate.
 #[derive(Drop)]
-pub(crate) struct BackSeats {
+pub(crate) struct BackPart<G> {
+    pub(crate) seat: MailSeat,
     pub(crate) stops: StopSeat,
     pub(crate) credits: StepCredits,
+    pub(crate) gate: Arc<G, Global>,
 }
 
-/// Starts the thread of the background jobs. `None` where it can't be started. It takes seven, as what it is
-/// given goes together nowhere else.
+/// Starts the thread of the background jobs. `None` where it can't be started.
 pub(crate) fn start_back<
     R: Threads + Wait + Copy + Send + 'static,
     J: Job + Send + 'static,
@@ -225,21 +239,25 @@ pub(crate) fn start_back<
 >(
     rt: R,
     alloc: Global,
-    seat: MailSeat,
+    part: BackPart<G>,
     queue: VecDeque<Runner<J>>,
     tostop: bool,
-    gate: Arc<G, Global>,
-    seats: BackSeats,
 ) -> Option<PromisedHandle<Option<ThreadLeft>, BackSays<J>>>
-    requires mailbox { IsSeatAt (sends_on seat.to) seat.pass × (view seat.pass ≡ sender Back []) }
+    requires mailbox { IsSeatAt (sends_on part.seat.to) part.seat.pass ×
+        (view part.seat.pass ≡ sender Back []) }
     requires jobs { IsQueue J.fresh queue.items }
-    requires stops { StopsStay (Some seats.stops) (Some seats.stops) }
-    requires credits { IsSeatAt (receives_on seats.credits.seat.from) seats.credits.seat.pass }
-    ensures { IfSome result (λ h. (sends_on h.promise.to.value ≡ sends_on seat.to) ×
+    requires stops { StopsStay (Some part.stops) (Some part.stops) }
+    requires credits { IsSeatAt (receives_on part.credits.seat.from) part.credits.seat.pass }
+    ensures { IfSome result (λ h. (sends_on h.promise.to.value ≡ sends_on part.seat.to) ×
         (h.promise.queue.value ≡ queue) × (h.promise.tostop ≡ tostop) ×
-        (h.promise.stops.value ≡ Some seats.stops)) }
+        (h.promise.stops.value ≡ Some part.stops)) }
 {
-    let BackSeats { stops, credits } = seats;
+    let BackPart {
+        seat,
+        stops,
+        credits,
+        gate,
+    } = part;
     let stops = Some(stops);
     let promise = BackSays {
         to: Snapshot::of(&seat.to),

@@ -36,6 +36,25 @@ fn carry(joined: &mut Joined, alloc: Global, count: usize, times: usize) -> Resu
 
 // A line is typed key by key, with an erased key in it, and what is on its way is cut into pieces of this
 // length.
+fn type_a_line(joined: &mut Joined, alloc: Global, count: usize) -> Result<(), Fail> {
+    carry(joined, alloc, count, 200)?;
+    joined.happen(alloc, LoopEvent::Take)?;
+    for key in b"hx\x7fi\r".as_slice() {
+        joined.happen(alloc, LoopEvent::Typed(text_of(alloc, &[*key])?))?;
+        carry(joined, alloc, count, 3)?;
+    }
+    carry(joined, alloc, count, 200)
+}
+
+fn has_read_it(joined: &Joined, rt: &impl Abort, alloc: Global) -> Result<(), Fail> {
+    let mut wanted = Vec::new(alloc);
+    wanted.push(Some(Entry::Text(text_of(alloc, b"hi\n")?)))?;
+    assert!(rt; joined.to_server.is_empty());
+    assert!(rt; joined.to_client.is_empty());
+    assert!(rt; joined.puts.as_slice() == wanted.as_slice());
+    Ok(())
+}
+
 fn reads_a_line(
     rt: &impl Abort,
     alloc: Global,
@@ -43,19 +62,8 @@ fn reads_a_line(
     count: usize,
 ) -> Result<(), Fail> {
     let mut joined = start(alloc, editing)?;
-    carry(&mut joined, alloc, count, 200)?;
-    joined.happen(alloc, LoopEvent::Take)?;
-    for key in b"hx\x7fi\r".as_slice() {
-        joined.happen(alloc, LoopEvent::Typed(text_of(alloc, &[*key])?))?;
-        carry(&mut joined, alloc, count, 3)?;
-    }
-    carry(&mut joined, alloc, count, 200)?;
-    assert!(rt; joined.to_server.is_empty());
-    assert!(rt; joined.to_client.is_empty());
-    let mut wanted = Vec::new(alloc);
-    wanted.push(Some(Entry::Text(text_of(alloc, b"hi\n")?)))?;
-    assert!(rt; joined.puts.as_slice() == wanted.as_slice());
-    Ok(())
+    type_a_line(&mut joined, alloc, count)?;
+    has_read_it(&joined, rt, alloc)
 }
 
 #[test]
@@ -68,11 +76,16 @@ fn one_loop_reads_what_is_typed_wherever_it_is_edited(rt: HostRuntime) -> Result
     Ok(())
 }
 
+// Whether nothing is read though a line is typed and asked for.
+fn reads_nothing(joined: &mut Joined, alloc: Global) -> Result<bool, Fail> {
+    joined.happen(alloc, LoopEvent::Take)?;
+    joined.happen(alloc, LoopEvent::Typed(text_of(alloc, b"hi\r")?))?;
+    Ok(joined.puts.is_empty())
+}
+
 #[test]
 fn nothing_is_read_before_it_comes(rt: HostRuntime) -> Result<(), Fail> {
     let mut joined = start(rt.alloc(), Editing::Remote)?;
-    joined.happen(rt.alloc(), LoopEvent::Take)?;
-    joined.happen(rt.alloc(), LoopEvent::Typed(text_of(rt.alloc(), b"hi\r")?))?;
-    assert!(&rt; joined.puts.is_empty());
+    assert!(&rt; reads_nothing(&mut joined, rt.alloc())?);
     Ok(())
 }

@@ -12,10 +12,10 @@ spawn_with-requires-clause-keeps g c κs within r e =
     let acts = job_acts g.J.Job.reacts g.J.Job.steps g.J.Job.refuses in
     let by_seat = subst (λ to. IfSome r (λ left. IsSeatAt (sends_on to) left.pass
     × AreSteps (Holds c.args.queue.items) acts (queue_of c.args.tostop c.args.queue.items) (has_stopped left.stops) (view left.pass)
-    × StopsStay (Some c.args.seats.stops) left.stops)) (sym c.of.ensures) e in
+    × StopsStay (Some c.args.part.stops) left.stops)) (sym c.of.ensures) e in
     let by_queue = subst (λ queue. IfSome r (λ left. IsSeatAt (sends_on c.of.result.value) left.pass
     × AreSteps (Holds queue.items) acts (queue_of c.args.tostop queue.items) (has_stopped left.stops) (view left.pass)
-    × StopsStay (Some c.args.seats.stops) left.stops)) (sym c.of-2.ensures) by_seat in
+    × StopsStay (Some c.args.part.stops) left.stops)) (sym c.of-2.ensures) by_seat in
     subst (λ stops. IfSome r (λ left. IsSeatAt (sends_on c.of.result.value) left.pass
     × AreSteps (Holds c.of-2.result.value.items) acts (queue_of c.args.tostop c.of-2.result.value.items) (has_stopped left.stops) (view left.pass)
     × StopsStay stops left.stops)) (sym c.of-3.ensures) by_queue
