@@ -13,20 +13,26 @@ use tn_world::{Cause, Event, ToWhom, World, WorldFault};
 pub(super) const ALL: usize = usize::MAX;
 
 pub(super) fn open(alloc: Global, limit: Limit) -> Result<Box<World>, WorldFault> {
-    match World::open(alloc, Settings::standard(), 80, 24, limit) {
+    open_with(alloc, Settings::standard(), limit)
+}
+
+pub(super) fn open_with(
+    alloc: Global,
+    settings: Settings,
+    limit: Limit,
+) -> Result<Box<World>, WorldFault> {
+    match World::open(alloc, settings, 80, 24, limit) {
         Ok(world) => boxed(alloc, world),
         Err(fault) => Err(fault),
     }
 }
 
 fn boxed(alloc: Global, world: World) -> Result<Box<World>, WorldFault> {
-    match Box::new(alloc, world) {
-        Ok(world) => Ok(world),
-        Err(_) => Err(WorldFault {
-            at: 0,
-            cause: Cause::Memory,
-        }),
-    }
+    let refused = WorldFault {
+        at: 0,
+        cause: Cause::Memory,
+    };
+    Box::new(alloc, world).ok().ok_or(refused)
 }
 
 pub(super) fn play_all(world: &mut World, events: &[Event]) -> Result<(), WorldFault> {

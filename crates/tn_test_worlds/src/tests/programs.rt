@@ -18,7 +18,7 @@ use tn_lines::LineEnd;
 use tn_streams::{Drain, Source, Tally, nothing_to_say};
 
 // What the words of a line ask for. Want of memory is an ordinary answer, and help is asked for elsewhere.
-fn is_told(read: Result<Asked, WordsFault>, wanted: Option<Asked>) -> bool {
+fn is_told(read: &Result<Asked, WordsFault>, wanted: Option<&Asked>) -> bool {
     match read {
         Ok(asked) => wanted == Some(asked),
         Err(WordsFault::Usage(_)) => wanted.is_none(),
@@ -38,7 +38,8 @@ fn read_line(alloc: Global, line: &str) -> Result<Asked, WordsFault> {
 }
 
 fn asks(rt: &impl Abort, alloc: Global, line: &str, wanted: Option<Asked>) {
-    assert!(rt; is_told(read_line(alloc, line), wanted), "{line}");
+    let told = is_told(&read_line(alloc, line), wanted.as_ref());
+    assert!(rt; told, "{line}");
 }
 
 #[test]
@@ -129,10 +130,10 @@ fn words_ask_for_a_server_without_end(rt: HostRuntime) -> Result<(), Fail> {
     Ok(())
 }
 
-// A connection of this machine without any option but its port.
-fn connecting(alloc: Global) -> Result<ConnectWords, AllocError> {
+// A connection to port 7 of a host, without any option.
+fn connecting(alloc: Global, host: &str) -> Result<ConnectWords, AllocError> {
     Ok(ConnectWords {
-        host: String::from_str(alloc, "127.0.0.1")?,
+        host: String::from_str(alloc, host)?,
         port: 7,
         width: None,
         height: None,
@@ -149,14 +150,14 @@ fn connecting(alloc: Global) -> Result<ConnectWords, AllocError> {
 #[test]
 fn words_ask_for_a_connection(rt: HostRuntime) -> Result<(), Fail> {
     let alloc = rt.alloc();
-    let plain = connecting(alloc)?;
+    let plain = connecting(alloc, "127.0.0.1")?;
     asks(
         &rt,
         alloc,
         "tn connect --port 7",
         Some(Asked::Connect(plain)),
     );
-    let mut wide = connecting(alloc)?;
+    let mut wide = connecting(alloc, "127.0.0.1")?;
     wide.width = Some(65_535);
     wide.height = Some(0);
     wide.escape = Escape::Key(1);
@@ -172,8 +173,7 @@ fn words_ask_for_a_connection(rt: HostRuntime) -> Result<(), Fail> {
 #[test]
 fn words_ask_for_a_host(rt: HostRuntime) -> Result<(), Fail> {
     let alloc = rt.alloc();
-    let mut named = connecting(alloc)?;
-    named.host = String::from_str(alloc, "example.org")?;
+    let mut named = connecting(alloc, "example.org")?;
     named.port = 23;
     asks(
         &rt,
@@ -181,10 +181,10 @@ fn words_ask_for_a_host(rt: HostRuntime) -> Result<(), Fail> {
         "tn connect example.org",
         Some(Asked::Connect(named)),
     );
-    let mut whole = connecting(alloc)?;
-    whole.host = String::from_str(alloc, "::1")?;
+    let trace = String::from_str(alloc, "a/b")?;
+    let mut whole = connecting(alloc, "::1")?;
     whole.escape = Escape::None;
-    whole.trace = Some(String::from_str(alloc, "a/b")?);
+    whole.trace = Some(trace);
     let line = "tn connect --escape none --port 7 ::1 --trace a/b";
     asks(&rt, alloc, line, Some(Asked::Connect(whole)));
     Ok(())
@@ -199,7 +199,8 @@ fn words_ask_for_a_port_in_four_places(rt: HostRuntime) -> Result<(), Fail> {
         "tn connect [127.0.0.1]:7",
         "tn connect [127.0.0.1] -p 7",
     ] {
-        asks(&rt, alloc, line, Some(Asked::Connect(connecting(alloc)?)));
+        let plain = connecting(alloc, "127.0.0.1")?;
+        asks(&rt, alloc, line, Some(Asked::Connect(plain)));
     }
     Ok(())
 }

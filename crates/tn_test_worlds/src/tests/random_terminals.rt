@@ -1,7 +1,7 @@
 //! Random worlds beside a local terminal.
 
 use super::playing::{
-    ALL, agrees, open, play, play_all, rests, rests_with, settle, settle_with, types,
+    ALL, agrees, open, open_with, play, play_all, rests, rests_with, settle, settle_with, types,
 };
 use std::alloc::Global;
 use std::process::Abort;
@@ -192,7 +192,7 @@ fn interrupts_by_no_key(world: &mut World) -> Result<bool, WorldFault> {
 fn a_terminal_without_isig_is_interrupted_by_brk(rt: HostRuntime) -> Result<(), WorldFault> {
     let mut settings = Settings::standard();
     settings.flags.isig = false;
-    let mut world = World::open(rt.alloc(), settings, 80, 24, Limit::standard())?;
+    let mut world = open_with(rt.alloc(), settings, Limit::standard())?;
     assert!(&rt; interrupts_by_no_key(&mut world)?);
     Ok(())
 }
