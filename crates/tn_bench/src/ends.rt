@@ -225,6 +225,7 @@ fn show_and_read<H: Clock, W: Write>(
     bytes: &[u8],
     times: u32,
 ) -> Result<(), Stuck> {
+    let buf = Vec::from_elem(alloc, 0u8, 4 * PIECE)?;
     let Showing {
         end,
         stream,
@@ -236,7 +237,7 @@ fn show_and_read<H: Clock, W: Write>(
         stream,
         out,
         screen,
-        buf: Vec::from_elem(alloc, 0u8, 4 * PIECE)?,
+        buf,
     };
     bench.tell(name, &mut load)
 }
@@ -249,10 +250,10 @@ fn send<H: Clock, W: Write>(
     times: u32,
 ) -> Result<(), Stuck> {
     let stream = repeated(alloc, bytes, times)?;
+    let buf = Vec::from_elem(alloc, 0u8, 4 * PIECE)?;
     let mut out = Vec::new(alloc);
     let end = ServerEnd::start(alloc, Settings::standard(), Limit::standard(), &mut out)?;
     out.clear();
-    let buf = Vec::from_elem(alloc, 0u8, 4 * PIECE)?;
     let mut load = Sending {
         end,
         stream,

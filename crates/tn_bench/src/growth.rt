@@ -70,6 +70,16 @@ fn keys<H: Clock, W: Write>(
     bench.tell(name, &mut load)
 }
 
+/// Keys by name: the length of a line, whether it is echoed, and how many entries wait already.
+const TYPED: &[(&str, u32, bool, u32)] = &[
+    ("no echo, lines of 254 of 4,095", 254, false, 0),
+    ("no echo, lines of 4,094 of 4,095", 4_094, false, 0),
+    ("echo, lines of 254 of 4,095", 254, true, 0),
+    ("echo, lines of 4,094 of 4,095", 4_094, true, 0),
+    ("no echo, lines of 64, 1 entry waits", 64, false, 0),
+    ("no echo, lines of 64, 1,000 entries wait", 64, false, 999),
+];
+
 pub(crate) fn run<H: Clock, W: Write>(
     alloc: Global,
     bench: &mut Bench<'_, H, W>,
@@ -77,45 +87,8 @@ pub(crate) fn run<H: Clock, W: Write>(
     sessions(alloc, bench, "1 server edits keys", 1)?;
     sessions(alloc, bench, "8 servers edit keys", 8)?;
     sessions(alloc, bench, "64 servers edit keys", 64)?;
-    keys(
-        alloc,
-        bench,
-        "no echo, lines of 254 of 4,095",
-        254,
-        false,
-        0,
-    )?;
-    keys(
-        alloc,
-        bench,
-        "no echo, lines of 4,094 of 4,095",
-        4_094,
-        false,
-        0,
-    )?;
-    keys(alloc, bench, "echo, lines of 254 of 4,095", 254, true, 0)?;
-    keys(
-        alloc,
-        bench,
-        "echo, lines of 4,094 of 4,095",
-        4_094,
-        true,
-        0,
-    )?;
-    keys(
-        alloc,
-        bench,
-        "no echo, lines of 64, 1 entry waits",
-        64,
-        false,
-        0,
-    )?;
-    keys(
-        alloc,
-        bench,
-        "no echo, lines of 64, 1,000 entries wait",
-        64,
-        false,
-        999,
-    )
+    for (name, length, echo, waiting) in TYPED {
+        keys(alloc, bench, name, *length, *echo, *waiting)?;
+    }
+    Ok(())
 }

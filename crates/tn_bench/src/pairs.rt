@@ -92,23 +92,24 @@ fn keys<H: Clock, W: Write>(
     bench.tell(name, &mut load)
 }
 
+/// Keys by name: the length of a line, whether every third is ERASE, and whether they are echoed.
+const TYPED: &[(&str, u32, bool, bool)] = &[
+    ("no echo, lines of 2", 2, false, false),
+    ("no echo, lines of 64", 64, false, false),
+    ("no echo, lines of 254", 254, false, false),
+    ("no echo, each third key ERASE", 64, true, false),
+    ("echo, lines of 2", 2, false, true),
+    ("echo, lines of 64", 64, false, true),
+    ("echo, lines of 254", 254, false, true),
+    ("echo, each third key ERASE", 64, true, true),
+];
+
 pub(crate) fn run<H: Clock, W: Write>(
     alloc: Global,
     bench: &mut Bench<'_, H, W>,
 ) -> Result<(), Stuck> {
-    keys(alloc, bench, "no echo, lines of 2", 2, false, false)?;
-    keys(alloc, bench, "no echo, lines of 64", 64, false, false)?;
-    keys(alloc, bench, "no echo, lines of 254", 254, false, false)?;
-    keys(
-        alloc,
-        bench,
-        "no echo, each third key ERASE",
-        64,
-        true,
-        false,
-    )?;
-    keys(alloc, bench, "echo, lines of 2", 2, false, true)?;
-    keys(alloc, bench, "echo, lines of 64", 64, false, true)?;
-    keys(alloc, bench, "echo, lines of 254", 254, false, true)?;
-    keys(alloc, bench, "echo, each third key ERASE", 64, true, true)
+    for (name, length, erases, echo) in TYPED {
+        keys(alloc, bench, name, *length, *erases, *echo)?;
+    }
+    Ok(())
 }

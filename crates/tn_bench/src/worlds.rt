@@ -29,24 +29,28 @@ impl Workload for Travelling {
     fn once(&mut self) -> Result<Done, Stuck> {
         let (settings, limit) = (Settings::standard(), Limit::standard());
         let mut world = World::open(self.alloc, settings, 80, 24, limit)?;
-        let mut done = Done::nothing();
-        for _ in 0..LINES {
-            for key in [b'x', b'\r'] {
-                world.run(&[
-                    Event::Key(key),
-                    Event::ToServer(usize::MAX),
-                    Event::Pull(usize::MAX),
-                    Event::ToClient(usize::MAX),
-                ])?;
-            }
-            world.run(&[Event::Take])?;
-            done = done.and(Done {
-                bytes: 2,
-                wholes: 1,
-            });
-        }
-        Ok(done)
+        travel(&mut world)
     }
+}
+
+fn travel(world: &mut World) -> Result<Done, Stuck> {
+    let mut done = Done::nothing();
+    for _ in 0..LINES {
+        for key in [b'x', b'\r'] {
+            world.run(&[
+                Event::Key(key),
+                Event::ToServer(usize::MAX),
+                Event::Pull(usize::MAX),
+                Event::ToClient(usize::MAX),
+            ])?;
+        }
+        world.run(&[Event::Take])?;
+        done = done.and(Done {
+            bytes: 2,
+            wholes: 1,
+        });
+    }
+    Ok(done)
 }
 
 /// The keys of a line are typed, and go at once; then it is echoed, shown and taken.
@@ -78,16 +82,20 @@ impl Workload for Lines {
     fn once(&mut self) -> Result<Done, Stuck> {
         let (settings, limit) = (Settings::standard(), Limit::standard());
         let mut world = World::open(self.alloc, settings, 80, 24, limit)?;
-        let mut done = Done::nothing();
-        for _ in 0..LINES {
-            world.run(&self.events)?;
-            done = done.and(Done {
-                bytes: KEYS.len() as u64,
-                wholes: 1,
-            });
-        }
-        Ok(done)
+        type_lines(&mut world, &self.events)
     }
+}
+
+fn type_lines(world: &mut World, events: &[Event]) -> Result<Done, Stuck> {
+    let mut done = Done::nothing();
+    for _ in 0..LINES {
+        world.run(events)?;
+        done = done.and(Done {
+            bytes: KEYS.len() as u64,
+            wholes: 1,
+        });
+    }
+    Ok(done)
 }
 
 pub(crate) fn run<H: Clock, W: Write>(
