@@ -74,7 +74,7 @@ fn decode<H: Clock, W: Write>(
 ) -> Result<(), Stuck> {
     let stream = repeated(alloc, bytes, times)?;
     let decoder = Decoder::new(alloc);
-    bench.tell(name, &mut Decoding { decoder, stream })
+    bench.tell(name, Decoding { decoder, stream })
 }
 
 pub(crate) fn run<H: Clock, W: Write>(

@@ -214,8 +214,8 @@ fn show<H: Clock, W: Write>(
     bytes: &[u8],
     times: u32,
 ) -> Result<(), Stuck> {
-    let mut load = make_client(alloc, bytes, times)?;
-    bench.tell(name, &mut load)
+    let load = make_client(alloc, bytes, times)?;
+    bench.tell(name, load)
 }
 
 fn show_and_read<H: Clock, W: Write>(
@@ -232,14 +232,14 @@ fn show_and_read<H: Clock, W: Write>(
         out,
         screen,
     } = make_client(alloc, bytes, times)?;
-    let mut load = Reading {
+    let load = Reading {
         end,
         stream,
         out,
         screen,
         buf,
     };
-    bench.tell(name, &mut load)
+    bench.tell(name, load)
 }
 
 fn send<H: Clock, W: Write>(
@@ -254,13 +254,13 @@ fn send<H: Clock, W: Write>(
     let mut out = Vec::new(alloc);
     let end = ServerEnd::start(alloc, Settings::standard(), Limit::standard(), &mut out)?;
     out.clear();
-    let mut load = Sending {
+    let load = Sending {
         end,
         stream,
         out,
         buf,
     };
-    bench.tell(name, &mut load)
+    bench.tell(name, load)
 }
 
 fn serve<H: Clock, W: Write>(
@@ -270,8 +270,8 @@ fn serve<H: Clock, W: Write>(
     bytes: &[u8],
     editing: Editing,
 ) -> Result<(), Stuck> {
-    let mut load = make_server(alloc, bytes, 1_024, editing)?;
-    bench.tell(name, &mut load)
+    let load = make_server(alloc, bytes, 1_024, editing)?;
+    bench.tell(name, load)
 }
 
 // What the library for C does by one call after another, with no C between.

@@ -52,8 +52,8 @@ fn sessions<H: Clock, W: Write>(
     name: &str,
     count: u32,
 ) -> Result<(), Stuck> {
-    let mut load = make_servers(alloc, count)?;
-    bench.tell(name, &mut load)
+    let load = make_servers(alloc, count)?;
+    bench.tell(name, load)
 }
 
 fn keys<H: Clock, W: Write>(
@@ -66,8 +66,8 @@ fn keys<H: Clock, W: Write>(
 ) -> Result<(), Stuck> {
     let limit = Limit::new(4_095).unwrap_or(Limit::standard());
     let keys = line_of(alloc, length, false)?;
-    let mut load = make_typing(alloc, limit, keys, echo, waiting)?;
-    bench.tell(name, &mut load)
+    let load = make_typing(alloc, limit, keys, echo, waiting)?;
+    bench.tell(name, load)
 }
 
 /// Keys by name: the length of a line, whether it is echoed, and how many entries wait already.

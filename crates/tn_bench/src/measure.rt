@@ -105,7 +105,15 @@ impl<'a, H: Clock, W: Write> Bench<'a, H, W> {
 
     /// Does a workload as often as asked, and prints its counts under this name, or in a long run the
     /// speed of its fastest round.
-    pub(crate) fn tell<L: Workload>(&mut self, name: &str, load: &mut L) -> Result<(), Stuck> {
+    pub(crate) fn tell<L: Workload + Drop>(
+        &mut self,
+        name: &str,
+        mut load: L,
+    ) -> Result<(), Stuck> {
+        self.tell_load(name, &mut load)
+    }
+
+    fn tell_load<L: Workload>(&mut self, name: &str, load: &mut L) -> Result<(), Stuck> {
         if !self.long {
             let done = load.once()?;
             writeln!(self.out, "{name}: {} bytes, {}", done.bytes, done.wholes)?;
@@ -162,7 +170,7 @@ impl<'a, H: Clock, W: Write> Bench<'a, H, W> {
         load: &mut L,
     ) -> Result<(), Stuck> {
         if !self.long {
-            return self.tell(name, load);
+            return self.tell_load(name, load);
         }
         let mut times: Vec<Duration> = Vec::new(alloc);
         for _ in 0..ASKED {

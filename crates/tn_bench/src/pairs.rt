@@ -88,8 +88,8 @@ fn keys<H: Clock, W: Write>(
     echo: bool,
 ) -> Result<(), Stuck> {
     let keys = line_of(alloc, length, erases)?;
-    let mut load = make_typing(alloc, Limit::standard(), keys, echo, 0)?;
-    bench.tell(name, &mut load)
+    let load = make_typing(alloc, Limit::standard(), keys, echo, 0)?;
+    bench.tell(name, load)
 }
 
 /// Keys by name: the length of a line, whether every third is ERASE, and whether they are echoed.

@@ -29,7 +29,9 @@ impl Workload for Travelling {
     fn once(&mut self) -> Result<Done, Stuck> {
         let (settings, limit) = (Settings::standard(), Limit::standard());
         let mut world = World::open(self.alloc, settings, 80, 24, limit)?;
-        travel(&mut world)
+        let done = travel(&mut world);
+        drop(world);
+        done
     }
 }
 
@@ -82,7 +84,9 @@ impl Workload for Lines {
     fn once(&mut self) -> Result<Done, Stuck> {
         let (settings, limit) = (Settings::standard(), Limit::standard());
         let mut world = World::open(self.alloc, settings, 80, 24, limit)?;
-        type_lines(&mut world, &self.events)
+        let done = type_lines(&mut world, &self.events);
+        drop(world);
+        done
     }
 }
 
@@ -102,12 +106,6 @@ pub(crate) fn run<H: Clock, W: Write>(
     alloc: Global,
     bench: &mut Bench<'_, H, W>,
 ) -> Result<(), Stuck> {
-    bench.tell(
-        "a world's keys, deliveries and takes",
-        &mut Travelling { alloc },
-    )?;
-    bench.tell(
-        "a world's lines of 63, each sent whole",
-        &mut Lines::new(alloc)?,
-    )
+    bench.tell("a world's keys, deliveries and takes", Travelling { alloc })?;
+    bench.tell("a world's lines of 63, each sent whole", Lines::new(alloc)?)
 }
