@@ -9,13 +9,9 @@ macro_rules! call_held {
         match &mut *boxed {
             Held::$kind($held) => {
                 let code = $call;
-                $handle.put(boxed);
-                code.number()
+                $handle.answer(boxed, code)
             },
-            _ => {
-                $handle.put(boxed);
-                Code::OtherKind.number()
-            },
+            _ => $handle.answer(boxed, Code::OtherKind),
         }
     }};
 }

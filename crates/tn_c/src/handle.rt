@@ -3,6 +3,7 @@
 ghost use Rattle.std.specs.Prelude.{◌≡◌, ◌≢◌, ◌↔◌, ◌⊎◌, true, IsTrue, Option, None, Some, MatchOption};
 ghost use Rattle.tn_c.specs.Owning.{handle_owns, held_coded};
 ghost use Rattle.tn_c.specs.declared.held.Held.{Held};
+ghost use Rattle.tn_c_parts.specs.Codes.{code_number};
 ghost use Rattle.tn_c_parts.specs.declared.codes.Code.TheVariants.{Done, Memory};
 
 use crate::held::Held;
@@ -87,6 +88,15 @@ impl Handle {
         }
     }
 
+    /// Puts a box back in after a call with this code, and gives the code's number.
+    pub(crate) fn answer(&mut self, boxed: Box<Held>, code: Code) -> u32
+        ensures held { self.new.held ≡ Some boxed.value }
+        ensures number { result ≡ code_number code }
+    {
+        self.put(boxed);
+        code.number()
+    }
+
     /// Gives up what is held, if anything, and all of its memory.
     pub(crate) fn free(&mut self, alloc: Global)
         ensures { self.new.held ≡ None }
@@ -116,12 +126,12 @@ impl Handle {
         ensures ok { result ≡ Done → self.new.held ≡ Some held }
         ensures err { result ≡ Memory → self.new.held ≡ self.old.held }
     {
-        match Box::new(alloc, held) {
-            Ok(boxed) => {
+        match Box::new(alloc, held).ok() {
+            Some(boxed) => {
                 self.put(boxed);
                 Code::Done
             },
-            Err(_) => Code::Memory,
+            None => Code::Memory,
         }
     }
 }
