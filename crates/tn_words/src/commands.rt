@@ -166,6 +166,7 @@ impl<'a> Growing<'a> {
                 command: command.arg(arg),
             },
             Err(error) => {
+                // In one call, and not field by field.
                 drop(arg);
                 Growing {
                     command: Err(error),
@@ -183,6 +184,7 @@ impl<'a> Growing<'a> {
                 command: command.subcommand(subcommand),
             },
             Err(error) => {
+                // In one call, and not field by field.
                 drop(subcommand);
                 Growing {
                     command: Err(error),
