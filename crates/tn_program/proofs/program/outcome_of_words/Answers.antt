@@ -29,3 +29,6 @@ returns-in-Err-Usage-clause-comes g c =
     rw c.in-Ok.is (subst (λ words. ComesOf machine (map string_bytes words) c.args.streams.origin (g.R.Read.remaining c.args.streams.reader)
     (g.W.Write.contents c.args.writer.now) (g.W.Write.contents c.args.writer.now) (outcome.Usage (Some c.in-Err-Usage.detail))) c.deref.ensures.value
     (inr (refuses, refl)))
+
+pub returns-in-Err-Memory-clause-comes : goal.returns-in-Err-Memory-clause-comes
+returns-in-Err-Memory-clause-comes g c = rw c.in-Ok.is (inr refl)

@@ -32,6 +32,18 @@ loop-init g c = (
 pub is_stopped-requires : goal.is_stopped-requires
 is_stopped-requires g c = record { seat = stays_here c.args.stops.now c.loop.stops c.loop.invariant.2 }
 
+pub say-requires-clause-role : goal.say-requires-clause-role
+say-requires-clause-role g c = role Back (map step_said c.loop.invariant.1.0) (view c.loop.pass) c.loop.invariant.1.1
+
+pub say-requires-in-Idle-clause-role : goal.say-requires-in-Idle-clause-role
+say-requires-in-Idle-clause-role g c = role Back (map step_said c.loop.invariant.1.0) (view c.loop.pass) c.loop.invariant.1.1
+
+pub say-requires-in-Refused-clause-role : goal.say-requires-in-Refused-clause-role
+say-requires-in-Refused-clause-role g c = role Back (map step_said c.loop.invariant.1.0) (view c.loop.pass) c.loop.invariant.1.1
+
+pub say-requires-in-Did-clause-role : goal.say-requires-in-Did-clause-role
+say-requires-in-Did-clause-role g c = role Back (map step_said c.loop.invariant.1.0) (view c.loop.pass) c.loop.invariant.1.1
+
 pub returns-then-is_stopped-clause-stepped : goal.returns-then-is_stopped-clause-stepped
 returns-then-is_stopped-clause-stepped g c =
     let i = c.loop.invariant.1 in

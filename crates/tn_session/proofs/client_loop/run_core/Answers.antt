@@ -111,3 +111,6 @@ returns-then-lefts-ge-SENDERS-clause-finished g c = stands_last c.loop.closed
 
 pub returns-then-lefts-ge-SENDERS-clause-stops : goal.returns-then-lefts-ge-SENDERS-clause-stops
 returns-then-lefts-ge-SENDERS-clause-stops g c = (c.loop.invariant.7, c.loop.invariant.6)
+
+pub overflow_add-lefts : goal.overflow_add-lefts
+overflow_add-lefts g c = omega (arith, left_small c.in_ok-mail.mail.message, c.if-lefts-ge-SENDERS.false, c.leaves-left.ensures)
