@@ -334,28 +334,23 @@ fn equip<G: Gate + Drop>(alloc: Global, gate: Arc<G, Global>) -> Result<Outfit<G
     })
 }
 
-// The threads of the jobs that were started, and the terminal's ends of the channels.
+// The threads of the jobs that were started.
 struct JobThreads<J: Job> {
     desk: PromisedHandle<Option<(MailPass, EntryPass)>, DeskSays<J>>,
     back: PromisedHandle<Option<ThreadLeft>, BackSays<J>>,
-    ends: Ends,
 }
 
-// Starts the threads of the jobs. Where one can't be started no more goes to the network, the terminal's ends
-// are given up, and the other has been joined.
-fn start_jobs<R, J, W, G>(
+// Starts the threads of the jobs. Where one can't be started, gives that of the foreground job if it was.
+fn start_jobs<R, J, G>(
     rt: R,
     alloc: Global,
     posts: Posts<J>,
     desk: DeskPart<G>,
     back: BackPart<G>,
-    ends: Ends,
-    writer: &mut W,
-) -> Option<JobThreads<J>>
+) -> Result<JobThreads<J>, Option<PromisedHandle<Option<(MailPass, EntryPass)>, DeskSays<J>>>>
 where
     R: Threads + Wait + Copy + Send + 'static,
     J: Job + Send + 'static,
-    W: Finish,
     G: Gate + Drop + Send + Sync + 'static,
     requires desk { IsSeatAt (sends_on desk.seat.to) desk.seat.pass ×
         (view desk.seat.pass ≡ sender Desk []) }
@@ -366,26 +361,20 @@ where
     requires stops { StopsStay (Some back.stops) (Some back.stops) }
     requires credits { IsSeatAt (receives_on back.credits.seat.from) back.credits.seat.pass }
     requires fresh { J.fresh posts.job × IsQueue J.fresh posts.queue.items }
-    ensures desk { IfSome result (λ jobs. (sends_on jobs.desk.promise.to.value ≡ sends_on desk.seat.to) ×
+    ensures desk { IfOk result (λ jobs. (sends_on jobs.desk.promise.to.value ≡ sends_on desk.seat.to) ×
         (receives_on jobs.desk.promise.from.value ≡ receives_on desk.entries.from) ×
         (jobs.desk.promise.id ≡ posts.first) × (jobs.desk.promise.job.value ≡ posts.job)) }
-    ensures back { IfSome result (λ jobs. (sends_on jobs.back.promise.to.value ≡ sends_on back.seat.to) ×
+    ensures back { IfOk result (λ jobs. (sends_on jobs.back.promise.to.value ≡ sends_on back.seat.to) ×
         (jobs.back.promise.queue.value ≡ posts.queue) × (jobs.back.promise.tostop ≡ posts.tostop) ×
         (jobs.back.promise.stops.value ≡ Some back.stops)) }
-    ensures ends { IfSome result (λ jobs. jobs.ends ≡ ends) }
-    ensures unwritten { IfSome result (λ _. writer.new ≡ writer.old) }
 {
     let Some(desk) = start_desk(rt, alloc, desk, posts.first, posts.job) else {
-        writer.finish();
-        return None;
+        return Err(None);
     };
-    let Some(back) = start_back(rt, alloc, back, posts.queue, posts.tostop) else {
-        writer.finish();
-        drop(ends);
-        desk.join(&rt);
-        return None;
-    };
-    Some(JobThreads { desk, back, ends })
+    match start_back(rt, alloc, back, posts.queue, posts.tostop) {
+        Some(back) => Ok(JobThreads { desk, back }),
+        None => Err(Some(desk)),
+    }
 }
 
 // Starts the threads, and runs this one as the terminal's. On each path out of it every thread that was
@@ -452,22 +441,32 @@ where
         writer.finish();
         return Err(SessionFault::Start);
     };
-    let Some(jobs) = start_jobs(rt, alloc, posts, desk, back, ends, writer) else {
-        net.join(&rt);
-        return Err(SessionFault::Start);
+    let jobs = match start_jobs(rt, alloc, posts, desk, back) {
+        Ok(jobs) => jobs,
+        Err(desk) => {
+            writer.finish();
+            drop(ends);
+            net.join(&rt);
+            if let Some(desk) = desk {
+                desk.join(&rt);
+            }
+            return Err(SessionFault::Start);
+        },
     };
-    let JobThreads { desk, back, ends } = jobs;
+    let JobThreads { desk, back } = jobs;
     let started = Started { net, desk, back };
     run_beside(&rt, started, ends, passes, term, output, writer, watched)
 }
 
-// Writes the opening words and runs the threads.
+// Writes the opening words and runs the threads. It takes eight, as `run` does.
 fn run_begun<R, Rd, W, J, G>(
     rt: R,
     alloc: Global,
     reader: Rd,
     writer: &mut W,
-    begun: Begun<J>,
+    posts: Posts<J>,
+    term: &mut Term,
+    mut output: Output,
     gate: Arc<G, Global>,
 ) -> Result<(Report, Ports), SessionFault>
 where
@@ -476,32 +475,27 @@ where
     W: Finish,
     J: Job + Send + 'static,
     G: Gate + Drop + Send + Sync + 'static,
-    requires fresh { J.fresh begun.posts.job × IsQueue J.fresh begun.posts.queue.items }
-    requires transcript { noted_of begun.output.transcript ≡ no_notes }
+    requires fresh { J.fresh posts.job × IsQueue J.fresh posts.queue.items }
+    requires transcript { noted_of output.transcript ≡ no_notes }
     ensures fault { IfErr result IsRefusal }
     ensures ran { IfOk result (λ r.
         IsRun (job_acts J.reacts J.steps J.refuses)
         (record {
-          first = begun.posts.first;
-          job = begun.posts.job;
-          queue = begun.posts.queue.items;
-          tostop = begun.posts.tostop;
+          first = posts.first;
+          job = posts.job;
+          queue = posts.queue.items;
+          tostop = posts.tostop;
         })
-        begun.term begun.output.out.items (known_reader Rd.remaining Rd.foretold Rd.sizes Rd.words reader)
+        term.old output.out.items (known_reader Rd.remaining Rd.foretold Rd.sizes Rd.words reader)
         (known_writing W.contents W.told writer.old writer.new) (session_result r.0 r.1)) }
-    ensures in_reach { IfOk result (λ r. StaysInReach begun.term r.0.ended) }
+    ensures in_reach { IfOk result (λ r. StaysInReach term.old r.0.ended) }
     ensures finished { IfOk result (λ r. IsFinished (W.sending writer.old) (W.sending writer.new)) }
 {
     let Ok(outfit) = equip(alloc, gate) else {
         return Err(SessionFault::Memory);
     };
-    let Begun {
-        posts,
-        mut term,
-        mut output,
-    } = begun;
-    open(&mut term, &mut output, writer);
-    run(rt, alloc, reader, writer, posts, outfit, &mut term, output)
+    open(term, &mut output, writer);
+    run(rt, alloc, reader, writer, posts, outfit, term, output)
 }
 
 /// Runs a session over a connection: its reader and its writer, a terminal with these settings whose
@@ -541,5 +535,15 @@ where
     all_goes_before_a_hang_up();
     faults_have_causes();
     let begun = begin(alloc, settings, limit, editing, maker)?;
-    run_begun(rt, alloc, reader, writer, begun, gate)
+    let mut term = begun.term;
+    run_begun(
+        rt,
+        alloc,
+        reader,
+        writer,
+        begun.posts,
+        &mut term,
+        begun.output,
+        gate,
+    )
 }
