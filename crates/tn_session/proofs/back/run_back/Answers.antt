@@ -13,6 +13,7 @@ use Rattle.tn_session.proofs.Readers.{said, said_two, role}
 use Rattle.tn_session.specs.declared.mail.Sender.TheVariants.{Back}
 use Rattle.tn_session.proofs.Stopped.{stays_on, stays_here}
 use Rattle.tn_session.proofs.Turning.{said_step, closes_idle, closes_stopped, closes_refused, running_first, advanced, in_turn}
+use Rattle.tn_session.proofs.Going.{false_true}
 use Rattle.tn_session.proofs.back.run_back.Goals as goal
 
 pub loop-init : goal.loop-init
@@ -31,18 +32,6 @@ loop-init g c = (
 
 pub is_stopped-requires : goal.is_stopped-requires
 is_stopped-requires g c = record { seat = stays_here c.args.stops.now c.loop.stops c.loop.invariant.2 }
-
-pub say-requires-clause-role : goal.say-requires-clause-role
-say-requires-clause-role g c = role Back (map step_said c.loop.invariant.1.0) (view c.loop.pass) c.loop.invariant.1.1
-
-pub say-requires-in-Idle-clause-role : goal.say-requires-in-Idle-clause-role
-say-requires-in-Idle-clause-role g c = role Back (map step_said c.loop.invariant.1.0) (view c.loop.pass) c.loop.invariant.1.1
-
-pub say-requires-in-Refused-clause-role : goal.say-requires-in-Refused-clause-role
-say-requires-in-Refused-clause-role g c = role Back (map step_said c.loop.invariant.1.0) (view c.loop.pass) c.loop.invariant.1.1
-
-pub say-requires-in-Did-clause-role : goal.say-requires-in-Did-clause-role
-say-requires-in-Did-clause-role g c = role Back (map step_said c.loop.invariant.1.0) (view c.loop.pass) c.loop.invariant.1.1
 
 pub returns-then-is_stopped-clause-stepped : goal.returns-then-is_stopped-clause-stepped
 returns-then-is_stopped-clause-stepped g c =
@@ -118,3 +107,6 @@ loop-preserved g c =
       stays_on c.args.stops.now c.loop.stops c.is_stopped.new.stops c.loop.invariant.2 c.is_stopped.ensures.stays,
       c.take.ensures.seat,
     )
+
+pub unreachable-requires : goal.unreachable-requires
+unreachable-requires g c = false_true c.in-None.ensures.steps

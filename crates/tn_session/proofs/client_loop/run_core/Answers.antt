@@ -5,7 +5,7 @@ use Rattle.tn_machines.specs.declared.client.messages.Told.{Told}
 use Rattle.tn_machines.specs.declared.client.progress.ClientProgress.{ClientProgress}
 use Rattle.tn_session.proofs.CoreGoing.{told_first, told_next, told_kept, core_told}
 use Rattle.tn_session.proofs.Finishing.{open_none, stands_next, stands_last, stays_done}
-use Rattle.tn_session.proofs.Going.{lefts_of-push, left_small, notes_next, notes_kept}
+use Rattle.tn_session.proofs.Going.{false_true, lefts_of-push, left_small, notes_next, notes_kept}
 use Rattle.tn_session.proofs.Mailbox.{handled_more}
 use Rattle.tn_session.proofs.Stopped.{left_next, stands_first}
 use Rattle.tn_session.specs.CoreTurns.{TurnsTold, all_told, told_of}
@@ -112,5 +112,5 @@ returns-then-lefts-ge-SENDERS-clause-finished g c = stands_last c.loop.closed
 pub returns-then-lefts-ge-SENDERS-clause-stops : goal.returns-then-lefts-ge-SENDERS-clause-stops
 returns-then-lefts-ge-SENDERS-clause-stops g c = (c.loop.invariant.7, c.loop.invariant.6)
 
-pub overflow_add-lefts : goal.overflow_add-lefts
-overflow_add-lefts g c = omega (arith, left_small c.in_ok-mail.mail.message, c.if-lefts-ge-SENDERS.false, c.leaves-left.ensures)
+pub unreachable-requires : goal.unreachable-requires
+unreachable-requires g c = false_true c.in-None.ensures.steps

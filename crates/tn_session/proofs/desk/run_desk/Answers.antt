@@ -5,16 +5,8 @@ use Rattle.tn_session.specs.Talk.{desk_sends, entries_of}
 use Rattle.tn_session.proofs.Readers.{said, said_two, said_three, role}
 use Rattle.tn_session.specs.declared.mail.Sender.TheVariants.{Desk}
 use Rattle.tn_session.proofs.Talk.{turns_said-push, entries_of-push, ends_done-push, answers-push}
+use Rattle.tn_session.proofs.Going.{false_true}
 use Rattle.tn_session.proofs.desk.run_desk.Goals as goal
-
-pub loop-init : goal.loop-init
-loop-init g c = (c.requires.mailbox.0, c.requires.entries.0, ([], refl, c.requires.mailbox.1, c.requires.entries.1))
-
-pub say-requires-clause-role : goal.say-requires-clause-role
-say-requires-clause-role g c = role Desk _ _ c.loop.invariant.2.2
-
-pub next_entry-requires-clause-role : goal.next_entry-requires-clause-role
-next_entry-requires-clause-role g c = (entries_of c.loop.invariant.2.0, c.loop.invariant.2.3)
 
 pub say-requires-in_default-clause-role : goal.say-requires-in_default-clause-role
 say-requires-in_default-clause-role g c = role Desk _ _ (said Desk _ _ _ _ c.loop.invariant.2.2 c.in_ok-pass.ensures.said)
@@ -96,3 +88,6 @@ returns-in-Done-clause-talk g c =
         ends_done-push i.0 e r c.in-Done.is,
       )),
     )
+
+pub unreachable-requires : goal.unreachable-requires
+unreachable-requires g c = false_true c.in-None.ensures.steps

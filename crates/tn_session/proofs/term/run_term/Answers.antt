@@ -146,5 +146,5 @@ returns-then-lefts-ge-SENDERS-clause-step_credits g c =
 pub returns-then-lefts-ge-SENDERS-clause-stops : goal.returns-then-lefts-ge-SENDERS-clause-stops
 returns-then-lefts-ge-SENDERS-clause-stops g c = (c.loop.invariant.9, c.loop.invariant.8)
 
-pub overflow_add-lefts : goal.overflow_add-lefts
-overflow_add-lefts g c = omega (arith, left_small c.in_ok-mail.mail.message, c.if-lefts-ge-SENDERS.false, c.leaves-left.ensures)
+pub unreachable-requires : goal.unreachable-requires
+unreachable-requires g c = false_true c.in-None.ensures.steps
