@@ -1,7 +1,7 @@
 //! Who watches the threads of a session.
 //!
 //! The trait has methods with bodies, and the crate that starts the threads asks whether a gate may cross
-//! them. Where both are one crate its check takes twice as long.
+//! them. Where both are one crate, what its check begins with takes twice as long.
 
 use crate::client::Terms;
 use tn_jobs::JobId;
