@@ -1,6 +1,6 @@
 //! Each connection has a session in threads of its own.
 
-ghost use Rattle.std.specs.Prelude.{◌≡◌, ◌⊎◌, ◌<◌, ◌≤◌, ◌+◌, ◌^◌, ◌-◌, [], Ok, true, IsTrue, IfOk, IfSome, IfNone};
+ghost use Rattle.std.specs.Prelude.{◌≡◌, ◌⊎◌, ◌<◌, ◌≤◌, ◌+◌, ◌^◌, ◌-◌, true, IsTrue, IfOk, IfSome, IfNone};
 ghost use Rattle.std.specs.Prelude.{IsErrOf};
 ghost use Rattle.std.specs.Prelude.{vec_items, vec_len};
 ghost use Rattle.tn_serve.specs.Causes.{FailsBy, IsCaused};
@@ -13,7 +13,7 @@ ghost use Rattle.tn_serve.specs.Turns.{HearsAll, HearsOfJobs, HearsOfNone, Still
 ghost use Rattle.tn_network.specs.Asked.{Accepts, Listens};
 ghost use Rattle.tn_roster.specs.Held.{IsLimit, held_count};
 
-use crate::acceptor::{Accepted, Acceptor, AcceptorSays};
+use crate::acceptor::Acceptor;
 use crate::asked::Asked;
 use crate::call::{Call, Notes};
 use crate::caller::Caller;
@@ -38,7 +38,6 @@ use std::io::Write;
 use std::marker::Brand;
 use std::net::{SocketAddr, TcpListener, TcpStream};
 use std::sync::Arc;
-use std::thread::PromisedHandle;
 use std::time::{Duration, Instant};
 use tn_network::Network;
 use tn_roster::Roster;
@@ -144,12 +143,24 @@ fn serve_as<
     ensures limit { IsErrOf result ServeFault.Limit → ¬ IsLimit serving.sessions }
     ensures bad_limit { (¬ IsLimit serving.sessions) → IsErrOf result ServeFault.Limit }
 {
+    let count = serving.count;
     let roster = Roster::new(alloc, usize::from(serving.sessions))?;
     let (sender, receiver) = crossbeam_channel::bounded(alloc, EVENTS)?;
-    if serving.verbose {
-        tell_listening(&rt, alloc, listener, errors);
+    if let (true, Ok(address)) = (serving.verbose, listener.local_addr()) {
+        note(&rt, alloc, note_texts::listening(alloc, &address), errors);
     }
-    let open: Open<H, V, O> = Open {
+    let acceptor = Acceptor {
+        rt,
+        listener: rt.share(listener)?,
+        events: sender.clone()?,
+        count,
+        until,
+        verbose: serving.verbose,
+    };
+    let Some(acceptor) = acceptor.start() else {
+        return Err(ServeFault::Memory);
+    };
+    let mut open: Open<H, V, O> = Open {
         rt,
         alloc,
         serving,
@@ -160,41 +171,19 @@ fn serve_as<
         events: sender,
         turned_away: TurnedAway::new(alloc),
     };
-    open.serve_until(listener, receiver, until, errors)
-}
-
-// Notes where it listens, if that can be told.
-fn tell_listening<H: Host, E: Write>(rt: &H, alloc: Global, listener: &TcpListener, errors: &mut E) {
-    if let Ok(address) = listener.local_addr() {
-        note(rt, alloc, note_texts::listening(alloc, &address), errors);
+    open.serve_all(&receiver, errors);
+    open.join_all(errors);
+    let served = open.running.served();
+    drop(open);
+    drop(receiver);
+    let accepted = acceptor.join(&rt);
+    if served.accepted() != accepted.count {
+        return Err(ServeFault::Network);
     }
-}
-
-// Accepts connections, as many as there are to be, in a thread of its own.
-fn accepting<H: Host + Network, U: Until + Drop + Send + 'static>(
-    rt: H,
-    listener: &TcpListener,
-    events: Sender<Event, Global>,
-    serving: Serving,
-    until: U,
-) -> Result<PromisedHandle<Accepted, AcceptorSays<H, U>>, ServeFault>
-    ensures rt { IfOk result (λ handle. handle.promise.rt.value ≡ rt) }
-    ensures listener { IfOk result (λ handle. H.shares rt listener.now (Ok handle.promise.listener.value)) }
-    ensures until { IfOk result (λ handle. handle.promise.until.value ≡ until) }
-    ensures no_limit { ¬ IsErrOf result ServeFault.Limit }
-{
-    let acceptor = Acceptor {
-        rt,
-        listener: rt.share(listener)?,
-        events,
-        count: serving.count,
-        until,
-        verbose: serving.verbose,
-    };
-    match acceptor.start() {
-        Some(handle) => Ok(handle),
-        None => Err(ServeFault::Memory),
+    if !accepted.are_enough(count) {
+        return Err(ServeFault::Network);
     }
+    Ok(served)
 }
 
 /// What a session that is to start needs beside its jobs.
@@ -226,53 +215,6 @@ struct Open<H, V: Service, O: Asked<V::Jobs>> {
     ghost within: { vec_len running.started ≤ held_count roster },
     ghost asked: { serving.options ≡ O.options },
     ghost limit: { roster.limit ≡ serving.sessions },
-}
-
-impl<H: Host + Network, V: Service + Drop, O: Asked<V::Jobs>> Open<H, V, O> {
-    // Serves the connections that come, where none came yet, until no more are to come and all sessions have
-    // ended.
-    fn serve_until<U: Until + Drop + Send + 'static, E: Write>(
-        mut self,
-        listener: &TcpListener,
-        receiver: Receiver<Event, Global>,
-        until: U,
-        errors: &mut E,
-    ) -> Result<Served, ServeFault>
-        requires makes { MakesOnly V.makes self.service O.made }
-        requires turns { TurnsAway (H.dismisses self.rt) O.turned }
-        requires empty { self.roster.numbers ≡ [] }
-        requires none { vec_len self.running.started ≡ 0 }
-        requires counts { (self.running.whole ≡ 0) × (self.running.faulted ≡ 0)
-            × (self.running.refused ≡ 0) }
-        ensures all { IfOk result (ServesUntil self.serving.count (U.ends until)) }
-        ensures each { IfOk result (λ served. CountsSessions (server_of
-            (facts_of V.Job.fresh V.Jobs.gives V.Job.reacts V.Job.steps V.Job.refuses) V.Jobs.left O.options
-            O.made O.turned)
-            served.whole served.faulted served.refused) }
-        ensures heard { IfOk result (λ served. HearsAll V.turns (HasEnded (server_of
-            (facts_of V.Job.fresh V.Jobs.gives V.Job.reacts V.Job.steps V.Job.refuses) V.Jobs.left O.options
-            O.made O.turned))
-            self.service served.whole served.faulted) }
-        ensures accepted { IfOk result (λ served.
-            Accepts (H.shares self.rt listener.now) (H.accepts self.rt) served.accepted) }
-        ensures no_limit { ¬ IsErrOf result ServeFault.Limit }
-    {
-        let (rt, serving) = (self.rt, self.serving);
-        let acceptor = accepting(rt, listener, self.events.clone()?, serving, until)?;
-        self.serve_all(&receiver, errors);
-        self.join_all(errors);
-        let served = self.running.served();
-        drop(self);
-        drop(receiver);
-        let accepted = acceptor.join(&rt);
-        if served.accepted() != accepted.count {
-            return Err(ServeFault::Network);
-        }
-        if !accepted.are_enough(serving.count) {
-            return Err(ServeFault::Network);
-        }
-        Ok(served)
-    }
 }
 
 impl<H: Host + Network, V: Service, O: Asked<V::Jobs>> Open<H, V, O> {
