@@ -205,10 +205,9 @@ where
     };
     let settings = Settings::standard();
     let (limit, editing) = (options.line_limit, options.editing);
-    let (report, ports) = serve_session(
+    serve_session(
         rt, alloc, reader, writer, settings, limit, editing, jobs, gate,
-    )?;
-    Ok((report, ports))
+    )
 }
 
 // Reads what a peer still sends after it was told that no more comes, until it has closed or had its time to.

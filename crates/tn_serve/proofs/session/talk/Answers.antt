@@ -1,10 +1,11 @@
 use Rattle.std.proofs.Common.{◌≡◌, ℕ, List, Option, Some, None, [], refl, subst}
+use Rattle.std.proofs.lemmas.Result.{IfOk-weaker}
 use Rattle.tn_discipline.specs.Characters.{standard_characters}
 use Rattle.tn_discipline.specs.Keys.{standard_flags}
 use Rattle.tn_discipline.specs.declared.characters.Chars.{Chars}
 use Rattle.tn_discipline.specs.declared.termios.Flags.{Flags}
 use Rattle.tn_discipline.specs.declared.termios.Settings.{Settings}
-use Rattle.tn_serve.specs.Servers.{attended}
+use Rattle.tn_serve.specs.Servers.{RunsWriting, attended}
 use Rattle.tn_serve.specs.declared.settings.SessionOptions.{SessionOptions}
 use Rattle.tn_session.specs.Facts.{JobFacts, SessionResult, job_facts, session_result}
 use Rattle.tn_session.specs.Makers.{begins}
@@ -35,8 +36,10 @@ module _ {J : Type 0} (facts : JobFacts J) (to_make : Option ℕ) (options : Ses
 pub returns-clause-ran : goal.returns-clause-ran
 returns-clause-ran g c =
     let standard = standard_is c.standard-settings.result c.standard-settings.ensures.flags c.standard-settings.ensures.chars in
-    as_asked (job_facts (begins g.M.Job.Job.fresh g.M.Maker.gives c.args.jobs) g.M.Job.Job.reacts g.M.Job.Job.steps g.M.Job.Job.refuses)
-    (g.M.Maker.left c.args.jobs) c.args.options
-    (session_result c.in_ok-report.report c.in_ok-report.ports) c.standard-settings.result (logged c.args.writer.now.log)
-    (logged c.serve_session.new.writer.log)
-    standard c.requires.new c.in_ok-report.ensures.ran
+    let facts = job_facts (begins g.M.Job.Job.fresh g.M.Maker.gives c.args.jobs) g.M.Job.Job.reacts g.M.Job.Job.steps g.M.Job.Job.refuses in
+    let left = g.M.Maker.left c.args.jobs in
+    IfOk-weaker c.serve_session.result _
+    (λ r. RunsWriting facts left c.args.options c.serve_session.new.writer.log (session_result r.0 r.1))
+    (λ r ran. as_asked facts left c.args.options (session_result r.0 r.1) c.standard-settings.result (logged c.args.writer.now.log)
+    (logged c.serve_session.new.writer.log) standard c.requires.new ran)
+    c.serve_session.ensures.ran
