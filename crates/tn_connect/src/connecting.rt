@@ -303,14 +303,14 @@ fn lay_out<H: Host, K: Drop>(
     } = files;
     let trace = Trace::new(rt, alloc, trace)?;
     let written = trace.try_clone()?;
-    let opened = Arc::try_clone(link)?;
-    let link = Arc::try_clone(link)?;
+    let wired = Arc::try_clone(link)?;
+    let asked = Arc::try_clone(link)?;
     let host = String::from_str(alloc, host)?;
     let (queue, throttle) = new_queue(rt, alloc)?;
     let typing = Typing {
         keys,
         throttle,
-        link,
+        link: asked,
         host,
         port: connecting.port,
         width: connecting.width,
@@ -321,7 +321,7 @@ fn lay_out<H: Host, K: Drop>(
     Ok(Laid {
         opened: Opened {
             stream,
-            link: opened,
+            link: wired,
             trace: written,
             queue,
         },

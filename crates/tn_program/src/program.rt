@@ -1,9 +1,11 @@
 //! The program: words and streams in, a status out.
 
-ghost use Rattle.std.specs.Prelude.{◌≡◌, ◌≢◌, ◌⊎◌, None, Some, IfErr, IfOk, IsOk, OnErr, map, string_bytes};
+ghost use Rattle.std.specs.Prelude.{◌≡◌, ◌≢◌, ◌⊎◌, ℕ, List, None, Some, IfErr, IfOk, IsOk, OnErr, map};
+ghost use Rattle.std.specs.Prelude.{string_bytes};
 ghost use Rattle.std.specs.IoError.{error_kind};
 ghost use Rattle.tn_program.specs.Machine.{machine_of};
-ghost use Rattle.tn_program.specs.Outcomes.{ComesOf, ComesOfRun, EndsVersion, EndsWith, AskForNothing};
+ghost use Rattle.tn_program.specs.Outcomes.{ComesOf, ComesOfNoRun, ComesOfRun, EndsVersion, EndsWith};
+ghost use Rattle.tn_program.specs.Outcomes.{AskForNothing};
 ghost use Rattle.tn_program.specs.Runs.{DoesAsAsked};
 ghost use Rattle.tn_program.specs.Told.{IsConnecting, IsTold, UnlessConnected, UnlessTelling};
 ghost use Rattle.tn_words.specs.Words.{AskFor, Refuses};
@@ -65,7 +67,10 @@ pub fn run_words<
     let mut causes = Vec::new(alloc);
     let outcome = outcome_of_words(rt, alloc, words, streams, writer, errors, &mut causes);
     outcome.tell(alloc, &causes, errors);
-    outcome.status()
+    let status = outcome.status();
+    // In one call, and not field by field.
+    drop(outcome);
+    status
 }
 
 /// The same without the status and the lines: returns what comes of the words, and appends the causes of a
@@ -101,14 +106,24 @@ pub fn outcome_of_words<
         Err(error) => return refusal(error.kind()),
     };
     match asked_of(alloc, &words) {
-        Ok(asked) => return run_asked(rt, alloc, asked, streams, writer, errors, causes),
-        Err(WordsFault::Help(text)) => {
+        Ok(asked) => run_asked(rt, alloc, asked, streams, writer, errors, causes),
+        Err(fault) => outcome_of_fault(fault, writer),
+    }
+}
+
+// What comes of words that ask for no run: help and the version are written.
+fn outcome_of_fault<W: Write>(fault: WordsFault, writer: &mut W) -> Outcome
+    ensures { (words : List (List ℕ)) → Refuses words fault →
+        ComesOfNoRun words (W.contents writer.old) (W.contents writer.new) result }
+{
+    match fault {
+        WordsFault::Help(text) => {
             let written = writer.write_all(text.as_bytes());
-            return Outcome::Help(written.map_err(|_| CliFault::Write));
+            Outcome::Help(written.map_err(|_| CliFault::Write))
         },
-        Err(WordsFault::Version) => return Outcome::Version(write_version(writer)),
-        Err(WordsFault::Memory) => return Outcome::Memory,
-        Err(WordsFault::Usage(detail)) => return Outcome::Usage(Some(detail)),
+        WordsFault::Version => Outcome::Version(write_version(writer)),
+        WordsFault::Memory => Outcome::Memory,
+        WordsFault::Usage(detail) => Outcome::Usage(Some(detail)),
     }
 }
 

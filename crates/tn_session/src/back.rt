@@ -14,7 +14,7 @@ ghost use Rattle.tn_session.specs.Turning.{Holds, IsQueue, queue_of, TakesTurn};
 ghost use Rattle.tn_session.specs.declared.mail.Mail.{Mail as MailT};
 ghost use Rattle.tn_session.specs.declared.mail.Sender.TheVariants.{Back};
 
-use crate::channels::{MailPass, MailSeat};
+use crate::channels::MailSeat;
 use crate::credit::StepCredits;
 use crate::mail::Sender;
 use crate::sending::say;
@@ -81,55 +81,50 @@ fn advance<J: Job>(queue: &mut VecDeque<Runner<J>>, alloc: Global, tostop: bool)
 }
 
 // tools/progress: proctype Back
-/// Runs the jobs in turn, each step for a credit, until none of them runs or it is told to stop.
+/// Runs the jobs in turn, each step for a credit, until none of them runs or it is told to stop. `None` where
+/// the other end of a channel is gone.
 pub(crate) fn run_back<R: Wait, J: Job, G: Gate>(
     rt: &R,
     alloc: Global,
-    seat: MailSeat,
+    seat: &mut MailSeat,
     mut queue: VecDeque<Runner<J>>,
     tostop: bool,
     gate: &G,
     stops: &mut Option<StopSeat>,
     credits: &mut StepCredits,
-) -> Option<MailPass>
-    requires mailbox { IsSeatAt (sends_on seat.to) seat.pass × (view seat.pass ≡ sender Back []) }
+) -> Option<()>
+    requires mailbox { IsSeatAt (sends_on seat.old.to) seat.old.pass × (view seat.old.pass ≡ sender Back []) }
     requires jobs { IsQueue J.fresh queue.items }
     requires stops { StopsStay stops.old stops.old }
     requires credits { IsSeatAt (receives_on credits.old.seat.from) credits.old.seat.pass }
-    ensures seat { IfSome result (λ p. IsSeatAt (sends_on seat.to) p) }
-    ensures stepped { IfSome result (λ p. AreSteps (Holds queue.items)
+    ensures seat { IfSome result (λ _. IsSeatAt (sends_on seat.old.to) seat.new.pass) }
+    ensures stepped { IfSome result (λ _. AreSteps (Holds queue.items)
         (job_acts J.reacts J.steps J.refuses) (queue_of tostop queue.items) (has_stopped stops.new)
-        (view p)) }
+        (view seat.new.pass)) }
     ensures stays { StopsStay stops.old stops.new }
-    ensures credited { IfSome result (λ p. (mails : List MailT) → view p ≡ sender Back mails →
+    ensures credited { IfSome result (λ _. (mails : List MailT) → view seat.new.pass ≡ sender Back mails →
         HaveUsed (steps_among mails) credits.old credits.new) }
 {
-    let MailSeat { to, mut pass } = seat;
     for _ in rt.forever() {
         credits.take(rt)?;
         if is_stopped(rt, stops) {
-            return say(rt, &to, pass, Sender::Back, Message::Left);
+            return say(rt, &seat.to, &mut seat.pass, Sender::Back, Message::Left);
         }
         gate.at(Place::BackStep);
         match advance(&mut queue, alloc, tostop) {
-            Turn::Idle => return say(rt, &to, pass, Sender::Back, Message::Left),
+            Turn::Idle => return say(rt, &seat.to, &mut seat.pass, Sender::Back, Message::Left),
             Turn::Refused => {
-                pass = say(rt, &to, pass, Sender::Back, Message::Refused)?;
-                return say(rt, &to, pass, Sender::Back, Message::Left);
+                say(rt, &seat.to, &mut seat.pass, Sender::Back, Message::Refused)?;
+                return say(rt, &seat.to, &mut seat.pass, Sender::Back, Message::Left);
             },
             Turn::Did { id, reaction } => {
                 let Reaction { text, after } = reaction;
-                pass = say(
-                    rt,
-                    &to,
-                    pass,
-                    Sender::Back,
-                    Message::Said {
-                        job: id,
-                        text,
-                        after,
-                    },
-                )?;
+                let said = Message::Said {
+                    job: id,
+                    text,
+                    after,
+                };
+                say(rt, &seat.to, &mut seat.pass, Sender::Back, said)?;
             },
         }
     }

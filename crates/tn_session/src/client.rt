@@ -250,14 +250,14 @@ where
     let Beside {
         started,
         ends,
-        pass,
+        mut pass,
         mut watched,
     } = beside;
-    let Some((pass, transcript)) = run_core(
+    let Some(transcript) = run_core(
         rt,
         alloc,
         &ends.from,
-        pass,
+        &mut pass,
         core,
         writer,
         screen,

@@ -136,36 +136,37 @@ pub(crate) fn run_core<R: Wait, W: Finish, S: Drain, G: Gate>(
     rt: &R,
     alloc: Global,
     from: &MailReceiver,
-    mut pass: MailPass,
+    pass: &mut MailPass,
     core: &mut Core,
     writer: &mut W,
     screen: &mut S,
     watched: &mut Watched<G>,
-) -> Option<(MailPass, Transcript)>
-    requires mailbox { IsSeatAt (receives_on from.now) pass × ((view pass).handled ≡ Some []) }
+) -> Option<Transcript>
+    requires mailbox { IsSeatAt (receives_on from.now) pass.old × ((view pass.old).handled ≡ Some []) }
     requires stops { IsSeatAt (sends_on watched.old.stops.to) watched.old.stops.pass ×
         (view watched.old.stops.pass ≡ putter []) }
-    ensures mailbox { IfSome result (λ r. IsSeatAt (receives_on from.now) r.0) }
-    ensures acted { IfSome result (λ r.
-        CoreHandles core.old (view pass) (view r.0) (known_writing W.contents W.told writer.old writer.new)
-        (known_writing S.contents S.told screen.old screen.new) (noted_of r.1)
+    ensures mailbox { IfSome result (λ _. IsSeatAt (receives_on from.now) pass.new) }
+    ensures acted { IfSome result (λ transcript.
+        CoreHandles core.old (view pass.old) (view pass.new)
+        (known_writing W.contents W.told writer.old writer.new)
+        (known_writing S.contents S.told screen.old screen.new) (noted_of transcript)
         (view watched.new.stops.pass) core.new) }
-    ensures finished { IfSome result (λ p. IsFinished (W.sending writer.old) (W.sending writer.new)) }
-    ensures stops { IfSome result (λ p. (watched.new.stops.to ≡ watched.old.stops.to) ×
+    ensures finished { IfSome result (λ _. IsFinished (W.sending writer.old) (W.sending writer.new)) }
+    ensures stops { IfSome result (λ _. (watched.new.stops.to ≡ watched.old.stops.to) ×
         IsSeatAt (sends_on watched.new.stops.to) watched.new.stops.pass) }
 {
+    let mut told = watched.stops.tell(rt, stops(core.progress()), false)?;
     let mut output = Output::new(alloc);
     let mut text = Vec::new(alloc);
     let mut lefts = 0u64;
     let mut closed = false;
-    let mut told = watched.stops.tell(rt, stops(core.progress()), false)?;
     let mut keys_left = false;
     for _ in rt.forever() {
         if lefts >= SENDERS {
             finish_unless(closed, writer);
-            return Some((pass, output.transcript));
+            return Some(output.transcript);
         }
-        let mail = output.transcript.take(rt, from, &mut pass)?;
+        let mail = output.transcript.take(rt, from, pass)?;
         let left = leaves(&mail.message);
         keys_left = has_left(keys_left, &mail);
         turn(

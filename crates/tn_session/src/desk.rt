@@ -10,7 +10,7 @@ ghost use Rattle.tn_queue.specs.Queue.{taker};
 ghost use Rattle.tn_session.specs.Talk.{IsJob, IsTalk};
 ghost use Rattle.tn_session.specs.declared.mail.Sender.TheVariants.{Desk};
 
-use crate::channels::{MailPass, MailSeat};
+use crate::channels::MailSeat;
 use crate::entries::{EntryPass, EntryReceiver, EntrySeat, Takes};
 use crate::mail::Sender;
 use crate::sending::say;
@@ -21,79 +21,61 @@ use tn_jobs::{After, Job, JobId, Reaction};
 use tn_machines::{Gate, Message, Place};
 
 // Takes one entry or the end. `None` where the other end is gone.
-fn next_entry<R: Wait>(
-    rt: &R,
-    from: &EntryReceiver,
-    mut hand: EntryPass,
-) -> Option<(EntryPass, Option<Entry>)>
-    requires seat { IsSeatAt (receives_on from.now) hand }
-    requires role { (l : List (Option EntryT)) × (view hand ≡ taker l) }
-    ensures seat { IfSome result (λ r. IsSeatAt (receives_on from.now) r.0) }
-    ensures took { IfSome result (λ r. (l : List (Option EntryT)) → view hand ≡ taker l →
-        view r.0 ≡ taker (l ++ r.1 ∷ [])) }
+fn next_entry<R: Wait>(rt: &R, from: &EntryReceiver, hand: &mut EntryPass) -> Option<Option<Entry>>
+    requires seat { IsSeatAt (receives_on from.now) hand.old }
+    requires role { (l : List (Option EntryT)) × (view hand.old ≡ taker l) }
+    ensures seat { IsSeatAt (receives_on from.now) hand.new }
+    ensures took { IfSome result (λ entry. (l : List (Option EntryT)) → view hand.old ≡ taker l →
+        view hand.new ≡ taker (l ++ entry ∷ [])) }
 {
-    match from.recv_as::<Takes, R>(rt, &mut hand) {
-        Ok(entry) => Some((hand, entry)),
+    match from.recv_as::<Takes, R>(rt, hand) {
+        Ok(entry) => Some(entry),
         Err(_) => None,
     }
 }
 
 // tools/progress: proctype Desk
-/// Asks for entries and lets the job answer them, until the end, a Done or out of memory.
+/// Asks for entries and lets the job answer them, until the end, a Done or out of memory. `None` where the
+/// other end of a channel is gone.
 pub(crate) fn run_desk<R: Wait, J: Job, G: Gate>(
     rt: &R,
     alloc: Global,
-    seat: MailSeat,
-    entries: EntrySeat,
+    seat: &mut MailSeat,
+    entries: &mut EntrySeat,
     id: JobId,
     mut job: J,
     gate: &G,
-) -> Option<(MailPass, EntryPass)>
-    requires mailbox { IsSeatAt (sends_on seat.to) seat.pass × (view seat.pass ≡ sender Desk []) }
-    requires entries { IsSeatAt (receives_on entries.from) entries.pass ×
-        (view entries.pass ≡ taker []) }
+) -> Option<()>
+    requires mailbox { IsSeatAt (sends_on seat.old.to) seat.old.pass × (view seat.old.pass ≡ sender Desk []) }
+    requires entries { IsSeatAt (receives_on entries.old.from) entries.old.pass ×
+        (view entries.old.pass ≡ taker []) }
     requires fresh { J.fresh job }
-    ensures mailbox { IfSome result (λ r. IsSeatAt (sends_on seat.to) r.0) }
-    ensures entries { IfSome result (λ r. IsSeatAt (receives_on entries.from) r.1) }
-    ensures talk { IfSome result (λ r. IsTalk id (IsJob job) (job_acts J.reacts J.steps J.refuses)
-        (view r.0) (view r.1)) }
+    ensures mailbox { IfSome result (λ _. IsSeatAt (sends_on seat.old.to) seat.new.pass) }
+    ensures entries { IfSome result (λ _. IsSeatAt (receives_on entries.old.from) entries.new.pass) }
+    ensures talk { IfSome result (λ _. IsTalk id (IsJob job) (job_acts J.reacts J.steps J.refuses)
+        (view seat.new.pass) (view entries.new.pass)) }
 {
-    let MailSeat { to, mut pass } = seat;
-    let EntrySeat {
-        from,
-        pass: mut hand,
-    } = entries;
     for _ in rt.forever() {
-        pass = say(rt, &to, pass, Sender::Desk, Message::Take)?;
-        let (after_take, entry) = next_entry(rt, &from, hand)?;
-        hand = after_take;
-        let Some(entry) = entry else {
-            pass = say(rt, &to, pass, Sender::Desk, Message::Left)?;
-            return Some((pass, hand));
+        say(rt, &seat.to, &mut seat.pass, Sender::Desk, Message::Take)?;
+        let Some(entry) = next_entry(rt, &entries.from, &mut entries.pass)? else {
+            return say(rt, &seat.to, &mut seat.pass, Sender::Desk, Message::Left);
         };
         gate.at(Place::DeskEntry);
         let Ok(reaction) = job.entry(alloc, entry) else {
-            pass = say(rt, &to, pass, Sender::Desk, Message::Refused)?;
-            pass = say(rt, &to, pass, Sender::Desk, Message::Left)?;
-            return Some((pass, hand));
+            say(rt, &seat.to, &mut seat.pass, Sender::Desk, Message::Refused)?;
+            return say(rt, &seat.to, &mut seat.pass, Sender::Desk, Message::Left);
         };
         let Reaction { text, after } = reaction;
-        pass = say(
-            rt,
-            &to,
-            pass,
-            Sender::Desk,
-            Message::Said {
-                job: id,
-                text,
-                after,
-            },
-        )?;
+        let said = Message::Said {
+            job: id,
+            text,
+            after,
+        };
+        say(rt, &seat.to, &mut seat.pass, Sender::Desk, said)?;
         match after {
             After::Stay | After::WantsInput | After::Stop => {},
             After::Done => {
-                pass = say(rt, &to, pass, Sender::Desk, Message::Left)?;
-                return Some((pass, hand));
+                return say(rt, &seat.to, &mut seat.pass, Sender::Desk, Message::Left);
             },
         }
     }

@@ -69,15 +69,15 @@ pub(crate) struct ReaderPart<G> {
 fn tell_size<R: Wait, Rd: Source>(
     rt: &R,
     to: &MailSender,
-    pass: MailPass,
+    pass: &mut MailPass,
     who: Sender,
     reader: &mut Rd,
-) -> Option<MailPass>
-    requires seat { IsSeatAt (sends_on to.now) pass }
-    requires role { (l : List MailT) × (view pass ≡ sender who l) }
-    ensures seat { IfSome result (λ p. IsSeatAt (sends_on to.now) p) }
-    ensures told { IfSome result (λ p. SaysSize who (Rd.sizes reader.old) (Rd.sizes reader.new) (view pass)
-        (view p)) }
+) -> Option<()>
+    requires seat { IsSeatAt (sends_on to.now) pass.old }
+    requires role { (l : List MailT) × (view pass.old ≡ sender who l) }
+    ensures seat { IsSeatAt (sends_on to.now) pass.new }
+    ensures told { IfSome result (λ _. SaysSize who (Rd.sizes reader.old) (Rd.sizes reader.new)
+        (view pass.old) (view pass.new)) }
     ensures bytes { Rd.remaining reader.new ≡ Rd.remaining reader.old }
     ensures foretold { Rd.foretold reader.new ≡ Rd.foretold reader.old }
     ensures controls { Rd.controls reader.new ≡ Rd.controls reader.old }
@@ -85,7 +85,7 @@ fn tell_size<R: Wait, Rd: Source>(
 {
     match reader.resized() {
         Some(size) => say(rt, to, pass, who, Message::Resized(size)),
-        None => Some(pass),
+        None => Some(()),
     }
 }
 
@@ -93,16 +93,15 @@ fn tell_size<R: Wait, Rd: Source>(
 fn tell_control<R: Wait, Rd: Source>(
     rt: &R,
     to: &MailSender,
-    pass: MailPass,
+    pass: &mut MailPass,
     who: Sender,
     reader: &mut Rd,
-) -> Option<MailPass>
-    requires seat { IsSeatAt (sends_on to.now) pass }
-    requires role { (l : List MailT) × (view pass ≡ sender who l) }
-    ensures seat { IfSome result (λ p. IsSeatAt (sends_on to.now) p) }
-    ensures told { IfSome result (λ p. SaysControl who (Rd.controls reader.old) (Rd.controls reader.new)
-        (view pass)
-        (view p)) }
+) -> Option<()>
+    requires seat { IsSeatAt (sends_on to.now) pass.old }
+    requires role { (l : List MailT) × (view pass.old ≡ sender who l) }
+    ensures seat { IsSeatAt (sends_on to.now) pass.new }
+    ensures told { IfSome result (λ _. SaysControl who (Rd.controls reader.old) (Rd.controls reader.new)
+        (view pass.old) (view pass.new)) }
     ensures bytes { Rd.remaining reader.new ≡ Rd.remaining reader.old }
     ensures foretold { Rd.foretold reader.new ≡ Rd.foretold reader.old }
     ensures sizes { Rd.sizes reader.new ≡ Rd.sizes reader.old }
@@ -110,7 +109,7 @@ fn tell_control<R: Wait, Rd: Source>(
 {
     match reader.control() {
         Some(control) => say(rt, to, pass, who, Message::Asked(control)),
-        None => Some(pass),
+        None => Some(()),
     }
 }
 
@@ -118,19 +117,19 @@ fn tell_control<R: Wait, Rd: Source>(
 fn tell_beside<R: Wait, Rd: Source>(
     rt: &R,
     to: &MailSender,
-    pass: MailPass,
+    pass: &mut MailPass,
     who: Sender,
     reader: &mut Rd,
-) -> Option<MailPass>
-    requires seat { IsSeatAt (sends_on to.now) pass }
-    requires role { (l : List MailT) × (view pass ≡ sender who l) }
-    ensures seat { IfSome result (λ p. IsSeatAt (sends_on to.now) p) }
-    ensures told { IfSome result (λ p. SaysBeside who
+) -> Option<()>
+    requires seat { IsSeatAt (sends_on to.now) pass.old }
+    requires role { (l : List MailT) × (view pass.old ≡ sender who l) }
+    ensures seat { IsSeatAt (sends_on to.now) pass.new }
+    ensures told { IfSome result (λ _. SaysBeside who
         (known_typing Rd.remaining Rd.foretold Rd.sizes Rd.words Rd.controls reader.old)
-        (known_typing Rd.remaining Rd.foretold Rd.sizes Rd.words Rd.controls reader.new) (view pass)
-        (view p)) }
+        (known_typing Rd.remaining Rd.foretold Rd.sizes Rd.words Rd.controls reader.new) (view pass.old)
+        (view pass.new)) }
 {
-    let pass = tell_size(rt, to, pass, who, reader)?;
+    tell_size(rt, to, pass, who, reader)?;
     tell_control(rt, to, pass, who, reader)
 }
 
@@ -177,42 +176,41 @@ fn end_of<Rd: Source>(
 fn say_any<R: Wait>(
     rt: &R,
     to: &MailSender,
-    pass: MailPass,
+    pass: &mut MailPass,
     who: Sender,
     message: Option<Message>,
-) -> Option<MailPass>
-    requires seat { IsSeatAt (sends_on to.now) pass }
-    requires role { (l : List MailT) × (view pass ≡ sender who l) }
-    ensures seat { IfSome result (λ p. IsSeatAt (sends_on to.now) p) }
-    ensures said { IfSome result (λ p. SaysAll who (option_to_list message) (view pass) (view p)) }
+) -> Option<()>
+    requires seat { IsSeatAt (sends_on to.now) pass.old }
+    requires role { (l : List MailT) × (view pass.old ≡ sender who l) }
+    ensures seat { IsSeatAt (sends_on to.now) pass.new }
+    ensures said { IfSome result (λ _.
+        SaysAll who (option_to_list message) (view pass.old) (view pass.new)) }
 {
     match message {
         Some(message) => say(rt, to, pass, who, message),
-        None => Some(pass),
+        None => Some(()),
     }
 }
 
-// Tells how the reading ended, and before that what is said of its reader. It takes seven, as what it is lent
-// goes together nowhere else.
+// Tells how the reading ended, and before that what is said of its reader.
 fn tell_end<R: Wait, Rd: Source, G: Gate>(
     rt: &R,
     alloc: Global,
-    to: &MailSender,
-    pass: MailPass,
+    seat: &mut MailSeat,
     part: &ReaderPart<G>,
     reader: &Rd,
     last: Message,
-) -> Option<MailPass>
-    requires seat { IsSeatAt (sends_on to.now) pass }
-    requires role { (l : List MailT) × (view pass ≡ sender part.now.who l) }
-    ensures seat { IfSome result (λ p. IsSeatAt (sends_on to.now) p) }
-    ensures said { IfSome result (λ p. SaysEnd part.now.who part.now.job (Rd.words reader.now) last
-        (view pass) (view p)) }
+) -> Option<()>
+    requires seat { IsSeatAt (sends_on seat.old.to) seat.old.pass }
+    requires role { (l : List MailT) × (view seat.old.pass ≡ sender part.now.who l) }
+    ensures seat { IfSome result (λ _. IsSeatAt (sends_on seat.old.to) seat.new.pass) }
+    ensures said { IfSome result (λ _. SaysEnd part.now.who part.now.job (Rd.words reader.now) last
+        (view seat.old.pass) (view seat.new.pass)) }
 {
     let (said, end) = end_of(alloc, part.job, reader, last);
-    let pass = say_any(rt, to, pass, part.who, said)?;
-    let pass = say(rt, to, pass, part.who, end)?;
-    say(rt, to, pass, part.who, Message::Left)
+    say_any(rt, &seat.to, &mut seat.pass, part.who, said)?;
+    say(rt, &seat.to, &mut seat.pass, part.who, end)?;
+    say(rt, &seat.to, &mut seat.pass, part.who, Message::Left)
 }
 
 // tools/progress: proctype Net, ClientNet and ClientKeys
@@ -223,37 +221,38 @@ fn tell_end<R: Wait, Rd: Source, G: Gate>(
 pub(crate) fn run_reader<R: Wait, Rd: Source + Drop, G: Gate>(
     rt: &R,
     alloc: Global,
-    seat: MailSeat,
+    seat: &mut MailSeat,
     mut reader: Rd,
     part: &ReaderPart<G>,
     credits: &mut Option<CreditSeat>,
     stops: &mut Option<StopSeat>,
-) -> Option<MailPass>
-    requires mailbox { IsSeatAt (sends_on seat.to) seat.pass × (view seat.pass ≡ sender part.now.who []) }
+) -> Option<()>
+    requires mailbox { IsSeatAt (sends_on seat.old.to) seat.old.pass ×
+        (view seat.old.pass ≡ sender part.now.who []) }
     requires credits { IsSeated credits.old }
     requires stops { StopsStay stops.old stops.old }
-    ensures seat { IfSome result (λ p. IsSeatAt (sends_on seat.to) p) }
-    ensures sent { IfSome result (λ p. TypingSends part.now.who part.now.job (has_stopped stops.new)
-        (known_typing Rd.remaining Rd.foretold Rd.sizes Rd.words Rd.controls reader) (view p)) }
+    ensures seat { IfSome result (λ _. IsSeatAt (sends_on seat.old.to) seat.new.pass) }
+    ensures sent { IfSome result (λ _. TypingSends part.now.who part.now.job (has_stopped stops.new)
+        (known_typing Rd.remaining Rd.foretold Rd.sizes Rd.words Rd.controls reader) (view seat.new.pass)) }
     ensures stays { StopsStay stops.old stops.new }
-    ensures credited { IfSome result (λ p. (mails : List MailT) → view p ≡ sender part.now.who mails →
+    ensures credited { IfSome result (λ _. (mails : List MailT) →
+        view seat.new.pass ≡ sender part.now.who mails →
         HaveTaken (pieces_among mails) credits.old credits.new) }
 {
-    let MailSeat { to, mut pass } = seat;
     for _read in 0..u32::MAX {
-        pass = tell_beside(rt, &to, pass, part.who, &mut reader)?;
+        tell_beside(rt, &seat.to, &mut seat.pass, part.who, &mut reader)?;
         match read_piece(&mut reader, alloc) {
             Got::Bytes(text) => {
                 take_credit(rt, credits)?;
-                pass = say(rt, &to, pass, part.who, Message::Piece(text))?;
+                say(rt, &seat.to, &mut seat.pass, part.who, Message::Piece(text))?;
                 part.gate.at(part.place);
                 if is_stopped(rt, stops) {
-                    return say(rt, &to, pass, part.who, Message::Left);
+                    return say(rt, &seat.to, &mut seat.pass, part.who, Message::Left);
                 }
             },
             Got::Again => continue,
-            Got::Last(last) => return tell_end(rt, alloc, &to, pass, part, &reader, last),
+            Got::Last(last) => return tell_end(rt, alloc, seat, part, &reader, last),
         }
     }
-    tell_end(rt, alloc, &to, pass, part, &reader, Message::ReadFailed)
+    tell_end(rt, alloc, seat, part, &reader, Message::ReadFailed)
 }

@@ -16,19 +16,19 @@ use tn_machines::Message;
 pub(crate) fn say<R: Wait>(
     rt: &R,
     to: &MailSender,
-    mut pass: MailPass,
+    pass: &mut MailPass,
     who: Sender,
     message: Message,
-) -> Option<MailPass>
-    requires seat { IsSeatAt (sends_on to.now) pass }
-    requires role { (l : List MailT) × (view pass ≡ sender who l) }
-    ensures seat { IfSome result (λ p. IsSeatAt (sends_on to.now) p) }
-    ensures said { IfSome result (λ p. (l : List MailT) → view pass ≡ sender who l →
-        view p ≡ sender who (l ++ mail_of who message ∷ [])) }
+) -> Option<()>
+    requires seat { IsSeatAt (sends_on to.now) pass.old }
+    requires role { (l : List MailT) × (view pass.old ≡ sender who l) }
+    ensures seat { IsSeatAt (sends_on to.now) pass.new }
+    ensures said { IfSome result (λ _. (l : List MailT) → view pass.old ≡ sender who l →
+        view pass.new ≡ sender who (l ++ mail_of who message ∷ [])) }
 {
     let mail = Mail { from: who, message };
-    if to.send_as::<Sends, R>(rt, &mut pass, mail).is_err() {
-        return None;
+    match to.send_as::<Sends, R>(rt, pass, mail) {
+        Ok(()) => Some(()),
+        Err(_) => None,
     }
-    Some(pass)
 }

@@ -215,7 +215,7 @@ fn run_beside<R, Rd, W, J, G>(
     rt: &R,
     started: Started<Rd, J>,
     ends: Ends,
-    passes: Passes,
+    mut passes: Passes,
     term: &mut Term,
     mut output: Output,
     writer: &mut W,
@@ -257,7 +257,15 @@ where
     ensures in_reach { IfOk result (λ r. StaysInReach term.old r.0.ended) }
     ensures finished { IfOk result (λ r. IsFinished (W.sending writer.old) (W.sending writer.new)) }
 {
-    let Some(passes) = run_term(rt, &ends, passes, term, &mut output, writer, &mut watched) else {
+    let Some(()) = run_term(
+        rt,
+        &ends,
+        &mut passes,
+        term,
+        &mut output,
+        writer,
+        &mut watched,
+    ) else {
         writer.finish();
         drop(ends);
         started.join(rt);

@@ -58,31 +58,31 @@ pub(crate) struct Passes {
 fn put_entry<R: Wait>(
     rt: &R,
     entries: &EntrySender,
-    mut hand: EntryPass,
+    hand: &mut EntryPass,
     entry: Option<Entry>,
-) -> Option<EntryPass>
-    requires seat { IsSeatAt (sends_on entries.now) hand }
-    requires role { (l : List (Option EntryT)) × (view hand ≡ putter l) }
-    ensures seat { IfSome result (λ h. IsSeatAt (sends_on entries.now) h) }
-    ensures put { IfSome result (λ h. (l : List (Option EntryT)) → view hand ≡ putter l →
-        view h ≡ putter (l ++ entry ∷ [])) }
+) -> Option<()>
+    requires seat { IsSeatAt (sends_on entries.now) hand.old }
+    requires role { (l : List (Option EntryT)) × (view hand.old ≡ putter l) }
+    ensures seat { IsSeatAt (sends_on entries.now) hand.new }
+    ensures put { IfSome result (λ _. (l : List (Option EntryT)) → view hand.old ≡ putter l →
+        view hand.new ≡ putter (l ++ entry ∷ [])) }
 {
-    match entries.send_as::<Puts, R>(rt, &mut hand, entry) {
-        Ok(()) => Some(hand),
+    match entries.send_as::<Puts, R>(rt, hand, entry) {
+        Ok(()) => Some(()),
         Err(_) => None,
     }
 }
 
 // Puts what goes to the foreground job, if anything does. `None` where the other end is gone.
-fn put_if<R: Wait>(rt: &R, entries: &EntrySender, hand: EntryPass, put: Put) -> Option<EntryPass>
-    requires seat { IsSeatAt (sends_on entries.now) hand }
-    requires role { (l : List (Option EntryT)) × (view hand ≡ putter l) }
-    ensures seat { IfSome result (λ h. IsSeatAt (sends_on entries.now) h) }
-    ensures put { IfSome result (λ h. (l : List (Option EntryT)) → view hand ≡ putter l →
-        view h ≡ putter (l ++ puts_of put)) }
+fn put_if<R: Wait>(rt: &R, entries: &EntrySender, hand: &mut EntryPass, put: Put) -> Option<()>
+    requires seat { IsSeatAt (sends_on entries.now) hand.old }
+    requires role { (l : List (Option EntryT)) × (view hand.old ≡ putter l) }
+    ensures seat { IsSeatAt (sends_on entries.now) hand.new }
+    ensures put { IfSome result (λ _. (l : List (Option EntryT)) → view hand.old ≡ putter l →
+        view hand.new ≡ putter (l ++ puts_of put)) }
 {
     match put {
-        Put::Nothing => Some(hand),
+        Put::Nothing => Some(()),
         Put::Entry(entry) => put_entry(rt, entries, hand, Some(entry)),
         Put::End => put_entry(rt, entries, hand, None),
     }
@@ -140,27 +140,28 @@ fn is_done(written: bool, mark: ServerMark) -> bool
 fn turn<R: Wait, W: Finish>(
     rt: &R,
     entries: &EntrySender,
-    hand: EntryPass,
+    hand: &mut EntryPass,
     term: &mut Term,
     message: Message,
     output: &mut Output,
     writer: &mut W,
-) -> Option<EntryPass>
-    requires seat { IsSeatAt (sends_on entries.now) hand }
-    requires role { (l : List (Option EntryT)) × (view hand ≡ putter l) }
+) -> Option<()>
+    requires seat { IsSeatAt (sends_on entries.now) hand.old }
+    requires role { (l : List (Option EntryT)) × (view hand.old ≡ putter l) }
     requires out { output.old.out.items ≡ [] }
-    ensures seat { IfSome result (λ h. IsSeatAt (sends_on entries.now) h) }
+    ensures seat { IsSeatAt (sends_on entries.now) hand.new }
     ensures out { output.new.out.items ≡ [] }
-    ensures turned { IfSome result (λ h.
+    ensures turned { IfSome result (λ _.
         TurnsMessage term.old message (known_writing W.contents W.told writer.old writer.new)
-        (noted_of output.old.transcript) (noted_of output.new.transcript) (view hand) (view h) term.new) }
+        (noted_of output.old.transcript) (noted_of output.new.transcript) (view hand.old) (view hand.new)
+        term.new) }
     ensures going { StaysOpen (W.sending writer.old) (W.sending writer.new) }
     ensures silent { IsTrue term.old.progress.over → W.sending writer.new ≡ W.sending writer.old }
 {
     let MessageOutcome { put, last, mark } = term.handle(message, &mut output.out);
-    let hand = put_if(rt, entries, hand, put);
+    let is_put = put_if(rt, entries, hand, put);
     let written = output.write_out(writer);
-    let hand = hand?;
+    is_put?;
     if is_done(written, mark) {
         return put_if(rt, entries, hand, last);
     }
@@ -211,60 +212,50 @@ pub(crate) fn finish_unless<W: Finish>(closed: bool, writer: &mut W)
 pub(crate) fn run_term<R: Wait, W: Finish, G: Gate>(
     rt: &R,
     ends: &Ends,
-    passes: Passes,
+    passes: &mut Passes,
     term: &mut Term,
     output: &mut Output,
     writer: &mut W,
     watched: &mut Watched<G>,
-) -> Option<Passes>
-    requires mailbox { IsSeatAt (receives_on ends.now.from) passes.mails ×
-        ((view passes.mails).handled ≡ Some []) }
-    requires entries { (l : List (Option EntryT)) × IsSeatAt (sends_on ends.now.put) passes.hand ×
-        (view passes.hand ≡ putter l) }
-    requires credits { IsSeatAt (sends_on ends.now.give) passes.give }
-    requires step_credits { IsSeatAt (sends_on passes.step_credits.to) passes.step_credits.pass }
+) -> Option<()>
+    requires mailbox { IsSeatAt (receives_on ends.now.from) passes.old.mails ×
+        ((view passes.old.mails).handled ≡ Some []) }
+    requires entries { (l : List (Option EntryT)) × IsSeatAt (sends_on ends.now.put) passes.old.hand ×
+        (view passes.old.hand ≡ putter l) }
+    requires credits { IsSeatAt (sends_on ends.now.give) passes.old.give }
+    requires step_credits { IsSeatAt (sends_on passes.old.step_credits.to) passes.old.step_credits.pass }
     requires out { output.old.out.items ≡ [] }
     requires stops { IsSeatAt (sends_on watched.old.stops.to) watched.old.stops.pass ×
         (view watched.old.stops.pass ≡ putter []) }
-    ensures mailbox { IfSome result (λ p. IsSeatAt (receives_on ends.now.from) p.mails) }
-    ensures entries { IfSome result (λ p. IsSeatAt (sends_on ends.now.put) p.hand) }
-    ensures acted { IfSome result (λ p.
-        HandlesAll term.old (view passes.mails) (view p.mails) (view passes.hand) (view p.hand)
-        (known_writing W.contents W.told writer.old writer.new) (noted_of output.old.transcript)
-        (noted_of output.new.transcript) (view watched.new.stops.pass) term.new) }
-    ensures credits { IfSome result (λ p. GivesCredits (view passes.mails) (view p.mails) (view passes.give)
-        (view p.give)) }
-    ensures step_credits { IfSome result (λ p. GivesStepCredits (view passes.mails) (view p.mails)
-        (view passes.step_credits.pass) (view p.step_credits.pass)) }
-    ensures in_reach { IfSome result (λ p. StaysInReach term.old term.new.progress.ended) }
-    ensures finished { IfSome result (λ p. IsFinished (W.sending writer.old) (W.sending writer.new)) }
-    ensures stops { IfSome result (λ p. (watched.new.stops.to ≡ watched.old.stops.to) ×
+    ensures mailbox { IfSome result (λ _. IsSeatAt (receives_on ends.now.from) passes.new.mails) }
+    ensures entries { IfSome result (λ _. IsSeatAt (sends_on ends.now.put) passes.new.hand) }
+    ensures acted { IfSome result (λ _.
+        HandlesAll term.old (view passes.old.mails) (view passes.new.mails) (view passes.old.hand)
+        (view passes.new.hand) (known_writing W.contents W.told writer.old writer.new)
+        (noted_of output.old.transcript) (noted_of output.new.transcript) (view watched.new.stops.pass)
+        term.new) }
+    ensures credits { IfSome result (λ _. GivesCredits (view passes.old.mails) (view passes.new.mails)
+        (view passes.old.give) (view passes.new.give)) }
+    ensures step_credits { IfSome result (λ _. GivesStepCredits (view passes.old.mails)
+        (view passes.new.mails) (view passes.old.step_credits.pass) (view passes.new.step_credits.pass)) }
+    ensures in_reach { IfSome result (λ _. StaysInReach term.old term.new.progress.ended) }
+    ensures finished { IfSome result (λ _. IsFinished (W.sending writer.old) (W.sending writer.new)) }
+    ensures stops { IfSome result (λ _. (watched.new.stops.to ≡ watched.old.stops.to) ×
         IsSeatAt (sends_on watched.new.stops.to) watched.new.stops.pass) }
 {
-    let Passes {
-        mut mails,
-        mut hand,
-        mut give,
-        mut step_credits,
-    } = passes;
     let mut lefts = 0u64;
     let mut back_left = false;
     let mut closed = finish_once(writer, term.progress().over, false);
     let mut told = watched.stops.tell(rt, stops(term.progress()), false)?;
-    let mut owed = give_credit(rt, &ends.give, &mut give, true, term);
+    let mut owed = give_credit(rt, &ends.give, &mut passes.give, true, term);
     for _ in rt.forever() {
         if lefts >= SENDERS {
             finish_unless(closed, writer);
-            return Some(Passes {
-                mails,
-                hand,
-                give,
-                step_credits,
-            });
+            return Some(());
         }
-        let mail = output.transcript.take(rt, &ends.from, &mut mails)?;
+        let mail = output.transcript.take(rt, &ends.from, &mut passes.mails)?;
         back_left = has_left(back_left, &mail);
-        step_credits.give_for(rt, &mail);
+        passes.step_credits.give_for(rt, &mail);
         let Mail { from: _, message } = mail;
         if !term.welcomes(&message) {
             return None;
@@ -273,14 +264,22 @@ pub(crate) fn run_term<R: Wait, W: Finish, G: Gate>(
         let job = job_of(&message);
         let piece = is_piece(&message);
         let before = term.progress().entries;
-        hand = turn(rt, &ends.put, hand, term, message, output, writer)?;
+        turn(
+            rt,
+            &ends.put,
+            &mut passes.hand,
+            term,
+            message,
+            output,
+            writer,
+        )?;
         tell_took(&*watched.gate, before, term.progress().entries);
         tell_said(&*watched.gate, job);
         closed = finish_once(writer, term.progress().over, closed);
         told = watched
             .stops
             .tell(rt, is_told(term.progress(), back_left), told)?;
-        owed = give_credit(rt, &ends.give, &mut give, is_due(owed, piece), term);
+        owed = give_credit(rt, &ends.give, &mut passes.give, is_due(owed, piece), term);
         lefts += left;
     }
     unreachable!()

@@ -153,10 +153,21 @@ pub(crate) fn start_reader<
             (known_typing Rd.remaining Rd.foretold Rd.sizes Rd.words Rd.controls reader) (view left.pass) ×
             StopsStay stops left.stops) }
     {
+        let mut seat = seat;
         let mut credits = credits;
         let mut stops = stops;
-        match run_reader(&rt, alloc, seat, reader, &part, &mut credits, &mut stops) {
-            Some(pass) => Some(ThreadLeft { pass, stops }),
+        let ran = run_reader(
+            &rt,
+            alloc,
+            &mut seat,
+            reader,
+            &part,
+            &mut credits,
+            &mut stops,
+        );
+        let pass = seat.pass;
+        match ran {
+            Some(()) => Some(ThreadLeft { pass, stops }),
             None => None,
         }
     };
@@ -214,7 +225,14 @@ pub(crate) fn start_desk<
         ensures { IfSome result (λ x. IsSeatAt (sends_on seat.to) x.0 ×
             IsSeatAt (receives_on entries.from) x.1 × IsTalk id (IsJob job)
             (job_acts J.reacts J.steps J.refuses) (view x.0) (view x.1)) }
-    { run_desk(&rt, alloc, seat, entries, id, job, &*gate) };
+    {
+        let mut seat = seat;
+        let mut entries = entries;
+        match run_desk(&rt, alloc, &mut seat, &mut entries, id, job, &*gate) {
+            Some(()) => Some((seat.pass, entries.pass)),
+            None => None,
+        }
+    };
     match thread::spawn_with(&rt, promise, work) {
         Ok(handle) => Some(handle),
         Err(_) => None,
@@ -274,19 +292,22 @@ pub(crate) fn start_back<
             AreSteps (Holds queue.items) (job_acts J.reacts J.steps J.refuses) (queue_of tostop queue.items)
             (has_stopped left.stops) (view left.pass) × StopsStay stops left.stops) }
     {
+        let mut seat = seat;
         let mut stops = stops;
         let mut credits = credits;
-        match run_back(
+        let ran = run_back(
             &rt,
             alloc,
-            seat,
+            &mut seat,
             queue,
             tostop,
             &*gate,
             &mut stops,
             &mut credits,
-        ) {
-            Some(pass) => Some(ThreadLeft { pass, stops }),
+        );
+        let pass = seat.pass;
+        match ran {
+            Some(()) => Some(ThreadLeft { pass, stops }),
             None => None,
         }
     };

@@ -1,5 +1,5 @@
 -- Commands that get their arguments one by one.
-use Rattle.std.proofs.Common.{◌≡◌, ◌∙◌, ap, refl, Result, Ok, Err, IfOk}
+use Rattle.std.proofs.Common.{◌≡◌, ◌∙◌, ap, refl, subst, Result, Ok, Err, IfOk}
 use Rattle.std.proofs.lemmas.Result.{IfOk-weaker}
 use Rattle.std.specs.Prelude.{IsOkAnd}
 use Rattle.clap.specs.Words.{App, Rule, Shape, app_of, rule_of, shape_of, with_rule, with_subcommand}
@@ -29,36 +29,13 @@ then_more {a = a} {b = b} {c = c} {more = more} {again = again} one two = record
   local = λ was. two.local (one.local was);
 }
 
-by_rule : {b c : Growing} {rule : Rule} (arg : Arg) → Grown b c (λ app. with_rule app (rule_of arg)) → rule_of arg ≡ rule → Grown b c (λ app. with_rule app rule)
-by_rule {b = b} {c = c} {rule = rule} arg grown is = record {
-  shape = ruled b.command c.command grown.shape;
-  local = grown.local;
-} where
-  ruled : {E : Type 0} (o n : Result Command E) → IfOk n (λ n. IsOkAnd o (λ o. app_of n ≡ with_rule (app_of o) (rule_of arg)))
-      → IfOk n (λ n. IsOkAnd o (λ o. app_of n ≡ with_rule (app_of o) rule))
-  ruled (Ok o) (Ok n) was = was ∙ ap (with_rule (app_of o)) is
-  ruled (Err e) (Ok n) was = absurd was
-  ruled o (Err e) was = tt
-
 pub one_more : {a b c : Growing} {more : App → App} {rule : Rule} (arg : Arg) → Grown a b more → Grown b c (λ app. with_rule app (rule_of arg))
     → rule_of arg ≡ rule → Grown a c (λ app. with_rule (more app) rule)
-one_more arg grown next is = then_more grown (by_rule arg next is)
-
-by_shape : {b c : Growing} {shape : Shape} (sub : Command) → Grown b c (λ app. with_subcommand app (shape_of sub)) → shape_of sub ≡ shape
-    → Grown b c (λ app. with_subcommand app shape)
-by_shape {b = b} {c = c} {shape = shape} sub grown is = record {
-  shape = shaped b.command c.command grown.shape;
-  local = grown.local;
-} where
-  shaped : {E : Type 0} (o n : Result Command E) → IfOk n (λ n. IsOkAnd o (λ o. app_of n ≡ with_subcommand (app_of o) (shape_of sub)))
-      → IfOk n (λ n. IsOkAnd o (λ o. app_of n ≡ with_subcommand (app_of o) shape))
-  shaped (Ok o) (Ok n) was = was ∙ ap (with_subcommand (app_of o)) is
-  shaped (Err e) (Ok n) was = absurd was
-  shaped o (Err e) was = tt
+one_more {b = b} {c = c} arg grown next is = then_more grown (subst (λ (rule : Rule). Grown b c (λ app. with_rule app rule)) is next)
 
 pub subcommand_more : {a b c : Growing} {more : App → App} {shape : Shape} (sub : Command) → Grown a b more
     → Grown b c (λ app. with_subcommand app (shape_of sub)) → shape_of sub ≡ shape → Grown a c (λ app. with_subcommand (more app) shape)
-subcommand_more sub grown next is = then_more grown (by_shape sub next is)
+subcommand_more {b = b} {c = c} sub grown next is = then_more grown (subst (λ (shape : Shape). Grown b c (λ app. with_subcommand app shape)) is next)
 
 -- what a parse reads of a command that has grown
 pub app_from : {start g : Growing} {more : App → App} (app : App) → Grown start g more → IfOk start.command (λ o. app_of o ≡ app)

@@ -13,9 +13,10 @@ use Rattle.tn_session.proofs.back.run_back.Given as goal
 
 abbrev pub invariant-loop : goal.invariant-loop
 invariant-loop g l =
-    IsSeatAt (sends_on l.to) l.pass
-    × ((said : List (JobId × Reaction)) × (view l.pass ≡ sender Back (map (mail Back) (map step_said said)))
+    IsSeatAt (sends_on l.seat.to) l.seat.pass
+    × ((said : List (JobId × Reaction)) × (view l.seat.pass ≡ sender Back (map (mail Back) (map step_said said)))
     × Running (Holds l.fn.queue.items) g.J.Job.steps l.fn.tostop (ids_of l.fn.queue.items) said l.queue.items
     × StepInTurn l.fn.tostop (ids_of l.fn.queue.items) said (ids_of l.queue.items) × HaveUsed (length said) l.fn.credits l.credits)
     × StopsStay l.fn.stops l.stops
     × IsSeatAt (receives_on l.credits.seat.from) l.credits.seat.pass
+    × (l.seat.to ≡ l.fn.seat.to)

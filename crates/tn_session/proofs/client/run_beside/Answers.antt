@@ -29,10 +29,10 @@ returns-clause-ran g c =
     let screen = known_writing g.S.Drain.contents g.S.Drain.told c.args.screen.now c.run_core.new.screen in
     let same = ap (λ p. view p) c.settle-ports.ensures.told ∙ c.settle-told.ensures.same in
     client_ran c.args.core.now c.run_core.new.core (has_stopped returned.keys.stops) keys_reader net_reader writer screen (view c.args.beside.pass)
-    (view ended.pass) (view returned.net) (view returned.keys.pass) (client_result c.report.result ports)
-    stands.pass_is (subst (λ n. CoreHandles c.args.core.now (view c.args.beside.pass) (view ended.pass) writer screen n (view ports.told) c.run_core.new.core)
+    (view c.run_core.new.pass) (view returned.net) (view returned.keys.pass) (client_result c.report.result ports)
+    stands.pass_is (subst (λ n. CoreHandles c.args.core.now (view c.args.beside.pass) (view c.run_core.new.pass) writer screen n (view ports.told) c.run_core.new.core)
     (sym (ap noted_of c.settle-ports.ensures.transcript)) (subst
-    (λ v. CoreHandles c.args.core.now (view c.args.beside.pass) (view ended.pass) writer screen (noted_of ended.transcript) v c.run_core.new.core)
+    (λ v. CoreHandles c.args.core.now (view c.args.beside.pass) (view c.run_core.new.pass) writer screen (noted_of ended.transcript) v c.run_core.new.core)
     (sym same) ended.ensures.acted))
     (sends_as started.net.promise.who Net started.net.promise.job None false net_typing (view returned.net) stands.net_who stands.net_job
     (join.ensures.net.1 stands.net_stays)).0

@@ -27,7 +27,7 @@ loop-init g c =
       c.requires.mailbox.0,
       (
         [],
-        ap (λ (o : Option (List Mail)). record (view c.args.pass) { handled = o }) c.requires.mailbox.1,
+        ap (λ (o : Option (List Mail)). record (view c.args.pass.now) { handled = o }) c.requires.mailbox.1,
         refl,
         first.0,
         refl,
@@ -63,7 +63,7 @@ loop-preserved g c =
       c.take.ensures.seat,
       (
         i.0 ++ x ∷ [],
-        handled_more (view c.args.pass) (view c.loop.pass) (view c.take.new.pass) i.0 x i.1 c.in_ok-mail.ensures.handled,
+        handled_more (view c.args.pass.now) (view c.loop.pass) (view c.take.new.pass) i.0 x i.1 c.in_ok-mail.ensures.handled,
         omega (arith, lefts_of-push i.0 x, c.leaves-left.ensures, i.2),
         told.0,
         left,

@@ -5,6 +5,6 @@ use Rattle.tn_session.proofs.desk.next_entry.Goals as goal
 
 pub recv_as-requires-clause-rule : goal.recv_as-requires-clause-rule
 recv_as-requires-clause-rule g c = (
-  takes c.args.hand.id (view c.args.hand) c.requires.role.0 (ap (λ v. v.taken) c.requires.role.1),
-  leaves c.args.hand.id (view c.args.hand),
+  takes c.args.hand.now.id (view c.args.hand.now) c.requires.role.0 (ap (λ v. v.taken) c.requires.role.1),
+  leaves c.args.hand.now.id (view c.args.hand.now),
 )

@@ -9,6 +9,7 @@ use Rattle.tn_session.proofs.desk.run_desk.Given as goal
 
 abbrev pub invariant-loop : goal.invariant-loop
 invariant-loop g l =
-    IsSeatAt (sends_on l.to) l.pass × IsSeatAt (receives_on l.from) l.hand ×
-    ((turns : List (Entry × Reaction)) × Answers g.J.Job.reacts l.fn.job turns l.job × (view l.pass ≡ desk_sends (turns_said l.id turns))
-    × (view l.hand ≡ taker (entries_of turns)))
+    IsSeatAt (sends_on l.seat.to) l.seat.pass × IsSeatAt (receives_on l.entries.from) l.entries.pass ×
+    ((turns : List (Entry × Reaction)) × Answers g.J.Job.reacts l.fn.job turns l.job × (view l.seat.pass ≡ desk_sends (turns_said l.id turns))
+    × (view l.entries.pass ≡ taker (entries_of turns)))
+    × (l.seat.to ≡ l.fn.seat.to) × (l.entries.from ≡ l.fn.entries.from)

@@ -1,3 +1,4 @@
+use Rattle.std.proofs.Common.{◌≡◌}
 use Rattle.crossbeam_channel.specs.Claims.{view, IsSeatAt}
 use Rattle.crossbeam_channel.specs.Ends.{sends_on}
 use Rattle.tn_session.specs.Credits.{IsSeated}
@@ -9,7 +10,8 @@ use Rattle.tn_session.proofs.net.run_reader.Given as goal
 abbrev pub invariant-loop-read : goal.invariant-loop-read
 invariant-loop-read g l =
     let known = known_typing g.Rd.Source.remaining g.Rd.Source.foretold g.Rd.Source.sizes g.Rd.Source.words g.Rd.Source.controls in
-    IsSeatAt (sends_on l.to) l.pass
-    × HasTold l.part.who (known l.fn.reader) (known l.reader) l._read l.fn.credits l.credits (view l.pass)
+    IsSeatAt (sends_on l.seat.to) l.seat.pass
+    × HasTold l.part.who (known l.fn.reader) (known l.reader) l._read l.fn.credits l.credits (view l.seat.pass)
     × IsSeated l.credits
     × StopsStay l.fn.stops l.stops
+    × (l.seat.to ≡ l.fn.seat.to)

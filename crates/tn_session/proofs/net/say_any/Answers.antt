@@ -7,5 +7,5 @@ use Rattle.tn_session.proofs.net.say_any.Goals as goal
 
 pub returns-in-None-clause-said : goal.returns-in-None-clause-said
 returns-in-None-clause-said g c =
-    subst (λ (m : Option Message). SaysAll c.args.who (option_to_list m) (view c.args.pass) (view c.args.pass)) (sym c.in-None.is)
+    subst (λ (m : Option Message). SaysAll c.args.who (option_to_list m) (view c.args.pass.now) (view c.args.pass.now)) (sym c.in-None.is)
     (λ l e. e ∙ ap (sender c.args.who) (sym (append-nil l)))

@@ -5,7 +5,7 @@ use Rattle.tn_session.proofs.sending.say.Goals as goal
 
 pub send_as-requires-clause-rule : goal.send_as-requires-clause-rule
 send_as-requires-clause-rule g c = (
-  sends _ c.args.pass.id (view c.args.pass) (mail_of c.args.who c.args.message) c.requires.role.0
-      (sender_share c.args.who c.requires.role.0 (view c.args.pass) c.requires.role.1),
+  sends _ c.args.pass.now.id (view c.args.pass.now) (mail_of c.args.who c.args.message) c.requires.role.0
+      (sender_share c.args.who c.requires.role.0 (view c.args.pass.now) c.requires.role.1),
   λ items views kept at. tt,
 )

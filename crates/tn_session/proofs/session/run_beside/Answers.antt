@@ -35,14 +35,14 @@ returns-clause-ran g c began words first opened settings table at ew =
       net = view returned.net;
       desk = view returned.desk;
       back = view returned.back.pass;
-      term = view ended.passes.mails;
-      put = view ended.passes.hand;
+      term = view c.run_term.new.passes.mails;
+      put = view c.run_term.new.passes.hand;
       took = view returned.took;
       told = view c.run_term.new.watched.stops.pass;
     })
     (session_result c.report.result ports)
     c.requires.mailbox.2 c.requires.entries.1 opened (subst (λ n.
-    HandlesAll c.args.term.now (view c.args.passes.mails) (view ended.passes.mails) (view c.args.passes.hand) (view ended.passes.hand)
+    HandlesAll c.args.term.now (view c.args.passes.mails) (view c.run_term.new.passes.mails) (view c.args.passes.hand) (view c.run_term.new.passes.hand)
     (record { before = writer c.args.writer.now; after = writer c.run_term.new.writer }) (noted_of c.args.output.transcript) n
     (view c.run_term.new.watched.stops.pass) c.run_term.new.term) (sym (ap noted_of c.settle-ports.ensures.transcript)) ended.ensures.acted)
     (sends_as started.net.promise.who Net started.net.promise.job (Some started.desk.promise.id) false typing

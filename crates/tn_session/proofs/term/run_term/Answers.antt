@@ -34,7 +34,7 @@ loop-init g c =
       (
         [],
         [],
-        ap (λ (o : Option (List Mail)). record (view c.args.passes.mails) { handled = o }) c.requires.mailbox.1,
+        ap (λ (o : Option (List Mail)). record (view c.args.passes.now.mails) { handled = o }) c.requires.mailbox.1,
         λ k e. e ∙ ap putter (sym (append-nil k)),
         refl,
         omega (arith, c.give_credit-owed.ensures.counted),
@@ -66,30 +66,30 @@ pub loop-preserved : goal.loop-preserved
 loop-preserved g c =
     let i = c.loop.invariant.2 in
     let x = c.in_ok-mail.mail in
-    let t = c.in_ok-hand.ensures.turned in
+    let t = c.in_ok-turn.ensures.turned in
     let writer = known_writer g.W.Drain.contents g.W.Drain.told in
     let small = left_small x.message in
     let more = c.if-lefts-ge-SENDERS.false in
     let left = left_next Back i.0 x c.loop.back_left c.has_left-back_left.result i.8 c.has_left-back_left.ensures in
     let goes = going_next c.args.term.now c.loop.term c.turn.new.term i.0 x (writer c.args.writer.now) (writer c.loop.writer) (writer c.turn.new.writer)
-    (writer c.finish_once-closed-in-loop.new.writer) i.1 (noted_of c.take.new.self) (noted_of c.turn.new.output.transcript) (view c.loop.hand)
-    (view c.in_ok-hand.hand) c.finish_once-closed-in-loop.ensures.contents c.finish_once-closed-in-loop.ensures.told i.6 t in (
+    (writer c.finish_once-closed-in-loop.new.writer) i.1 (noted_of c.take.new.self) (noted_of c.turn.new.output.transcript) (view c.loop.passes.hand)
+    (view c.turn.new.hand) c.finish_once-closed-in-loop.ensures.contents c.finish_once-closed-in-loop.ensures.told i.6 t in (
       c.take.ensures.seat,
-      c.in_ok-hand.ensures.seat,
+      c.turn.ensures.seat,
       (
         i.0 ++ x ∷ [],
         i.1 ++ (puts_of t.put ++ puts_of t.last),
-        handled_more (view c.args.passes.mails) (view c.loop.mails) (view c.take.new.pass) i.0 x i.2 c.in_ok-mail.ensures.handled,
-        puts_two (view c.args.passes.hand) (view c.loop.hand) (view c.in_ok-hand.hand) i.1 (puts_of t.put ++ puts_of t.last) i.3 t.puts,
+        handled_more (view c.args.passes.now.mails) (view c.loop.passes.mails) (view c.take.new.pass) i.0 x i.2 c.in_ok-mail.ensures.handled,
+        puts_two (view c.args.passes.now.hand) (view c.loop.passes.hand) (view c.turn.new.hand) i.1 (puts_of t.put ++ puts_of t.last) i.3 t.puts,
         omega (arith, lefts_of-push i.0 x, c.leaves-left.ensures, i.4),
-        (let n = counts_on (length (view c.args.passes.give).given) (length (view c.loop.give).given) (length (view c.give_credit-owed-in-loop.new.pass).given)
+        (let n = counts_on (length (view c.args.passes.now.give).given) (length (view c.loop.passes.give).given) (length (view c.give_credit-owed-in-loop.new.pass).given)
             (pieces_among i.0) _ c.loop.owed c.is_piece-piece.result c.is_due.result c.give_credit-owed-in-loop.result i.5 c.is_piece-piece.ensures
             c.is_due.ensures c.give_credit-owed-in-loop.ensures.counted in let p = among-push i.0 x in omega (arith, n, p)),
         goes.0,
         omega (arith, i.7, c.give_for.ensures.counted, steps-push i.0 x),
         left,
-        term_told c.args.term.now c.loop.term c.turn.new.term i.0 x _ _ _ i.1 _ _ _ (view c.loop.hand)
-            (view c.in_ok-hand.hand) c.loop.told c.is_told.result c.in_ok-told-2.told c.has_left-back_left.result i.6 t goes.0 goes.1.0 left
+        term_told c.args.term.now c.loop.term c.turn.new.term i.0 x _ _ _ i.1 _ _ _ (view c.loop.passes.hand)
+            (view c.turn.new.hand) c.loop.told c.is_told.result c.in_ok-told-2.told c.has_left-back_left.result i.6 t goes.0 goes.1.0 left
             (c.is_told.ensures ∙ ap (λ (p : ServerProgress). term_stops p && not c.has_left-back_left.result) c.progress-in-loop-3.ensures)
             c.in_ok-told-2.ensures.told i.9,
         notes_next i.0 x i.6.steps goes.0.steps (x.message, t.mark) t.bytes (noted_of c.args.output.now.transcript) (noted_of c.loop.output.transcript)

@@ -19,22 +19,22 @@ use Rattle.tn_session.proofs.term.run_term.Given as goal
 
 abbrev pub invariant-loop : goal.invariant-loop
 invariant-loop g l =
-    IsSeatAt (receives_on l.ends.from) l.mails × IsSeatAt (sends_on l.ends.put) l.hand
+    IsSeatAt (receives_on l.ends.from) l.passes.mails × IsSeatAt (sends_on l.ends.put) l.passes.hand
     × ((handled : List Mail) × (puts : List (Option Entry))
-    × (view l.mails ≡ with_handled (view l.fn.passes.mails) handled)
-    × ((k : List (Option Entry)) → view l.fn.passes.hand ≡ putter k → view l.hand ≡ putter (k ++ puts))
+    × (view l.passes.mails ≡ with_handled (view l.fn.passes.mails) handled)
+    × ((k : List (Option Entry)) → view l.fn.passes.hand ≡ putter k → view l.passes.hand ≡ putter (k ++ puts))
     × (l.lefts ≡ lefts_of handled)
-    × (length (view l.give).given + owed_one l.owed ≤ length (view l.fn.passes.give).given + 1 + pieces_among handled)
+    × (length (view l.passes.give).given + owed_one l.owed ≤ length (view l.fn.passes.give).given + 1 + pieces_among handled)
     × (goes : GoesOn l.fn.term (messages_of handled) (known_writing g.W.Drain.contents g.W.Drain.told l.fn.writer l.writer) puts l.term)
-    × (length (view l.step_credits.pass).given ≤ length (view l.fn.passes.step_credits.pass).given + steps_among handled)
+    × (length (view l.passes.step_credits.pass).given ≤ length (view l.fn.passes.step_credits.pass).given + steps_among handled)
     × (l.back_left ≡ has_left Back handled)
     × ((c : Run) → LeadsTo c l.fn.term → StandsTold Back messages_of (Runs c) (λ r. term_stops r.progress) handled goes.marked
     (term_stops l.term.progress) l.told)
     × NotesAll handled (map (λ s. s.1) goes.steps) (noted_of l.fn.output.transcript) (noted_of l.output.transcript))
     × (l.output.out.items ≡ []) × (l.lefts ≤ 3)
-    × IsSeatAt (sends_on l.ends.give) l.give × StaysInReach l.fn.term l.term.progress.ended
+    × IsSeatAt (sends_on l.ends.give) l.passes.give × StaysInReach l.fn.term l.term.progress.ended
     × StandsAt l.closed l.term.progress.over (g.W.Drain.sending l.fn.writer) (g.W.Drain.sending l.writer)
     × IsSeatAt (sends_on l.watched.stops.to) l.watched.stops.pass
     × (l.watched.stops.to ≡ l.fn.watched.stops.to)
     × IsTold l.told (view l.watched.stops.pass)
-    × IsSeatAt (sends_on l.step_credits.to) l.step_credits.pass
+    × IsSeatAt (sends_on l.passes.step_credits.to) l.passes.step_credits.pass
