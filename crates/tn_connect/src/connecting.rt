@@ -17,6 +17,7 @@ ghost use Rattle.tn_sockets.specs.Queue.{IsNamed, IsSent, put_bytes};
 ghost use Rattle.tn_sockets.specs.declared.sending.Sent.TheVariants.{Whole};
 ghost use Rattle.tn_streams.specs.Known.{known_typing};
 
+use crate::causes::{note, note_unsent};
 use crate::connected::Connected;
 use crate::fault::ConnectFault;
 use crate::news::tell_that_it_stands;
@@ -383,7 +384,7 @@ pub fn connect<H: Host + Network, K: Read + Drop + Send + 'static, S: Write, E: 
     let talked = talk_and_send::<H, K, S, Brand>(rt, alloc, opened, typing, screen, connecting)?;
     note_talked(causes, &talked, &link);
     if !trace.is_whole() {
-        let _ = writeln!(causes, "tn: the trace is not whole");
+        note(causes, b"tn: the trace is not whole\n");
     }
     let is_left = link.is_left();
     // A screen that takes no more has ended the connection, and sending fails then.
@@ -401,7 +402,7 @@ fn note_talked(causes: &mut Vec<u8>, talked: &Talked, link: &Link) {
         let _ = writeln!(causes, "tn: sending failed: {}", error);
     }
     let kept = link.dropped().saturating_add(link.held());
-    note_unsent(causes, talked.unsent.saturating_add(kept), link);
+    note_rest(causes, talked.unsent.saturating_add(kept), link);
 }
 
 // The result of a session that is over. Where its sending failed it is a fault, unless its user has left.
@@ -458,29 +459,28 @@ fn fault_of<P: Drop>(ended: &Result<(Report, P), SessionFault>) -> Option<Sessio
 }
 
 fn note_fault(causes: &mut Vec<u8>, fault: SessionFault, link: &Link) {
-    let _ = match fault {
-        SessionFault::Read if link.is_broken() => writeln!(causes, "tn: the connection broke"),
-        SessionFault::Read => writeln!(causes, "tn: the keys could not be read"),
-        SessionFault::Write if link.is_dark() => writeln!(causes, "tn: the screen takes no more"),
-        SessionFault::Write => writeln!(causes, "tn: the connection takes no more"),
-        fault => writeln!(causes, "tn: {}", fault),
-    };
+    match fault {
+        SessionFault::Read if link.is_broken() => note(causes, b"tn: the connection broke\n"),
+        SessionFault::Read => note(causes, b"tn: the keys could not be read\n"),
+        SessionFault::Write if link.is_dark() => note(causes, b"tn: the screen takes no more\n"),
+        SessionFault::Write => note(causes, b"tn: the connection takes no more\n"),
+        fault => {
+            let _ = writeln!(causes, "tn: {}", fault);
+        },
+    }
 }
 
 // Notes how much was not sent, and why. Whoever reads the screen and leaves wants no more of it.
-fn note_unsent(causes: &mut Vec<u8>, unsent: usize, link: &Link) {
+fn note_rest(causes: &mut Vec<u8>, unsent: usize, link: &Link) {
     if unsent == 0 || link.is_dark() {
         return;
     }
-    let _ = if link.is_left() {
-        writeln!(causes, "tn: {} bytes typed were not sent", unsent)
+    let why = if link.is_left() {
+        ""
     } else {
-        writeln!(
-            causes,
-            "tn: closed by the other end; {} bytes typed were not sent",
-            unsent
-        )
+        "closed by the other end; "
     };
+    note_unsent(causes, why, unsent);
 }
 
 // The result of a session that ended without a fault.

@@ -19,6 +19,7 @@ pub use tn_lines_client::{Over, ReadLog};
 pub use tn_sockets::{Host, Link, OwnCharacters, Screen};
 pub use warnings::Warnings;
 
+mod causes;
 mod connected;
 mod connecting;
 mod fault;

@@ -35,15 +35,12 @@ impl<'a, W: Drain> News<'a, W> {
             return;
         }
         let mut line = Vec::new(self.alloc);
-        let _ = match escape {
-            Some(key) => writeln!(
-                line,
-                "Connected to {}. Escape character is '^{}'.",
-                host,
-                char::from(key ^ 64)
-            ),
-            None => writeln!(line, "Connected to {}.", host),
-        };
+        let _ = write!(line, "Connected to {}.", host);
+        if let Some(key) = escape {
+            let _ = line.extend_from_slice(b" Escape character is '^");
+            let _ = line.extend_from_slice(&[key ^ 64, b'\'', b'.']);
+        }
+        let _ = line.push(b'\n');
         write_all(self.writer, &line);
     }
 
@@ -52,12 +49,12 @@ impl<'a, W: Drain> News<'a, W> {
         if !self.is_told || !is_whole {
             return;
         }
+        if is_left {
+            write_all(self.writer, b"Connection closed.\n");
+            return;
+        }
         let mut line = Vec::new(self.alloc);
-        let _ = if is_left {
-            writeln!(line, "Connection closed.")
-        } else {
-            writeln!(line, "Connection closed by {}.", host)
-        };
+        let _ = writeln!(line, "Connection closed by {}.", host);
         write_all(self.writer, &line);
     }
 }

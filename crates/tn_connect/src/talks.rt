@@ -7,6 +7,7 @@ ghost use Rattle.tn_connect.specs.Warnings.{count_in};
 ghost use Rattle.tn_lines.specs.Kinds.{LeadsTo};
 ghost use Rattle.tn_network.specs.Asked.{Reaches};
 
+use crate::causes::{note, note_unsent};
 use crate::fault::ConnectFault;
 use crate::mapping::MappedKeys;
 use crate::news::tell_standing;
@@ -200,10 +201,10 @@ fn if_whole(report: TalkReport, causes: &mut Vec<u8>) -> Result<TalkReport, Conn
     ensures { IfOk result (λ whole. whole ≡ report) }
 {
     if report.unsent > 0 {
-        let _ = writeln!(causes, "tn: {} bytes typed were not sent", report.unsent);
+        note_unsent(causes, "", report.unsent);
     }
     if report.over == Over::Broken {
-        let _ = writeln!(causes, "tn: the connection broke");
+        note(causes, b"tn: the connection broke\n");
         return Err(ConnectFault::Session);
     }
     Ok(report)
