@@ -18,7 +18,7 @@ returns-in-Err-asked_of-clause-comes g c =
     (g.H.Network.dials c.args.rt) (g.H.Lookout.sees c.args.rt) in
     rw c.in-Ok.is (subst (λ words. ComesOf machine (map string_bytes words) c.args.streams.origin (g.R.Read.remaining c.args.streams.reader)
     (g.W.Write.contents c.args.writer.now) (g.W.Write.contents c.outcome_of_fault.new.writer) c.outcome_of_fault.result) c.deref.ensures.value
-    (inr (c.outcome_of_fault.ensures _ c.in-Err-asked_of.ensures.refuses)))
+    (inr (c.outcome_of_fault.ensures (map string_bytes c.deref.result.now) c.in-Err-asked_of.ensures.refuses)))
 
 pub returns-in-Err-asked_of-clause-quiet : goal.returns-in-Err-asked_of-clause-quiet
 returns-in-Err-asked_of-clause-quiet g c = quiet c.outcome_of_fault.result _ refl

@@ -13,7 +13,7 @@ returns-clause-done g c zero =
     (g.H.Network.dials c.args.rt) (g.H.Lookout.sees c.args.rt) in
     let run = c.outcome_of_words-outcome in
     if_ok c.args.words _ _ (λ words. does machine (map string_bytes words.items) c.args.streams.origin (g.R.Read.remaining c.args.streams.reader)
-    (g.W.Write.contents c.args.writer.now) (g.W.Write.contents run.new.writer) run.result (sym c.status.ensures ∙ zero)) run.ensures.comes
+    (g.W.Write.contents c.args.writer.now) (g.W.Write.contents run.new.writer) run.result (sym c.status-status.ensures ∙ zero)) run.ensures.comes
 
 pub returns-clause-ended : goal.returns-clause-ended
 returns-clause-ended g c =
@@ -22,7 +22,7 @@ returns-clause-ended g c =
     let uncaused = subst (λ (l : List ℕ). UnlessConnected run.result (causes ≡ l)) c.new-causes.ensures.items run.ensures.uncaused in
     let told = subst (λ (l : List ℕ). TellsAll run.result l (known_writing g.E.Drain.contents g.E.Drain.told run.new.errors c.tell.new.errors))
     c.deref.ensures.value c.tell.ensures in
-    if_ok c.args.words _ _ (λ words comes. (run.result, comes, (run.new.errors, causes, run.ensures.quiet, uncaused, told), c.status.ensures)) run.ensures.comes
+    if_ok c.args.words _ _ (λ words comes. (run.result, comes, (run.new.errors, causes, run.ensures.quiet, uncaused, told), c.status-status.ensures)) run.ensures.comes
 
 pub returns-clause-refused : goal.returns-clause-refused
 returns-clause-refused g c =
@@ -30,11 +30,11 @@ returns-clause-refused g c =
     (g.H.Network.dials c.args.rt) (g.H.Lookout.sees c.args.rt) in
     let run = c.outcome_of_words-outcome in
     if_ok c.args.words _ _ (λ words. refused machine (map string_bytes words.items) c.args.streams.origin (g.R.Read.remaining c.args.streams.reader)
-    (g.W.Write.contents c.args.writer.now) (g.W.Write.contents run.new.writer) run.result c.status.result c.status.ensures) run.ensures.comes
+    (g.W.Write.contents c.args.writer.now) (g.W.Write.contents run.new.writer) run.result c.status-status.result c.status-status.ensures) run.ensures.comes
 
 pub returns-clause-memory : goal.returns-clause-memory
-returns-clause-memory g c = IfErr-weaker c.args.words _ _ (λ error known is. c.status.ensures ∙ ap status_of (known is))
+returns-clause-memory g c = IfErr-weaker c.args.words _ _ (λ error known is. c.status-status.ensures ∙ ap status_of (known is))
     c.outcome_of_words-outcome.ensures.memory
 
 pub returns-clause-usage : goal.returns-clause-usage
-returns-clause-usage g c = IfErr-weaker c.args.words _ _ (λ error known is. c.status.ensures ∙ ap status_of (known is)) c.outcome_of_words-outcome.ensures.usage
+returns-clause-usage g c = IfErr-weaker c.args.words _ _ (λ error known is. c.status-status.ensures ∙ ap status_of (known is)) c.outcome_of_words-outcome.ensures.usage
