@@ -68,7 +68,7 @@ pub fn run_words<
     let outcome = outcome_of_words(rt, alloc, words, streams, writer, errors, &mut causes);
     outcome.tell(alloc, &causes, errors);
     let status = outcome.status();
-    // In one call, and not field by field.
+    // Dropped by a call: field by field takes the prover long.
     drop(outcome);
     status
 }

@@ -6,6 +6,7 @@ mod makers;
 mod one_loop;
 mod parting;
 mod refusals;
+mod runs;
 mod sessions;
 mod sizes;
 mod terminals;

@@ -166,7 +166,7 @@ impl<'a> Growing<'a> {
                 command: command.arg(arg),
             },
             Err(error) => {
-                // In one call, and not field by field.
+                // Dropped by a call: field by field takes the prover long.
                 drop(arg);
                 Growing {
                     command: Err(error),
@@ -184,7 +184,7 @@ impl<'a> Growing<'a> {
                 command: command.subcommand(subcommand),
             },
             Err(error) => {
-                // In one call, and not field by field.
+                // Dropped by a call: field by field takes the prover long.
                 drop(subcommand);
                 Growing {
                     command: Err(error),

@@ -26,14 +26,25 @@ impl Write for Dead {
     }
 }
 
-// The fault of a client without keys, or `None`, and what it is told of the causes.
-fn fault_of<H>(
+/// A connection that does not stand yet.
+pub fn link(alloc: Global) -> Result<Arc<Link, Global>, AllocError> {
+    Ok(Arc::new(alloc, Link::new())?)
+}
+
+/// The fault of a client's session over a port of this machine, with no trace, or `None`; and what it is told
+/// of the causes.
+pub fn connect_here<H, K, S>(
     rt: H,
     alloc: Global,
     port: u16,
+    link: Arc<Link, Global>,
+    keys: K,
+    screen: &mut S,
 ) -> Result<(Option<ConnectFault>, Vec<u8>), AllocError>
 where
     H: Host + Net<Listener = TcpListener, Stream = TcpStream>,
+    K: Read + Drop + Send + 'static,
+    S: Write,
 {
     let connecting = Connecting {
         port,
@@ -43,11 +54,6 @@ where
         origin: KeySource::Reader,
         escape: None,
         wait: 0,
-    };
-    let link = Arc::new(alloc, Link::new())?;
-    let mut screen = Screen {
-        writer: Dead,
-        link: Arc::try_clone(&link)?,
     };
     let (mut causes, mut told) = (Vec::new(alloc), Vec::new(alloc));
     let notes = ClientContext {
@@ -63,9 +69,25 @@ where
         causes: &mut causes,
         link,
     };
-    let keys = Cursor::new(*b"");
-    let ended = connect(rt, alloc, "127.0.0.1", connecting, keys, &mut screen, notes);
+    let ended = connect(rt, alloc, "127.0.0.1", connecting, keys, screen, notes);
     Ok((ended.err(), causes))
+}
+
+// The fault of a client without keys, and what it is told.
+fn fault_of<H>(
+    rt: H,
+    alloc: Global,
+    port: u16,
+) -> Result<(Option<ConnectFault>, Vec<u8>), AllocError>
+where
+    H: Host + Net<Listener = TcpListener, Stream = TcpStream>,
+{
+    let link = link(alloc)?;
+    let mut screen = Screen {
+        writer: Dead,
+        link: Arc::try_clone(&link)?,
+    };
+    connect_here(rt, alloc, port, link, Cursor::new(*b""), &mut screen)
 }
 
 #[test]

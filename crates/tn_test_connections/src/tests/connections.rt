@@ -1,16 +1,15 @@
 //! Sessions over connections of this machine, the roster, and what is noted.
 
+use super::clients::{connect_here, link};
 use log::sink::Memory;
 use log::{Level, Logged};
 use std::alloc::Global;
 use std::io::{Read, Write};
 use std::net::{Ipv4Addr, Net, TcpListener, TcpStream};
 use std::process::Abort;
-use std::sync::Arc;
 use std::test::Fail;
 use std::thread::JoinHandle;
 use std::{io, thread};
-use tn_connect::{ClientContext, ConnectFault, Connecting, KeySource, Link, News, connect};
 use tn_discipline::Limit;
 use tn_program::Answering;
 use tn_roster::{Roster, RosterFault, note};
@@ -78,56 +77,6 @@ fn serving(sessions: u16, count: u64) -> Serving {
     }
 }
 
-fn connecting(port: u16) -> Connecting {
-    Connecting {
-        port,
-        width: 80,
-        height: 24,
-        line_limit: Limit::standard(),
-        origin: KeySource::Reader,
-        escape: None,
-        wait: 0,
-    }
-}
-
-// Runs a client's session over a port of this machine, with no trace.
-fn connect_here<H, K>(
-    rt: H,
-    alloc: Global,
-    port: u16,
-    keys: K,
-    screen: &mut Vec<u8>,
-) -> Result<(), ConnectFault>
-where
-    H: Host + Net<Listener = TcpListener, Stream = TcpStream>,
-    K: Read + Drop + Send + 'static,
-{
-    let (mut causes, mut told) = (Vec::new(alloc), Vec::new(alloc));
-    let notes = ClientContext {
-        trace: None,
-        sizes: None,
-        stands: None,
-        terminal: None,
-        news: News {
-            writer: &mut told,
-            alloc,
-            is_told: false,
-        },
-        causes: &mut causes,
-        link: Arc::new(alloc, Link::new())?,
-    };
-    connect(
-        rt,
-        alloc,
-        "127.0.0.1",
-        connecting(port),
-        keys,
-        screen,
-        notes,
-    )?;
-    Ok(())
-}
-
 /// Gives its keys one by one.
 #[derive(Drop)]
 struct OneByOne {
@@ -179,8 +128,8 @@ fn a_line_comes_back_over_a_connection(rt: HostRuntime) -> Result<(), Fail> {
     let (server, port) = serve_one(rt, alloc, 0)?;
     let mut screen = Vec::new(alloc);
     let keys = OneByOne { keys: b"a\rexit\r" };
-    let connected = connect_here(rt, alloc, port, keys, &mut screen);
-    assert!(rt; connected.is_ok());
+    let (fault, _) = connect_here(rt, alloc, port, link(alloc)?, keys, &mut screen)?;
+    assert!(rt; fault.is_none());
     assert!(rt; screen.as_slice().ends_with(b"bye\r\n"));
     assert!(rt; server.join(&rt) == Some((Ended::Done, 2)));
     Ok(())
@@ -215,8 +164,8 @@ fn a_paste_arrives_whole_over_a_connection(rt: HostRuntime) -> Result<(), Fail> 
         lines,
         ended: false,
     };
-    let connected = connect_here(rt, alloc, port, keys, &mut screen);
-    assert!(rt; connected.is_ok());
+    let (fault, _) = connect_here(rt, alloc, port, link(alloc)?, keys, &mut screen)?;
+    assert!(rt; fault.is_none());
     assert!(rt; screen.as_slice().ends_with(b"bye\r\n"));
     assert!(rt; server.join(&rt) == Some((Ended::Done, 5_001)));
     Ok(())

@@ -1,6 +1,7 @@
 //! Lines typed over connections on this machine, beside one local terminal: what the foreground job takes
 //! is what `run_local` prints for the same keys.
 
+use super::clients::{connect_here, link};
 use std::alloc::{AllocError, Global};
 use std::io::{self, Cursor, Read, Write};
 use std::net::{Ipv4Addr, Net, Shutdown, TcpListener, TcpStream};
@@ -11,7 +12,7 @@ use std::thread::Threads;
 use std::time::{Clock, Duration};
 use std::{mem, thread};
 use tn_cli::run_local;
-use tn_connect::{ClientContext, Connecting, Host, KeySource, Link, News, connect};
+use tn_connect::Host;
 use tn_discipline::{Entry, Limit, Settings, Sig, Text};
 use tn_jobs::{After, Job, Reaction};
 use tn_server::Editing;
@@ -225,41 +226,11 @@ where
         random,
         keys: Cursor::new(keys),
     };
-    let connecting = Connecting {
-        port,
-        width: 80,
-        height: 24,
-        line_limit: Limit::standard(),
-        origin: KeySource::Reader,
-        escape: None,
-        wait: 0,
-    };
-    let (mut screen, mut causes, mut told) = (Vec::new(alloc), Vec::new(alloc), Vec::new(alloc));
-    let notes = ClientContext {
-        trace: None,
-        sizes: None,
-        stands: None,
-        terminal: None,
-        news: News {
-            writer: &mut told,
-            alloc,
-            is_told: false,
-        },
-        causes: &mut causes,
-        link: Arc::new(alloc, Link::new())?,
-    };
-    let connected = connect(
-        rt,
-        alloc,
-        "127.0.0.1",
-        connecting,
-        typist,
-        &mut screen,
-        notes,
-    );
+    let mut screen = Vec::new(alloc);
+    let ended = connect_here(rt, alloc, port, link(alloc)?, typist, &mut screen);
     let taken = server.join(&rt);
-    connected?;
-    Ok(taken)
+    let (fault, _) = ended?;
+    Ok(if fault.is_none() { taken } else { None })
 }
 
 // What one local terminal makes of them.

@@ -1,9 +1,13 @@
 //! The program as a whole: what tells a fault, and the status.
 
 use std::alloc::{AllocError, Global};
-use std::io::{self, Cursor, ErrorKind, Write};
+use std::fs::{File, Files};
+use std::io::{self, Cursor, ErrorKind, Read, Write};
 use std::sync::Arc;
-use tn_program::{KeySource, Link, OwnCharacters, Streams, own_characters, run_words};
+use tn_program::{
+    KeySource, Link, Lookout, Network, OwnCharacters, Streams, own_characters, run_words,
+};
+use tn_serve::Host;
 
 /// Takes all that is written, or fails.
 #[derive(Drop)]
@@ -32,6 +36,34 @@ fn words_of(alloc: Global, word: &str) -> Result<Vec<String>, AllocError> {
     Ok(words)
 }
 
+// How a run of this subcommand ends, and what it tells on standard error; `None` where there is no memory for
+// its words.
+fn run<H, R, W>(
+    rt: H,
+    alloc: Global,
+    word: &str,
+    reader: R,
+    writer: &mut W,
+) -> Option<(u8, Vec<u8>)>
+where
+    H: Network + Host + Lookout + Files<File = File>,
+    R: Read + Drop + Send + 'static,
+    W: Write,
+{
+    let words = words_of(alloc, word).ok()?;
+    let streams = Streams {
+        origin: KeySource::Reader,
+        reader,
+        sizes: None,
+        stands: None,
+        terminal: None,
+        link: Arc::new(alloc, Link::new()).ok()?,
+    };
+    let mut errors = Vec::new(alloc);
+    let ended = run_words(rt, alloc, Ok(words), streams, writer, &mut errors);
+    Some((ended, errors))
+}
+
 // Whether a run ended with this status and told this, as far as there was memory, or else that there was
 // none.
 fn is_told(ended: u8, errors: &[u8], status: u8, told: &[u8]) -> bool {
@@ -57,25 +89,12 @@ const WORDS: &[(&str, bool, &[u8], u8)] = &[
 
 #[test]
 fn faults_are_told(rt: HostRuntime) {
-    let alloc = rt.alloc();
     for (word, open, told, status) in WORDS {
-        let Ok(words) = words_of(alloc, word) else {
-            return;
-        };
-        let Ok(link) = Arc::new(alloc, Link::new()) else {
-            return;
-        };
-        let mut errors = Vec::new(alloc);
         let mut writer = Paper { open: *open };
-        let streams = Streams {
-            origin: KeySource::Reader,
-            reader: Cursor::new(*b"a\n"),
-            sizes: None,
-            stands: None,
-            terminal: None,
-            link,
+        let Some((ended, errors)) = run(rt, rt.alloc(), word, Cursor::new(*b"a\n"), &mut writer)
+        else {
+            return;
         };
-        let ended = run_words(rt, alloc, Ok(words), streams, &mut writer, &mut errors);
         assert!(rt; is_told(ended, &errors, *status, told));
     }
 }
@@ -89,25 +108,11 @@ const SCRIPTS: &[(&[u8], &[u8], u8)] = &[
 
 #[test]
 fn the_line_of_a_fault_is_told(rt: HostRuntime) {
-    let alloc = rt.alloc();
     for (script, told, status) in SCRIPTS {
-        let Ok(words) = words_of(alloc, "world") else {
+        let mut output = Vec::new(rt.alloc());
+        let Some((ended, errors)) = run(rt, rt.alloc(), "world", *script, &mut output) else {
             return;
         };
-        let Ok(link) = Arc::new(alloc, Link::new()) else {
-            return;
-        };
-        let mut output = Vec::new(alloc);
-        let mut errors = Vec::new(alloc);
-        let streams = Streams {
-            origin: KeySource::Reader,
-            reader: *script,
-            sizes: None,
-            stands: None,
-            terminal: None,
-            link,
-        };
-        let ended = run_words(rt, alloc, Ok(words), streams, &mut output, &mut errors);
         assert!(rt; is_told(ended, &errors, *status, told));
     }
 }
@@ -135,25 +140,11 @@ fn is_unread_told(ended: u8, errors: &[u8], told: &[u8]) -> bool {
 
 #[test]
 fn what_of_a_stream_is_not_printed_is_told(rt: HostRuntime) {
-    let alloc = rt.alloc();
     for (stream, told) in STREAMS {
-        let Ok(words) = words_of(alloc, "decode") else {
+        let mut output = Vec::new(rt.alloc());
+        let Some((ended, errors)) = run(rt, rt.alloc(), "decode", *stream, &mut output) else {
             return;
         };
-        let Ok(link) = Arc::new(alloc, Link::new()) else {
-            return;
-        };
-        let mut output = Vec::new(alloc);
-        let mut errors = Vec::new(alloc);
-        let streams = Streams {
-            origin: KeySource::Reader,
-            reader: *stream,
-            sizes: None,
-            stands: None,
-            terminal: None,
-            link,
-        };
-        let ended = run_words(rt, alloc, Ok(words), streams, &mut output, &mut errors);
         assert!(rt; is_unread_told(ended, &errors, told));
     }
 }

@@ -1,5 +1,6 @@
 //! That the work goes on in several threads: each waits for what another does.
 
+use super::runs::{join, serve};
 use super::sessions::{ended, reaction};
 use std::alloc::{AllocError, Global};
 use std::io::Read;
@@ -9,12 +10,10 @@ use std::sync::{Arc, Wait};
 use std::test::Fail;
 use std::thread::Threads;
 use std::{io, thread};
-use tn_discipline::{Entry, Limit, Settings};
+use tn_discipline::{Entry, Settings};
 use tn_jobs::{After, Job, JobId, Reaction};
 use tn_server::Editing;
-use tn_session::{
-    Ended, Gate, Maker, Place, Report, SessionFault, Unwatched, client_session, serve_session,
-};
+use tn_session::{Ended, Gate, Maker, Place, Report, Unwatched};
 
 /// How many turns a wait takes at most.
 const MAX_TURNS: u32 = 1_048_576;
@@ -128,23 +127,6 @@ impl Gate for Telling {
     }
 }
 
-fn served<R: Threads + Wait + Copy + Send + 'static>(
-    rt: R,
-    alloc: Global,
-    reader: Slow,
-    maker: Two,
-    gate: Arc<Telling, Global>,
-) -> Result<Report, SessionFault> {
-    let mut out = Vec::new(alloc);
-    let (settings, limit, editing) = (Settings::standard(), Limit::standard(), Editing::Remote);
-    match serve_session(
-        rt, alloc, reader, &mut out, settings, limit, editing, maker, gate,
-    ) {
-        Ok((report, _ports)) => Ok(report),
-        Err(fault) => Err(fault),
-    }
-}
-
 fn meets<R: Threads + Wait + Copy + Send + 'static>(
     rt: R,
     alloc: Global,
@@ -161,7 +143,11 @@ fn meets<R: Threads + Wait + Copy + Send + 'static>(
     let telling = Telling {
         flags: Arc::try_clone(flags)?,
     };
-    Ok(served(rt, alloc, reader, maker, Arc::new(alloc, telling)?)?)
+    let mut out = Vec::new(alloc);
+    let (settings, editing) = (Settings::standard(), Editing::Remote);
+    Ok(serve(
+        rt, alloc, reader, &mut out, settings, editing, maker, telling,
+    )?)
 }
 
 #[test]
@@ -228,23 +214,6 @@ impl Read for Quiet {
     }
 }
 
-// A client session over these readers, and the screen is looked at by nobody.
-fn typed<R: Threads + Wait + Copy + Send + 'static>(
-    rt: R,
-    alloc: Global,
-    net: Quiet,
-    keys: Typist,
-    out: &mut Vec<u8>,
-) -> Result<Report, Fail> {
-    let mut screen = Vec::new(alloc);
-    let gate = Arc::new(alloc, Unwatched)?;
-    let limit = Limit::standard();
-    match client_session(rt, alloc, net, keys, out, &mut screen, 80, 24, limit, gate) {
-        Ok((report, _ports)) => Ok(report),
-        Err(fault) => Err(Fail::from(fault)),
-    }
-}
-
 fn types<R: Abort + Threads + Wait + Copy + Send + 'static>(
     rt: R,
     alloc: Global,
@@ -258,7 +227,8 @@ fn types<R: Abort + Threads + Wait + Copy + Send + 'static>(
         left: 3,
     };
     let mut out = Vec::new(alloc);
-    let report = typed(rt, alloc, net, keys, &mut out)?;
+    let mut screen = Vec::new(alloc);
+    let report = join(rt, alloc, net, keys, &mut out, &mut screen, Unwatched)?;
     assert!(rt; report == ended(Ended::HangUp, 3, 0, 0));
     assert!(rt; out.as_slice() == b"aaa".as_slice());
     Ok(())

@@ -1,14 +1,15 @@
 //! How many jobs a session makes.
 
+use super::runs::serve;
 use super::sessions::Echo;
 use std::alloc::{AllocError, Global};
 use std::process::Abort;
 use std::sync::Arc;
 use std::sync::atomic::{AtomicU64, Ordering};
 use std::test::Fail;
-use tn_discipline::{Limit, Settings};
+use tn_discipline::Settings;
 use tn_server::Editing;
-use tn_session::{Maker, Unwatched, serve_session};
+use tn_session::{Maker, Unwatched};
 
 /// Has more jobs than a session runs, and counts those that were asked for.
 #[derive(Drop)]
@@ -32,25 +33,12 @@ fn a_session_asks_for_sixteen_jobs_and_no_more(rt: HostRuntime) -> Result<(), Fa
     let maker = Counted {
         asked: Arc::try_clone(&asked)?,
     };
-    let mut out = Vec::new(alloc);
-    let settings = Settings::standard();
-    let gate = Arc::new(alloc, Unwatched)?;
-    let input = b"".as_slice();
-    let limit = Limit::standard();
-    match serve_session(
-        rt,
-        alloc,
-        input,
-        &mut out,
-        settings,
-        limit,
-        Editing::Remote,
-        maker,
-        gate,
-    ) {
-        Ok(_) => {},
-        Err(fault) => return Err(Fail::from(fault)),
-    }
+    let (input, mut out) = (b"".as_slice(), Vec::new(alloc));
+    let (settings, editing) = (Settings::standard(), Editing::Remote);
+    let served = serve(
+        rt, alloc, input, &mut out, settings, editing, maker, Unwatched,
+    );
+    served?;
     assert!(rt; asked.load(Ordering::SeqCst) == 16);
     Ok(())
 }

@@ -2,13 +2,13 @@
 
 ghost use Rattle.std.specs.Prelude.{codes, [], ◌∷◌};
 
+use super::runs::serve;
 use super::sessions::Jobs;
 use std::io;
-use std::sync::Arc;
 use std::test::Fail;
-use tn_discipline::{Limit, Settings};
+use tn_discipline::Settings;
 use tn_server::Editing;
-use tn_session::{Ended, Unwatched, serve_session};
+use tn_session::{Ended, Unwatched};
 use tn_streams::Source;
 
 /// How many opening words a session writes.
@@ -40,20 +40,15 @@ fn is_said_once(out: &[u8]) -> bool {
 fn a_session_says_the_last_words_of_its_reader(rt: HostRuntime) -> Result<(), Fail> {
     let alloc = rt.alloc();
     let mut out = Vec::new(alloc);
-    let (settings, limit) = (Settings::standard(), Limit::standard());
-    let (maker, editing) = (Jobs { left: 1 }, Editing::Remote);
-    let gate = Arc::new(alloc, Unwatched)?;
-    match serve_session(
-        rt, alloc, Parting, &mut out, settings, limit, editing, maker, gate,
-    ) {
-        Ok((report, _ports)) => {
-            let said = out.get(OPENING..).unwrap_or(b"");
-            assert!(rt;
-                report.ended != Ended::HangUp || is_said_once(said),
-                "{said:?}"
-            );
-            Ok(())
-        },
-        Err(fault) => Err(Fail::from(fault)),
-    }
+    let (settings, editing) = (Settings::standard(), Editing::Remote);
+    let maker = Jobs { left: 1 };
+    let report = serve(
+        rt, alloc, Parting, &mut out, settings, editing, maker, Unwatched,
+    )?;
+    let said = out.get(OPENING..).unwrap_or(b"");
+    assert!(rt;
+        report.ended != Ended::HangUp || is_said_once(said),
+        "{said:?}"
+    );
+    Ok(())
 }

@@ -5,15 +5,16 @@ ghost use Rattle.std.specs.Io.{WritesAtMost};
 ghost use Rattle.std.specs.Io.KnownBytes.{WriteAppends};
 ghost use Rattle.tn_streams.specs.Counting.{told_by};
 
+use super::runs::serve;
 use super::sessions::{Jobs, ended};
 use std::alloc::Global;
 use std::io::{self, ErrorKind};
 use std::process::Abort;
-use std::sync::{Arc, Wait};
+use std::sync::Wait;
 use std::thread::Threads;
-use tn_discipline::{Limit, Settings};
+use tn_discipline::Settings;
 use tn_server::{Editing, ServerFault};
-use tn_session::{Ended, Finish, Report, SessionFault, Unwatched, serve_session};
+use tn_session::{Ended, Finish, Report, SessionFault, Unwatched};
 use tn_streams::{Drain, Source, Tally, nothing_to_say};
 
 /// Gives some bytes at once, then fails so many times, and then ends; it foretells how many of its calls will
@@ -108,21 +109,15 @@ fn served<R: Threads + Wait + Copy + Send + 'static>(
     failures: u32,
     writer: &mut Failing,
 ) -> Result<Report, SessionFault> {
-    let Ok(gate) = Arc::new(alloc, Unwatched) else {
-        return Err(SessionFault::Memory);
-    };
     let reader = Once {
         bytes: b"a\r\0",
         failures,
     };
-    let (settings, limit) = (Settings::standard(), Limit::standard());
-    let (maker, editing) = (Jobs { left: 1 }, Editing::Remote);
-    match serve_session(
-        rt, alloc, reader, writer, settings, limit, editing, maker, gate,
-    ) {
-        Ok((report, _ports)) => Ok(report),
-        Err(fault) => Err(fault),
-    }
+    let (settings, editing) = (Settings::standard(), Editing::Remote);
+    let maker = Jobs { left: 1 };
+    serve(
+        rt, alloc, reader, writer, settings, editing, maker, Unwatched,
+    )
 }
 
 fn writer(alloc: Global, before: u32, takes_none: bool) -> Failing {

@@ -1,15 +1,16 @@
 //! Sessions over memory.
 
+use super::runs::{join, serve};
 use std::alloc::{AllocError, Global};
 use std::io::Cursor;
 use std::process::Abort;
-use std::sync::{Arc, Wait};
+use std::sync::Wait;
 use std::test::Fail;
 use std::thread::Threads;
-use tn_discipline::{Entry, Limit, Settings, Sig, Text};
+use tn_discipline::{Entry, Settings, Sig, Text};
 use tn_jobs::{After, Job, Reaction};
 use tn_server::Editing;
-use tn_session::{Ended, Maker, Report, Unwatched, client_session, serve_session};
+use tn_session::{Ended, Maker, Report, Unwatched};
 
 /// DO LINEMODE, DO NAWS, WILL SUPPRESS-GO-AHEAD, DO SUPPRESS-GO-AHEAD, WILL ECHO.
 const OPENING: usize = 15;
@@ -86,13 +87,8 @@ fn served<R: Threads + Wait + Copy + Send + 'static>(
 ) -> Result<Report, Fail> {
     let mut settings = Settings::standard();
     settings.flags.tostop = tostop;
-    let limit = Limit::standard();
-    let gate = Arc::new(alloc, Unwatched)?;
     let maker = Jobs { left: jobs };
-    match serve_session(rt, alloc, input, out, settings, limit, editing, maker, gate) {
-        Ok((report, _ports)) => Ok(report),
-        Err(fault) => Err(Fail::from(fault)),
-    }
+    Ok(serve(rt, alloc, input, out, settings, editing, maker, Unwatched)?)
 }
 
 pub(crate) fn ended(ended: Ended, pieces: u64, entries: u64, stops: u64) -> Report {
@@ -172,27 +168,12 @@ fn a_session_reads_what_the_client_edited(rt: HostRuntime) -> Result<(), Fail> {
     writes(rt, rt.alloc(), AT_CLIENT, Editing::Local, &EDITED, report)
 }
 
-// A client's session that hears nothing, and how it ended.
-fn typed<R: Threads + Wait + Copy + Send + 'static>(
-    rt: R,
-    alloc: Global,
-    out: &mut Vec<u8>,
-    screen: &mut Vec<u8>,
-) -> Result<Report, Fail> {
-    let limit = Limit::standard();
-    let gate = Arc::new(alloc, Unwatched)?;
-    let (net, keys) = (Cursor::new([]), Cursor::new(*b"a\r"));
-    match client_session(rt, alloc, net, keys, out, screen, 80, 24, limit, gate) {
-        Ok((report, _ports)) => Ok(report),
-        Err(fault) => Err(Fail::from(fault)),
-    }
-}
-
 #[test]
 fn a_client_session_sends_and_echoes_keys(rt: HostRuntime) -> Result<(), Fail> {
     let mut out = Vec::new(rt.alloc());
     let mut screen = Vec::new(rt.alloc());
-    let report = typed(rt, rt.alloc(), &mut out, &mut screen)?;
+    let (net, keys) = (Cursor::new([]), Cursor::new(*b"a\r"));
+    let report = join(rt, rt.alloc(), net, keys, &mut out, &mut screen, Unwatched)?;
     assert!(rt; report == ended(Ended::HangUp, 1, 0, 0));
     assert!(rt; out.as_slice() == b"a\r\0".as_slice());
     assert!(rt; screen.as_slice() == b"a\r\n".as_slice());

@@ -3,6 +3,7 @@
 ghost use Rattle.std.specs.Prelude.{None};
 
 use super::gates::wait;
+use super::runs::join;
 use super::sessions::ended;
 use std::alloc::Global;
 use std::io::{self, Read};
@@ -11,8 +12,7 @@ use std::sync::atomic::{AtomicBool, Ordering};
 use std::sync::{Arc, Wait};
 use std::test::Fail;
 use std::thread::Threads;
-use tn_discipline::Limit;
-use tn_session::{Ended, Gate, Place, Report, client_session};
+use tn_session::{Ended, Gate, Place};
 use tn_streams::{Control, Source, WindowSize, nothing_to_say};
 
 /// What the two readers of a client tell each other.
@@ -138,24 +138,6 @@ const SENT: &[u8] = b"\xff\xfb\x1f\xff\xfa\x1f\x00\x50\x00\x18\xff\xf0\
     \xff\xfa\x1f\x00\x64\x00\x28\xff\xf0a\xff\xf3b\
     \xff\xfa\x1f\x00\x00\x00\x00\xff\xf0\xff\xf4cd\xff\xf6";
 
-// A client's session over these readers; the screen is looked at by nobody.
-fn typed<R: Threads + Wait + Copy + Send + 'static>(
-    rt: R,
-    alloc: Global,
-    net: Asking,
-    keys: Window,
-    gate: Telling,
-    out: &mut Vec<u8>,
-) -> Result<Report, Fail> {
-    let mut screen = Vec::new(alloc);
-    let gate = Arc::new(alloc, gate)?;
-    let limit = Limit::standard();
-    match client_session(rt, alloc, net, keys, out, &mut screen, 80, 24, limit, gate) {
-        Ok((report, _ports)) => Ok(report),
-        Err(fault) => Err(Fail::from(fault)),
-    }
-}
-
 fn types<R: Abort + Threads + Wait + Copy + Send + 'static>(
     rt: R,
     alloc: Global,
@@ -175,7 +157,8 @@ fn types<R: Abort + Threads + Wait + Copy + Send + 'static>(
         meeting: Arc::try_clone(meeting)?,
     };
     let mut out = Vec::new(alloc);
-    let report = typed(rt, alloc, net, keys, telling, &mut out)?;
+    let mut screen = Vec::new(alloc);
+    let report = join(rt, alloc, net, keys, &mut out, &mut screen, telling)?;
     assert!(rt; report == ended(Ended::HangUp, 5, 0, 0));
     assert!(rt; out.as_slice() == SENT);
     Ok(())
