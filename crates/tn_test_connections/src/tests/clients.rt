@@ -27,13 +27,13 @@ impl Write for Dead {
 }
 
 /// A connection that does not stand yet.
-pub fn link(alloc: Global) -> Result<Arc<Link, Global>, AllocError> {
+pub(super) fn link(alloc: Global) -> Result<Arc<Link, Global>, AllocError> {
     Ok(Arc::new(alloc, Link::new())?)
 }
 
 /// The fault of a client's session over a port of this machine, with no trace, or `None`; and what it is told
 /// of the causes.
-pub fn connect_here<H, K, S>(
+pub(super) fn connect_here<H, K, S>(
     rt: H,
     alloc: Global,
     port: u16,
