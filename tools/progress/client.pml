@@ -1,4 +1,4 @@
-/* A client's session over a connection: of crates/tn_session `client`, `client_loop`, `net` and `closing`, tn_machines, of
+/* A client's session over a connection: of crates/tn_session `client`, `client_loop` and `closing`, tn_workers `reader`, tn_machines, of
    tn_sockets `Console`, `Keys`, `Incoming`, `Link`, `Outgoing`, `Sending`, `Throttle` and `Screen`, and tn_connect. */
 
 #ifndef MARK

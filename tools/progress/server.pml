@@ -1,4 +1,4 @@
-/* A server's session: of crates/tn_session `session`, `term`, `net`, `desk`, `back`, `credit` and `closing`, tn_machines, of
+/* A server's session: of crates/tn_session `session`, `term`, `credit` and `closing`, of tn_workers `reader`, `desk`, `back` and `credit`, tn_machines, of
    tn_sockets `Attended` with its `Standing`, and of tn_serve `linger`. */
 
 #ifndef L

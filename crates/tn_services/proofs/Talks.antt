@@ -17,7 +17,7 @@ use Rattle.tn_services.specs.declared.sending.Way.{Way}
 use Rattle.tn_services.specs.declared.sending.Way.TheVariants.{Open, Ended, Broken}
 use Rattle.tn_jobs.specs.declared.reactions.Reaction.{Reaction}
 use Rattle.tn_lines.specs.LineEnds.{line_said}
-use Rattle.tn_session.specs.Talk.{Answers}
+use Rattle.tn_workers.specs.Talk.{Answers}
 use Rattle.tn_streams.specs.Writing.{Writes, Tells, max_writes}
 use Rattle.tn_streams.proofs.lemmas.Telling.{accounts_none}
 use Rattle.tn_streams.specs.Known.{KnownWriter, KnownWriting, known_writer, known_writing}

@@ -13,7 +13,7 @@ ghost use Rattle.tn_services.specs.declared.sending.SendingLines.{SendingLines};
 ghost use Rattle.tn_services.specs.declared.sending.Way.TheVariants.{Open};
 ghost use Rattle.tn_services.specs.declared.showing.Showing.{Showing};
 ghost use Rattle.tn_jobs.specs.declared.reactions.Reaction.{Reaction};
-ghost use Rattle.tn_session.specs.Talk.{Answers};
+ghost use Rattle.tn_workers.specs.Talk.{Answers};
 
 use tn_session::Finish;
 use tn_streams::Source;

@@ -10,15 +10,15 @@ use Rattle.tn_machines.specs.client.Commands.{command_of}
 use Rattle.tn_machines.specs.declared.client.messages.Origin.TheVariants as origin
 use Rattle.tn_session.proofs.Mailbox.{sender_share}
 use Rattle.tn_session.specs.CoreTurns.{all_told}
-use Rattle.tn_session.specs.Mailbox.{same, from, mail, sender}
+use Rattle.tn_workers.specs.Mailbox.{same, from, mail, sender}
 use Rattle.tn_session.specs.Transcripts.{bytes_sent}
 use Rattle.tn_session.proofs.lemmas.Plain.{PlainlyCloses, plainly}
-use Rattle.tn_session.specs.Reader.{ReaderSends}
-use Rattle.tn_session.specs.Reading.{IsEnding, Telling, piece_told, size_told, control_told, told_messages, pieces_in, controls_in}
-use Rattle.tn_session.specs.declared.channels.View.{View}
-use Rattle.tn_session.specs.declared.mail.Mail.{Mail}
-use Rattle.tn_session.specs.declared.mail.Sender.{Sender}
-use Rattle.tn_session.specs.declared.mail.Sender.TheVariants.{Net, Desk, Back, Keys}
+use Rattle.tn_workers.specs.Reader.{ReaderSends}
+use Rattle.tn_workers.specs.Reading.{IsEnding, Telling, piece_told, size_told, control_told, told_messages, pieces_in, controls_in}
+use Rattle.tn_workers.specs.declared.channels.View.{View}
+use Rattle.tn_workers.specs.declared.mail.Mail.{Mail}
+use Rattle.tn_workers.specs.declared.mail.Sender.{Sender}
+use Rattle.tn_workers.specs.declared.mail.Sender.TheVariants.{Net, Desk, Back, Keys}
 use Rattle.tn_streams.specs.Foretelling.{Failures}
 use Rattle.tn_streams.specs.Known.{KnownReader}
 use Rattle.tn_streams.specs.declared.control.Control.{Control}

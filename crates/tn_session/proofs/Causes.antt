@@ -1,11 +1,11 @@
 -- Why a session ended by a read or a write.
 use Rattle.std.proofs.Common.{◌≡◌, ℕ, Bool, true, false, ◌&&◌, ◌⊎◌, inl, inr, ⊎_elim, List, [], ◌∷◌, ◌++◌, refl, sym, ap, ◌∙◌, subst, map}
 use Rattle.tn_session.proofs.Lefts.{same_self}
-use Rattle.tn_session.specs.Mailbox.{same, from}
-use Rattle.tn_session.specs.Reading.{Telling, piece_told, size_told, control_told, told_messages}
+use Rattle.tn_workers.specs.Mailbox.{same, from}
+use Rattle.tn_workers.specs.Reading.{Telling, piece_told, size_told, control_told, told_messages}
 use Rattle.tn_session.specs.Turns.{messages_of}
-use Rattle.tn_session.specs.declared.mail.Mail.{Mail}
-use Rattle.tn_session.specs.declared.mail.Sender.{Sender}
+use Rattle.tn_workers.specs.declared.mail.Mail.{Mail}
+use Rattle.tn_workers.specs.declared.mail.Sender.{Sender}
 use Rattle.tn_machines.specs.server.Marks.{no_write_failed, no_writes_failed}
 use Rattle.tn_machines.specs.declared.server.messages.ServerMark.{ServerMark}
 use Rattle.tn_machines.specs.declared.server.messages.ServerMark.TheVariants as mark

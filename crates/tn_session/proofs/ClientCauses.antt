@@ -8,16 +8,16 @@ use Rattle.tn_machines.specs.declared.client.messages.Told.{Told}
 use Rattle.tn_session.proofs.Causes.{HasFailure, has_split, failure_from, failure_last, failure_never, never_and}
 use Rattle.tn_session.proofs.Ending.{messages_from}
 use Rattle.tn_session.specs.CoreTurns.{all_told}
-use Rattle.tn_session.specs.Mailbox.{Interleaves, from, four, sender}
+use Rattle.tn_workers.specs.Mailbox.{Interleaves, from, four, sender}
 use Rattle.tn_session.proofs.lemmas.Plain.{PlainlyCloses, plainly}
-use Rattle.tn_session.specs.Reader.{ReaderSends}
-use Rattle.tn_session.specs.Reading.{IsReadCause, max_reads, Telling, told_messages, pieces_in}
+use Rattle.tn_workers.specs.Reader.{ReaderSends}
+use Rattle.tn_workers.specs.Reading.{IsReadCause, max_reads, Telling, told_messages, pieces_in}
 use Rattle.tn_session.specs.Turns.{messages_of}
 use Rattle.tn_streams.specs.Writing.{Tells, max_writes}
-use Rattle.tn_session.specs.declared.channels.View.{View}
-use Rattle.tn_session.specs.declared.mail.Mail.{Mail}
-use Rattle.tn_session.specs.declared.mail.Sender.{Sender}
-use Rattle.tn_session.specs.declared.mail.Sender.TheVariants.{Net, Desk, Back, Keys}
+use Rattle.tn_workers.specs.declared.channels.View.{View}
+use Rattle.tn_workers.specs.declared.mail.Mail.{Mail}
+use Rattle.tn_workers.specs.declared.mail.Sender.{Sender}
+use Rattle.tn_workers.specs.declared.mail.Sender.TheVariants.{Net, Desk, Back, Keys}
 use Rattle.tn_streams.proofs.lemmas.Telling.{some_failed}
 use Rattle.tn_streams.specs.Foretelling.{Failures, WillFail}
 use Rattle.tn_streams.specs.Known.{KnownReader}

@@ -26,14 +26,14 @@ use Rattle.tn_session.specs.Client as of_client
 use Rattle.tn_session.specs.Client.{core_view, AreTwoSettled, IsClientRun, brings, brought_by, client_report}
 use Rattle.tn_session.specs.CoreTurns.{CoreHandles, all_told, is_marked_written, is_over, says, told_of}
 use Rattle.tn_session.specs.Facts.{ClientResult}
-use Rattle.tn_session.specs.Mailbox.{Interleaves, from, four, sender, union, nobody, everyone, with_handled, Total}
-use Rattle.tn_session.specs.Reader.{ReaderSends, TypingSends}
+use Rattle.tn_workers.specs.Mailbox.{Interleaves, from, four, sender, union, nobody, everyone, with_handled, Total}
+use Rattle.tn_workers.specs.Reader.{ReaderSends, TypingSends}
 use Rattle.tn_session.specs.Stops.{IsTold}
 use Rattle.tn_session.specs.Notes.{Noted, NotesAll, no_notes}
 use Rattle.tn_session.specs.Transcripts.{Exchange, IsStep, Transcribes, bytes_sent, came_by, exchange_of, total}
-use Rattle.tn_session.specs.declared.channels.View.{View}
-use Rattle.tn_session.specs.declared.mail.Mail.{Mail}
-use Rattle.tn_session.specs.declared.mail.Sender.TheVariants.{Net, Desk, Back, Keys}
+use Rattle.tn_workers.specs.declared.channels.View.{View}
+use Rattle.tn_workers.specs.declared.mail.Mail.{Mail}
+use Rattle.tn_workers.specs.declared.mail.Sender.TheVariants.{Net, Desk, Back, Keys}
 use Rattle.tn_session.specs.declared.parties.Report.{Report}
 use Rattle.tn_streams.specs.Known.{KnownReader, KnownTyping, KnownWriting}
 use Rattle.tn_machines.specs.declared.faults.Ended.TheVariants as ended

@@ -25,8 +25,8 @@ use Rattle.tn_session.specs.Notes.{Noted, NotesWrite, NotesAll, no_notes}
 use Rattle.tn_session.specs.Stops.{StandsTold, core_stops, has_left}
 use Rattle.tn_session.specs.Transcripts.{IsStep}
 use Rattle.tn_streams.specs.Writing.{Writes, Tells, max_writes}
-use Rattle.tn_session.specs.declared.mail.Mail.{Mail}
-use Rattle.tn_session.specs.declared.mail.Sender.TheVariants.{Keys}
+use Rattle.tn_workers.specs.declared.mail.Mail.{Mail}
+use Rattle.tn_workers.specs.declared.mail.Sender.TheVariants.{Keys}
 use Rattle.tn_streams.proofs.lemmas.Writing.{appends_more, appends_kept, appends_none}
 use Rattle.tn_streams.proofs.lemmas.Telling.{accounts_none, accounts_well, accounts_both}
 use Rattle.tn_streams.specs.Known.{KnownWriter, KnownWriting}

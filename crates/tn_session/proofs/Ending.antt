@@ -15,26 +15,26 @@ use Rattle.tn_server.specs.Lines.{entries}
 use Rattle.tn_session.proofs.Causes.{from_hit, from_miss, HasFailure, has_failure, failure_from, failure_last, never_and, write_failed}
 use Rattle.tn_session.proofs.Lefts.{same_self}
 use Rattle.tn_session.proofs.Mailbox.{sender_share}
-use Rattle.tn_session.proofs.Readers.{IsSaid, closes_ending, if_said, is_said}
-use Rattle.tn_session.specs.Acts.{JobActs}
+use Rattle.tn_workers.proofs.lemmas.Readers.{IsSaid, closes_ending, if_said, is_said}
+use Rattle.tn_workers.specs.Acts.{JobActs}
 use Rattle.tn_session.specs.Facts.{SessionJobs, SessionResult, TermSettings}
-use Rattle.tn_session.specs.Mailbox.{same, from, sender, mail}
+use Rattle.tn_workers.specs.Mailbox.{same, from, sender, mail}
 use Rattle.tn_queue.specs.Queue.{taker}
-use Rattle.tn_session.specs.Reader.{SaysLast}
-use Rattle.tn_session.specs.Reading.{IsEnding, IsReadCause, max_reads, Telling, piece_told, size_told, control_told, told_messages, pieces_in}
+use Rattle.tn_workers.specs.Reader.{SaysLast}
+use Rattle.tn_workers.specs.Reading.{IsEnding, IsReadCause, max_reads, Telling, piece_told, size_told, control_told, told_messages, pieces_in}
 use Rattle.tn_session.specs.Session.{Schedule, HearsReader, TakesEntries}
-use Rattle.tn_session.specs.Stepping.{step_said}
-use Rattle.tn_session.specs.Turning.{Holds}
-use Rattle.tn_session.proofs.Turning.{IsClose, is_close}
-use Rattle.tn_session.specs.Talk.{Closes, turns_said, entries_of, ends_done}
+use Rattle.tn_workers.specs.Stepping.{step_said}
+use Rattle.tn_workers.specs.Turning.{Holds}
+use Rattle.tn_workers.proofs.lemmas.Turning.{IsClose, is_close}
+use Rattle.tn_workers.specs.Talk.{Closes, turns_said, entries_of, ends_done}
 use Rattle.tn_session.specs.Transcripts.{bytes_sent, came_by}
 use Rattle.tn_session.specs.Turns.{messages_of}
 use Rattle.tn_streams.specs.Writing.{max_writes}
-use Rattle.tn_session.specs.declared.channels.View.{View}
-use Rattle.tn_session.specs.EntryChannel.{EntryHand}
-use Rattle.tn_session.specs.declared.mail.Mail.{Mail}
-use Rattle.tn_session.specs.declared.mail.Sender.{Sender}
-use Rattle.tn_session.specs.declared.mail.Sender.TheVariants.{Net, Desk, Back, Keys}
+use Rattle.tn_workers.specs.declared.channels.View.{View}
+use Rattle.tn_workers.specs.EntryChannel.{EntryHand}
+use Rattle.tn_workers.specs.declared.mail.Mail.{Mail}
+use Rattle.tn_workers.specs.declared.mail.Sender.{Sender}
+use Rattle.tn_workers.specs.declared.mail.Sender.TheVariants.{Net, Desk, Back, Keys}
 use Rattle.tn_streams.proofs.lemmas.Telling.{some_failed}
 use Rattle.tn_streams.specs.Foretelling.{WillFail}
 use Rattle.tn_streams.specs.Known.{KnownReader, KnownWriting}

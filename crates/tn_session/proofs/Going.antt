@@ -16,9 +16,9 @@ use Rattle.tn_session.specs.Stops.{StandsTold, has_left, term_stops}
 use Rattle.tn_session.specs.Transcripts.{IsStep}
 use Rattle.tn_session.specs.Turns.{TurnsMessage, GoesOn, left_one, lefts_of, messages_of, says, is_over, is_marked_whole}
 use Rattle.tn_queue.specs.Queue.{putter}
-use Rattle.tn_session.specs.EntryChannel.{EntryHand}
-use Rattle.tn_session.specs.declared.mail.Mail.{Mail}
-use Rattle.tn_session.specs.declared.mail.Sender.TheVariants.{Back}
+use Rattle.tn_workers.specs.EntryChannel.{EntryHand}
+use Rattle.tn_workers.specs.declared.mail.Mail.{Mail}
+use Rattle.tn_workers.specs.declared.mail.Sender.TheVariants.{Back}
 use Rattle.tn_streams.proofs.lemmas.Telling.{accounts_none, accounts_well, accounts_both}
 use Rattle.tn_streams.proofs.lemmas.Writing.{appends_more, appends_kept, appends_none}
 use Rattle.tn_streams.specs.Known.{KnownWriter, KnownWriting}

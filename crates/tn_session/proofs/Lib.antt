@@ -1,10 +1,5 @@
 pub mod Mailbox
-pub mod Reading
-pub mod Readers
 pub mod Credits
-pub mod Telling
-pub mod Talk
-pub mod Turning
 pub mod Going
 pub mod Finishing
 pub mod Reach

@@ -10,7 +10,7 @@ use Rattle.std.specs.Prelude.{Option}
 use Rattle.tn_session.specs.Notes.{Noted, no_notes}
 use Rattle.tn_session.specs.Session.{IsOpening}
 use Rattle.tn_session.specs.Turns.{GoesOn, TurnsMessage, StaysInReach}
-use Rattle.tn_session.specs.EntryChannel.{EntryHand}
+use Rattle.tn_workers.specs.EntryChannel.{EntryHand}
 use Rattle.tn_streams.specs.Known.{KnownWriting}
 use Rattle.tn_machines.proofs.lemmas.server.Welcoming.{stays_in_reach}
 use Rattle.tn_machines.specs.server.Marks.{run_after_opening}

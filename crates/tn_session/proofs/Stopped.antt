@@ -1,20 +1,21 @@
 -- The word to stop: how it is told and taken, and after which messages.
 use Rattle.std.proofs.Common.{◌≡◌, Bool, true, false, not, ◌||◌, ◌&&◌, List, [], ◌∷◌, ◌++◌, Option, Some, None, IfSome, refl, sym, ap, ◌∙◌, subst, map}
 use Rattle.std.proofs.Common.{append_assoc, arith}
-use Rattle.crossbeam_channel.specs.Claims.{view, IsSeatAt}
+use Rattle.crossbeam_channel.specs.Claims.{IsSeatAt}
 use Rattle.crossbeam_channel.specs.Ends.{sends_on, receives_on}
 use Rattle.tn_machines.specs.declared.messages.Message.{Message}
 use Rattle.tn_machines.specs.declared.messages.Message.TheVariants.{Piece, HangUp, ReadFailed, Take, Said, Refused, Left, Resized, Asked}
 use Rattle.tn_queue.specs.Queue.{putter, put_more, joined_hands, one_of, LeftOver}
 use Rattle.tn_session.proofs.Lefts.{lefts_here, lefts_else}
-use Rattle.tn_session.specs.Mailbox.{same, from, mail}
-use Rattle.tn_session.specs.Stops.{StopHand, StopsStay, TakesStop, IsTold, AreNewStops, LeavesAt, StandsTold, has_stopped, took_some, is_left, leaves, has_left}
+use Rattle.tn_workers.specs.Mailbox.{same, from, mail}
+use Rattle.tn_workers.specs.Stops.{StopHand, StopsStay, has_stopped, took_some}
+use Rattle.tn_session.specs.Stops.{IsTold, AreNewStops, LeavesAt, StandsTold, is_left, leaves, has_left}
 use Rattle.tn_session.specs.Turns.{left_one, lefts_of}
-use Rattle.tn_session.specs.declared.mail.Mail.{Mail}
-use Rattle.tn_session.specs.declared.mail.Sender.{Sender}
-use Rattle.tn_session.specs.declared.mail.Sender.TheVariants.{Net, Desk, Back, Keys}
-use Rattle.tn_session.specs.declared.stops.Stop.{Stop}
-use Rattle.tn_session.specs.declared.stops.StopSeat.{StopSeat}
+use Rattle.tn_workers.specs.declared.mail.Mail.{Mail}
+use Rattle.tn_workers.specs.declared.mail.Sender.{Sender}
+use Rattle.tn_workers.specs.declared.mail.Sender.TheVariants.{Net, Desk, Back, Keys}
+use Rattle.tn_workers.specs.declared.stops.Stop.{Stop}
+use Rattle.tn_workers.specs.declared.stops.StopSeat.{StopSeat}
 use Rattle.tn_session.specs.declared.stops.StopTeller.{StopTeller}
 
 false_true : false ≡ true → ⊥
@@ -28,38 +29,10 @@ some_left x xs e = cc
 
 -- THE SEAT
 
--- after it was looked at
-pub seat_stays : (old : Option StopSeat) (seat new : StopSeat) (took : Bool) → old ≡ Some seat → new.from ≡ seat.from → IsSeatAt (receives_on new.from) new.pass
-    → StopsStay old old → TakesStop took (view seat.pass) (view new.pass) → StopsStay old (Some new)
-seat_stays old seat new took e from at stays takes =
-    let here = subst (λ (o : Option StopSeat). StopsStay o o) e stays in
-    let taken = takes here.2.0 here.2.1 in
-    subst (λ (o : Option StopSeat). StopsStay o (Some new)) (sym e) (from, at, (taken.0, taken.1))
-
-pub has_told : (old : Option StopSeat) (seat new : StopSeat) (took : Bool) → old ≡ Some seat → StopsStay old old
-    → TakesStop took (view seat.pass) (view new.pass) → took ≡ true → has_stopped (Some new) ≡ true
-has_told old seat new took e stays takes is =
-    let here = subst (λ (o : Option StopSeat). StopsStay o o) e stays in
-    let taken = takes here.2.0 here.2.1 in
-    ap (λ (u : StopHand). took_some u.taken) taken.1 ∙ taken.2 is
-
 -- one without a seat is never told
 pub unseated : (o : Option StopSeat) → StopsStay None o → has_stopped o ≡ false
 unseated None stays = refl
 unseated (Some seat) stays = absurd stays
-
-pub stays_on : (a b c : Option StopSeat) → StopsStay a b → StopsStay b c → StopsStay a c
-stays_on None None c one two = two
-stays_on None (Some b) c one two = absurd one
-stays_on (Some a) None c one two = absurd one
-stays_on (Some a) (Some b) None one two = absurd two
-stays_on (Some a) (Some b) (Some c) one two = (two.0 ∙ one.0, two.1, two.2)
-
-pub stays_here : (a b : Option StopSeat) → StopsStay a b → StopsStay b b
-stays_here None None stays = tt
-stays_here None (Some b) stays = absurd stays
-stays_here (Some a) None stays = absurd stays
-stays_here (Some a) (Some b) stays = (refl, stays.1, stays.2)
 
 -- the seat that comes back is still at the channel of the one that tells
 pub seat_at : (a b : Option StopSeat) (old new : StopTeller) → StopsStay a b → IfSome a (λ seat. AreNewStops old seat) → new.to ≡ old.to

@@ -16,29 +16,30 @@ use Rattle.tn_session.proofs.Lefts.{none_over}
 use Rattle.tn_session.proofs.Mailbox.{all_woven}
 use Rattle.tn_session.proofs.Sent.{NoLeft, Sent, no_left-append, sent_by, reader_sent}
 use Rattle.tn_session.proofs.Stopped.{was_left, stopped_told}
-use Rattle.tn_session.specs.Acts.{JobActs}
+use Rattle.tn_workers.specs.Acts.{JobActs}
 use Rattle.tn_session.specs.Facts.{SessionJobs, SessionResult, SessionViews}
 use Rattle.tn_session.specs.Joining.{handler, AreSettled}
-use Rattle.tn_session.specs.Mailbox.{Interleaves, from, four, sender, union, nobody, everyone, with_handled, mail, Total}
+use Rattle.tn_workers.specs.Mailbox.{Interleaves, from, four, sender, union, nobody, everyone, with_handled, mail, Total}
 use Rattle.tn_queue.specs.Queue.{putter, taker, joined_hands, both_hands, no_hand, LeftOver}
-use Rattle.tn_session.specs.Reader.{ReaderSends}
+use Rattle.tn_workers.specs.Reader.{ReaderSends}
 use Rattle.tn_session.proofs.lemmas.Noting.{IsUpTo, same_steps}
 use Rattle.tn_session.proofs.lemmas.Sessions.{server_stepped}
 use Rattle.tn_session.specs.Notes.{Note, Noted, NotesAll, no_notes, notes}
 use Rattle.tn_session.specs.Session as of_server
 use Rattle.tn_session.specs.Session.{IsNoted, IsOpening, IsRun, OpensOrTurns, brings, brought_by, report_of}
 use Rattle.tn_session.specs.Transcripts.{Exchange, IsStep, Transcribes, exchange_of, total}
-use Rattle.tn_session.specs.Stepping.{BackJobs, AreSteps, step_said}
-use Rattle.tn_session.proofs.Turning.{is_close}
-use Rattle.tn_session.specs.Stops.{StopHand, IsTold, term_stops}
-use Rattle.tn_session.specs.Talk.{IsJob, IsTalk, Closes, turns_said}
-use Rattle.tn_session.specs.Turning.{Holds, queue_of}
+use Rattle.tn_workers.specs.Stepping.{BackJobs, AreSteps, step_said}
+use Rattle.tn_workers.proofs.lemmas.Turning.{is_close}
+use Rattle.tn_workers.specs.Stops.{StopHand}
+use Rattle.tn_session.specs.Stops.{IsTold, term_stops}
+use Rattle.tn_workers.specs.Talk.{IsJob, IsTalk, Closes, turns_said}
+use Rattle.tn_workers.specs.Turning.{Holds, queue_of}
 use Rattle.tn_session.specs.Turns.{HandlesAll, is_marked_whole, is_over, messages_of, says}
 use Rattle.tn_streams.specs.Writing.{max_writes}
-use Rattle.tn_session.specs.declared.channels.View.{View}
-use Rattle.tn_session.specs.EntryChannel.{EntryHand}
-use Rattle.tn_session.specs.declared.mail.Mail.{Mail}
-use Rattle.tn_session.specs.declared.mail.Sender.TheVariants.{Net, Desk, Back}
+use Rattle.tn_workers.specs.declared.channels.View.{View}
+use Rattle.tn_workers.specs.EntryChannel.{EntryHand}
+use Rattle.tn_workers.specs.declared.mail.Mail.{Mail}
+use Rattle.tn_workers.specs.declared.mail.Sender.TheVariants.{Net, Desk, Back}
 use Rattle.tn_streams.proofs.lemmas.Writing.{appends_more}
 use Rattle.tn_streams.proofs.lemmas.Telling.{accounts_both}
 use Rattle.tn_streams.specs.Known.{KnownReader, KnownWriter}

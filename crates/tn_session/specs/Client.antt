@@ -25,18 +25,18 @@ use Rattle.tn_session.specs.CoreTurns as turns
 use Rattle.tn_session.specs.CoreTurns.{all_told, origin_of}
 use Rattle.tn_session.specs.Notes.{Note, notes, no_notes}
 use Rattle.tn_session.specs.Facts.{ClientResult, Window}
-use Rattle.tn_session.specs.Mailbox.{Interleaves, four, sender}
-use Rattle.tn_session.specs.Reader.{ReaderSends}
-use Rattle.tn_session.specs.Reading.{max_reads, pieces_in, controls_in}
+use Rattle.tn_workers.specs.Mailbox.{Interleaves, four, sender}
+use Rattle.tn_workers.specs.Reader.{ReaderSends}
+use Rattle.tn_workers.specs.Reading.{max_reads, pieces_in, controls_in}
 use Rattle.tn_session.specs.Stops.{AreNewStops, IsTold, LeavesAt, core_stops}
 use Rattle.tn_session.specs.Transcripts.{Exchange, ReadsPrefix, Transcribes, all_read, all_wrote, came_by}
 use Rattle.tn_session.specs.Transcripts.{exchange_of}
 use Rattle.tn_streams.specs.Writing.{Tells, max_writes}
-use Rattle.tn_session.specs.declared.channels.View.{View}
+use Rattle.tn_workers.specs.declared.channels.View.{View}
 use Rattle.tn_session.specs.declared.client.CoreEnds.{CoreEnds}
 use Rattle.tn_session.specs.declared.client.Mailbox.{Mailbox}
-use Rattle.tn_session.specs.declared.mail.Mail.{Mail}
-use Rattle.tn_session.specs.declared.mail.Sender.TheVariants.{Net, Keys}
+use Rattle.tn_workers.specs.declared.mail.Mail.{Mail}
+use Rattle.tn_workers.specs.declared.mail.Sender.TheVariants.{Net, Keys}
 use Rattle.tn_session.specs.declared.parties.Report.{Report}
 use Rattle.tn_session.specs.declared.stops.StopTeller.{StopTeller}
 use Rattle.tn_session.specs.declared.threads.ReaderSays.{ReaderSays}

@@ -13,16 +13,17 @@ use Rattle.tn_machines.specs.declared.client.messages.Origin.{Origin}
 use Rattle.tn_machines.specs.declared.client.messages.Origin.TheVariants as origin
 use Rattle.tn_machines.specs.declared.client.messages.Told.{Told}
 use Rattle.tn_nvt.specs.Spelling.{spells}
-use Rattle.tn_session.specs.Mailbox.{with_handled}
+use Rattle.tn_workers.specs.Mailbox.{with_handled}
 use Rattle.tn_session.specs.Notes.{Noted, NotesAll, no_notes, writes}
-use Rattle.tn_session.specs.Stops.{StopHand, IsTold, StandsTold, core_stops}
+use Rattle.tn_workers.specs.Stops.{StopHand}
+use Rattle.tn_session.specs.Stops.{IsTold, StandsTold, core_stops}
 use Rattle.tn_session.specs.Transcripts.{IsStep, total}
 use Rattle.tn_session.specs.Turns.{lefts_of}
 use Rattle.tn_streams.specs.Writing.{Tells}
-use Rattle.tn_session.specs.declared.channels.View.{View}
-use Rattle.tn_session.specs.declared.mail.Mail.{Mail}
-use Rattle.tn_session.specs.declared.mail.Sender.{Sender}
-use Rattle.tn_session.specs.declared.mail.Sender.TheVariants.{Keys}
+use Rattle.tn_workers.specs.declared.channels.View.{View}
+use Rattle.tn_workers.specs.declared.mail.Mail.{Mail}
+use Rattle.tn_workers.specs.declared.mail.Sender.{Sender}
+use Rattle.tn_workers.specs.declared.mail.Sender.TheVariants.{Keys}
 use Rattle.tn_streams.specs.Known.{KnownWriting}
 
 -- in a client's session all that is not from the keys is from the network

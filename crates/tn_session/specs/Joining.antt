@@ -5,11 +5,11 @@ use Rattle.crossbeam_channel.specs.Ends.{sends_on, receives_on, ruled_capacity}
 use Rattle.tn_discipline.specs.declared.reads.Entry.{Entry}
 use Rattle.tn_session.specs.Credits.{AreNewCredits}
 use Rattle.tn_session.specs.Facts.{SessionViews}
-use Rattle.tn_session.specs.Mailbox.{Interleaves, four, sender}
+use Rattle.tn_workers.specs.Mailbox.{Interleaves, four, sender}
 use Rattle.tn_queue.specs.Queue.{putter, taker}
-use Rattle.tn_session.specs.declared.channels.View.{View}
-use Rattle.tn_session.specs.declared.mail.Mail.{Mail}
-use Rattle.tn_session.specs.declared.mail.Sender.TheVariants.{Net, Desk, Back}
+use Rattle.tn_workers.specs.declared.channels.View.{View}
+use Rattle.tn_workers.specs.declared.mail.Mail.{Mail}
+use Rattle.tn_workers.specs.declared.mail.Sender.TheVariants.{Net, Desk, Back}
 use Rattle.tn_session.specs.declared.session.Channels.{Channels}
 use Rattle.tn_streams.specs.Prefixes.{IsPrefixOf}
 

@@ -1,13 +1,6 @@
-pub mod Mailbox
 pub mod Notes
-pub mod EntryChannel
 pub mod Credits
-pub mod Acts
-pub mod Reading
-pub mod Talk
-pub mod Stepping
 pub mod Stops
-pub mod Turning
 pub mod Turns
 pub mod Closing
 pub mod Facts
@@ -16,6 +9,5 @@ pub mod Makers
 pub mod Joining
 pub mod Transcripts
 pub mod Session
-pub mod Reader
 pub mod CoreTurns
 pub mod Client

@@ -10,28 +10,28 @@ use Rattle.tn_nvt.specs.declared.items.Item.{Item}
 use Rattle.tn_server.specs.Events.{items}
 use Rattle.tn_server.specs.Lines.{entries}
 use Rattle.tn_server.specs.Replies.{items_said}
-use Rattle.tn_session.specs.Acts.{JobActs}
+use Rattle.tn_workers.specs.Acts.{JobActs}
 use Rattle.tn_session.specs.Facts.{JobFacts, SessionJobs, SessionResult, TermSettings}
 use Rattle.tn_session.specs.Jobs.{Numbered}
 use Rattle.tn_session.specs.Notes.{Noted, NotesWrite, no_notes, noted_of, notes}
 use Rattle.tn_streams.specs.Prefixes.{IsPrefixOf}
-use Rattle.tn_session.specs.Mailbox.{Interleaves, four, sender}
+use Rattle.tn_workers.specs.Mailbox.{Interleaves, four, sender}
 use Rattle.tn_queue.specs.Queue.{putter, taker}
 use Rattle.tn_session.specs.Makers.{AreAll}
-use Rattle.tn_session.specs.Reader.{ReaderSends}
-use Rattle.tn_session.specs.Reading.{max_reads, pieces_in}
-use Rattle.tn_session.specs.Stepping.{AreSteps}
+use Rattle.tn_workers.specs.Reader.{ReaderSends}
+use Rattle.tn_workers.specs.Reading.{max_reads, pieces_in}
+use Rattle.tn_workers.specs.Stepping.{AreSteps}
 use Rattle.tn_session.specs.Stops.{IsTold, LeavesAt, term_stops}
-use Rattle.tn_session.specs.Talk.{IsJob, IsTalk}
+use Rattle.tn_workers.specs.Talk.{IsJob, IsTalk}
 use Rattle.tn_session.specs.Transcripts.{Exchange, ReadsPrefix, Transcribes, all_read, all_wrote, came_by}
 use Rattle.tn_session.specs.Transcripts.{exchange_of}
-use Rattle.tn_session.specs.Turning.{Holds, IsQueue, ids_of, jobs_of, queue_of}
-use Rattle.tn_session.specs.declared.back.Runner.{Runner}
+use Rattle.tn_workers.specs.Turning.{Holds, IsQueue, ids_of, jobs_of, queue_of}
+use Rattle.tn_workers.specs.declared.back.Runner.{Runner}
 use Rattle.tn_session.specs.Turns as turns
 use Rattle.tn_session.specs.Turns.{messages_of}
 use Rattle.tn_streams.specs.Writing.{Tells, max_writes}
-use Rattle.tn_session.specs.declared.mail.Mail.{Mail}
-use Rattle.tn_session.specs.declared.mail.Sender.TheVariants.{Net, Desk, Back}
+use Rattle.tn_workers.specs.declared.mail.Mail.{Mail}
+use Rattle.tn_workers.specs.declared.mail.Sender.TheVariants.{Net, Desk, Back}
 use Rattle.tn_session.specs.declared.parties.Report.{Report}
 use Rattle.tn_session.specs.declared.session.Begun.{Begun}
 use Rattle.tn_streams.specs.Foretelling.{WillFail}

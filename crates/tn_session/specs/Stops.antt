@@ -1,24 +1,21 @@
 -- Why a thread stops that has more to do: it was told. It is told after the first message by which nothing
 -- has any effect any more, or nothing more comes from the network, unless it has left by then.
-use Rattle.std.specs.Prelude.{◌≡◌, Bool, true, IsTrue, false, IsFalse, ◌||◌, ◌&&◌, Option, Some, None, List}
-use Rattle.std.specs.Prelude.{[], ◌∷◌, ◌++◌, map, ⊤}
+use Rattle.std.specs.Prelude.{◌≡◌, Bool, true, IsTrue, false, IsFalse, ◌||◌, ◌&&◌, List}
+use Rattle.std.specs.Prelude.{[], ◌∷◌, ◌++◌, map}
 use Rattle.crossbeam_channel.specs.Claims.{view, IsSeatAt}
 use Rattle.crossbeam_channel.specs.Ends.{sends_on, receives_on}
 use Rattle.tn_machines.specs.declared.client.progress.ClientProgress.{ClientProgress}
 use Rattle.tn_machines.specs.declared.messages.Message.{Message}
 use Rattle.tn_machines.specs.declared.messages.Message.TheVariants.{Left}
 use Rattle.tn_queue.specs.Queue.{putter, taker}
-use Rattle.tn_queue.specs.declared.Hand.{Hand}
-use Rattle.tn_session.specs.Mailbox.{same, mail}
-use Rattle.tn_session.specs.declared.mail.Mail.{Mail}
-use Rattle.tn_session.specs.declared.mail.Sender.{Sender}
-use Rattle.tn_session.specs.declared.stops.Stop.{Stop}
-use Rattle.tn_session.specs.declared.stops.StopSeat.{StopSeat}
+use Rattle.tn_workers.specs.Mailbox.{same, mail}
+use Rattle.tn_workers.specs.Stops.{StopHand}
+use Rattle.tn_workers.specs.declared.mail.Mail.{Mail}
+use Rattle.tn_workers.specs.declared.mail.Sender.{Sender}
+use Rattle.tn_workers.specs.declared.stops.Stop.{Stop}
+use Rattle.tn_workers.specs.declared.stops.StopSeat.{StopSeat}
 use Rattle.tn_session.specs.declared.stops.StopTeller.{StopTeller}
 use Rattle.tn_machines.specs.declared.server.progress.ServerProgress.{ServerProgress}
-
-abbrev pub StopHand : Type 0
-StopHand = Hand Stop
 
 -- nobody was told
 pub record AreNewStops (teller : StopTeller) (seat : StopSeat) : Type 0 where
@@ -27,29 +24,6 @@ pub record AreNewStops (teller : StopTeller) (seat : StopSeat) : Type 0 where
   pub seat_at : IsSeatAt (sends_on teller.to) seat.pass
   pub teller_is : view teller.pass ≡ putter []
   pub seat_is : view seat.pass ≡ taker []
-
-abbrev pub took_some : Option (List Stop) → Bool
-took_some (Some (stop ∷ stops)) = true
-took_some _ = false
-
--- it took the word to stop
-abbrev pub has_stopped : Option StopSeat → Bool
-has_stopped (Some seat) = took_some (view seat.pass).taken
-has_stopped None = false
-
--- one was taken, or none
-abbrev pub TakesStop : Bool → StopHand → StopHand → Type 0
-TakesStop took v w =
-    (l : List Stop) → v ≡ taker l → (k : List Stop) × (w ≡ taker k)
-    × (IsTrue took → IsTrue (took_some (Some k)))
-
--- the seat stays at its channel
-abbrev pub StopsStay : Option StopSeat → Option StopSeat → Type 0
-StopsStay None None = ⊤
-StopsStay (Some old) (Some new) =
-    (new.from ≡ old.from) × IsSeatAt (receives_on new.from) new.pass
-    × ((l : List Stop) × (view new.pass ≡ taker l))
-StopsStay _ _ = ⊥
 
 -- the word was put once, or not at all
 abbrev pub IsTold : Bool → StopHand → Type 0

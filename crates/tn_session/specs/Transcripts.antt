@@ -6,7 +6,7 @@ use Rattle.std.specs.Io.KnownBytes.{Consumes}
 use Rattle.std.specs.List.{FoldsTo}
 use Rattle.tn_machines.specs.Pieces.{bytes_in}
 use Rattle.tn_session.specs.Notes.{Note}
-use Rattle.tn_session.specs.declared.mail.Mail.{Mail}
+use Rattle.tn_workers.specs.declared.mail.Mail.{Mail}
 use Rattle.tn_streams.specs.Prefixes.{IsPrefixOf}
 
 -- A STEP of a session, in the order in which its core took them: the bytes from the network that came in it,

@@ -6,15 +6,16 @@ use Rattle.std.specs.Io.KnownBytes.{Appends}
 use Rattle.tn_discipline.specs.declared.reads.Entry.{Entry}
 use Rattle.tn_nvt.specs.Spelling.{spells}
 use Rattle.tn_server.specs.Replies.{items_said}
-use Rattle.tn_session.specs.Mailbox.{with_handled}
+use Rattle.tn_workers.specs.Mailbox.{with_handled}
 use Rattle.tn_session.specs.Notes.{Noted, NotesAll, writes}
 use Rattle.tn_queue.specs.Queue.{putter}
-use Rattle.tn_session.specs.Stops.{StopHand, IsTold, StandsTold, term_stops}
+use Rattle.tn_workers.specs.Stops.{StopHand}
+use Rattle.tn_session.specs.Stops.{IsTold, StandsTold, term_stops}
 use Rattle.tn_session.specs.Transcripts.{IsStep, total}
-use Rattle.tn_session.specs.declared.channels.View.{View}
-use Rattle.tn_session.specs.EntryChannel.{EntryHand}
-use Rattle.tn_session.specs.declared.mail.Mail.{Mail}
-use Rattle.tn_session.specs.declared.mail.Sender.TheVariants.{Back}
+use Rattle.tn_workers.specs.declared.channels.View.{View}
+use Rattle.tn_workers.specs.EntryChannel.{EntryHand}
+use Rattle.tn_workers.specs.declared.mail.Mail.{Mail}
+use Rattle.tn_workers.specs.declared.mail.Sender.TheVariants.{Back}
 use Rattle.tn_streams.specs.Known.{KnownWriting}
 use Rattle.tn_streams.specs.Writing.{Tells}
 use Rattle.tn_machines.specs.server.Marks.{Turns, Runs, is_whole, all_whole, no_write_failed}

@@ -11,15 +11,10 @@ ghost use Rattle.tn_session.specs.Stops.{AreNewStops};
 ghost use Rattle.tn_streams.specs.Known.{known_reader, known_typing, known_writing};
 ghost use Rattle.tn_streams.specs.Sending.{IsFinished};
 
-use crate::channels::{
-    AllRoles, CutKeys, CutNet, Knows, MailPass, MailReceiver, MailSeat, MailSender, Union, View,
-};
 use crate::client_loop::run_core;
-use crate::mail::{Mail, Sender};
-use crate::net::ReaderPart;
 use crate::parties::{ClientPorts, Report};
 use crate::session::MAILS;
-use crate::stops::{StopPass, StopSeat, Watched, make_stops};
+use crate::stops::{Watched, make_stops};
 use crate::threads::{ClientReturned, ClientStarted, ThreadLeft, start_reader};
 use crate::transcript::Transcript;
 use crossbeam_channel::bounded_with;
@@ -30,6 +25,10 @@ use tn_discipline::Limit;
 use tn_machines::client::{ClientProgress, Core};
 use tn_machines::{Gate, Place, SessionFault};
 use tn_streams::{Drain, Finish, Source};
+use tn_workers::{
+    AllRoles, CutKeys, CutNet, Knows, Mail, MailPass, MailReceiver, MailSeat, MailSender,
+    ReaderPart, Sender, StopPass, StopSeat, Union, View,
+};
 
 // The core's ends of the mailbox.
 #[derive(Drop)]

@@ -8,13 +8,11 @@ ghost use Rattle.tn_queue.specs.Queue.{putter};
 ghost use Rattle.tn_session.specs.Notes.{noted_of};
 ghost use Rattle.tn_session.specs.CoreTurns.{TurnsTold, CoreHandles, origin_of, told_of};
 ghost use Rattle.tn_session.specs.Stops.{core_stops, leaves as leaves_of};
-ghost use Rattle.tn_session.specs.declared.mail.Sender.TheVariants.{Keys};
+ghost use Rattle.tn_workers.specs.declared.mail.Sender.TheVariants.{Keys};
 ghost use Rattle.tn_streams.specs.Known.{known_writing};
 ghost use Rattle.tn_streams.specs.Sending.{StaysOpen, IsFinished};
 
-use crate::channels::{MailPass, MailReceiver};
 use crate::closing::finish_once;
-use crate::mail::{Mail, Sender};
 use crate::stops::Watched;
 use crate::term::{finish_unless, leaves};
 use crate::transcript::{Output, Transcript};
@@ -23,6 +21,7 @@ use std::sync::Wait;
 use tn_machines::client::{ClientMark, ClientProgress, Core, Origin, Told};
 use tn_machines::{Gate, Message};
 use tn_streams::{Drain, Finish, write_all};
+use tn_workers::{Mail, MailPass, MailReceiver, Sender};
 
 /// How many threads send mails.
 const SENDERS: u64 = 2;

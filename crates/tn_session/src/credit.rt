@@ -3,23 +3,24 @@
 //! for the terminal: their thread takes a credit for each step, and the terminal gives one back for each that
 //! it takes. So a key is passed by few messages, however fast these jobs are.
 
-ghost use Rattle.std.specs.Prelude.{◌≡◌, ◌≤◌, ◌<◌, ◌+◌, true, IsTrue, false, IsFalse, length, IfOk, IfSome};
+ghost use Rattle.std.specs.Prelude.{◌≡◌, ◌≤◌, ◌<◌, ◌+◌, true, IsTrue, false, IsFalse, length, IfOk};
 ghost use Rattle.crossbeam_channel.specs.Claims.{view, IsSeatAt};
-ghost use Rattle.crossbeam_channel.specs.Ends.{sends_on, receives_on};
+ghost use Rattle.crossbeam_channel.specs.Ends.{sends_on};
 ghost use Rattle.tn_server.specs.Lines.{waiting};
-ghost use Rattle.tn_session.specs.Credits.{AnyTally, AreNewCredits, HaveUsed, none_taken, one_given};
-ghost use Rattle.tn_session.specs.Credits.{one_taken, owed_one, piece_one, step_one, IsSeated, HaveTaken};
+ghost use Rattle.tn_session.specs.Credits.{AreNewCredits};
+ghost use Rattle.tn_workers.specs.Credits.{owed_one, piece_one, step_one};
 ghost use Rattle.tn_machines.specs.server.Reaching.{LeadsTo};
 ghost use Rattle.tn_machines.specs.server.Run.{Run};
 
-use crate::mail::{Mail, Sender};
-use crossbeam_channel::protocol::{Lesson, Outcome, Protocol, Split};
-use crossbeam_channel::{Pass, RuledReceiver, RuledSender, bounded_with};
+use crossbeam_channel::bounded_with;
 use std::alloc::{AllocError, Global};
-use std::collections::LinkedList;
 use std::sync::Wait;
 use tn_machines::Message;
 use tn_machines::server::Term;
+use tn_workers::{
+    Credit, CreditPass, CreditSeat, CreditSender, CreditTally, CutReader, Freely, Gives, Mail,
+    Sender, StepCredits,
+};
 
 /// How many credits there are.
 pub(crate) const CREDITS: usize = 1;
@@ -27,116 +28,6 @@ pub(crate) const CREDITS: usize = 1;
 /// How many steps of background jobs may be said that the terminal has not taken: half of what the mailbox
 /// holds, so that it is never full.
 const STEPS_AHEAD: u8 = 32;
-
-/// The leave to send one piece, or to say one step.
-#[derive(Drop)]
-pub struct Credit;
-
-// The credits that a pass has taken and given. No value of it is made.
-pub struct CreditTally {
-    pub taken: LinkedList<Credit>,
-    pub given: LinkedList<Credit>,
-}
-
-// Credits may be given and taken at any time. Each pass counts its own.
-pub struct Freely;
-
-impl Protocol<Credit, CreditTally> for Freely {
-    ghost holds = { AnyTally };
-
-    ghost first = { none_taken };
-}
-
-pub struct Gives;
-
-impl Outcome<Credit, CreditTally> for Gives {
-    ghost then = { λ v x w. w ≡ one_given v x };
-}
-
-impl Lesson<Credit, CreditTally> for Gives {
-    ghost fact = { λ v items. Unit {0} };
-}
-
-pub struct TakesOne;
-
-impl Outcome<Credit, CreditTally> for TakesOne {
-    ghost then = { λ v x w. w ≡ one_taken v x };
-}
-
-impl Lesson<Credit, CreditTally> for TakesOne {
-    ghost fact = { λ v items. Unit {0} };
-}
-
-pub struct CutReader;
-
-impl Split<CreditTally> for CutReader {
-    ghost left = { λ v. v };
-
-    ghost right = { λ v. none_taken };
-}
-
-pub type CreditPass = Pass<Credit, CreditTally>;
-
-pub type CreditSender = RuledSender<Credit, CreditTally, Freely>;
-
-pub type CreditReceiver = RuledReceiver<Credit, CreditTally, Freely>;
-
-/// The seat of the one that takes credits: where they come, and the pass.
-#[derive(Drop)]
-pub(crate) struct CreditSeat {
-    pub(crate) from: CreditReceiver,
-    pub(crate) pass: CreditPass,
-}
-
-impl CreditSeat {
-    // Waits for a credit. `None` where the other end is gone.
-    fn take<R: Wait>(&mut self, rt: &R) -> Option<()>
-        requires seat { IsSeatAt (receives_on self.old.from) self.old.pass }
-        ensures seat { IsSeatAt (receives_on self.new.from) self.new.pass }
-        ensures taken { IfSome result (λ _.
-            length (view self.new.pass).taken ≡ length (view self.old.pass).taken + 1) }
-    {
-        match self.from.recv_as::<TakesOne, R>(rt, &mut self.pass) {
-            Ok(Credit) => Some(()),
-            Err(_) => None,
-        }
-    }
-}
-
-/// Waits for a credit where any is wanted. `None` where the other end is gone.
-pub(crate) fn take_credit<R: Wait>(rt: &R, credits: &mut Option<CreditSeat>) -> Option<()>
-    requires seat { IsSeated credits.old }
-    ensures seat { IsSeated credits.new }
-    ensures taken { IfSome result (λ _. HaveTaken 1 credits.old credits.new) }
-{
-    match credits {
-        Some(seat) => seat.take(rt),
-        None => Some(()),
-    }
-}
-
-/// What the thread of the background jobs needs for its steps: so many credits are left of those that it has
-/// at first, and the others come.
-#[derive(Drop)]
-pub(crate) struct StepCredits {
-    pub(crate) left: u8,
-    pub(crate) seat: CreditSeat,
-}
-
-impl StepCredits {
-    /// Uses one, and waits for it where none is left. `None` where the other end is gone.
-    pub(crate) fn take<R: Wait>(&mut self, rt: &R) -> Option<()>
-        requires seat { IsSeatAt (receives_on self.old.seat.from) self.old.seat.pass }
-        ensures seat { IsSeatAt (receives_on self.new.seat.from) self.new.seat.pass }
-        ensures used { IfSome result (λ _. HaveUsed 1 self.old self.new) }
-    {
-        if self.left > 0 {
-            self.left -= 1;
-            return Some(());
-        }
-        self.seat.take(rt)
-    }
-}
 
 /// Where the terminal gives credits for steps.
 #[derive(Drop)]

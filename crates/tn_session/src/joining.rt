@@ -6,16 +6,16 @@ ghost use Rattle.crossbeam_channel.specs.Ends.{sends_on};
 ghost use Rattle.tn_session.specs.Facts.{views_of};
 ghost use Rattle.tn_queue.specs.Queue.{putter};
 ghost use Rattle.tn_session.specs.Joining.{AreSettled};
-ghost use Rattle.tn_session.specs.Stops.{has_stopped};
-ghost use Rattle.tn_session.specs.declared.stops.Stop.{Stop as StopT};
+ghost use Rattle.tn_workers.specs.Stops.{has_stopped};
+ghost use Rattle.tn_workers.specs.declared.stops.Stop.{Stop as StopT};
 
-use crate::channels::{CutBack, CutDesk, CutNet, Knows, Union};
-use crate::entries::{CutTaker, JoinHands, Takes};
 use crate::parties::Ports;
 use crate::stops::StopTeller;
 use crate::term::{Ends, Passes};
 use crate::threads::{Returned, ThreadLeft};
 use crate::transcript::Transcript;
+use tn_queue::{CutTaker, JoinHands, Takes};
+use tn_workers::{CutBack, CutDesk, CutNet, Knows, Union};
 
 /// Joins the passes, so that their lists are compared, and splits them again.
 pub(crate) fn settle(

@@ -3,15 +3,15 @@
 ghost use Rattle.std.specs.Prelude.{◌≡◌, ◌+◌, [], ◌∷◌, ◌++◌, length, IfOk, IfErr};
 ghost use Rattle.tn_session.specs.Jobs.{IsMade};
 ghost use Rattle.tn_session.specs.Makers.{AreAll, GivesJobs, IsMakerFault};
-ghost use Rattle.tn_session.specs.Turning.{ids_of, jobs_of};
+ghost use Rattle.tn_workers.specs.Turning.{ids_of, jobs_of};
 
-use crate::back::Runner;
 use crate::parties::Maker;
 use std::alloc::Global;
 use std::collections::VecDeque;
 use tn_jobs::laws::one_job_changes;
 use tn_jobs::{Job, JobId, Table};
 use tn_machines::SessionFault;
+use tn_workers::Runner;
 
 /// How many jobs run in the background at most.
 const MAX_OTHERS: u8 = 15;

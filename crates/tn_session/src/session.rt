@@ -3,7 +3,7 @@
 ghost use Rattle.std.specs.Prelude.{◌≡◌, ◌≢◌, [], ◌∷◌, None, Some, IfOk, IfErr, IfSome, IsErrOf};
 ghost use Rattle.crossbeam_channel.specs.Claims.{view, IsSeatAt};
 ghost use Rattle.crossbeam_channel.specs.Ends.{sends_on, receives_on};
-ghost use Rattle.tn_session.specs.Acts.{job_acts};
+ghost use Rattle.tn_workers.specs.Acts.{job_acts};
 ghost use Rattle.tn_session.specs.Facts.{job_facts, session_result};
 ghost use Rattle.tn_session.specs.Joining.{IsReady, handler};
 ghost use Rattle.tn_session.specs.Makers.{AreAll, GivesJobs, IsMakerFault, begins};
@@ -11,25 +11,19 @@ ghost use Rattle.tn_session.specs.Notes.{no_notes, noted_of};
 ghost use Rattle.tn_queue.specs.Queue.{putter, taker};
 ghost use Rattle.tn_session.specs.Session.{IsBegun, IsOpening, IsRun, IsRefusal, IsOfThreads, RunsOn};
 ghost use Rattle.tn_session.specs.Session.{RunningSession, report_of};
-ghost use Rattle.tn_session.specs.Mailbox.{sender};
-ghost use Rattle.tn_session.specs.Stops.{AreNewStops, StopsStay};
-ghost use Rattle.tn_session.specs.Turning.{IsQueue, ids_of, jobs_of};
+ghost use Rattle.tn_workers.specs.Mailbox.{sender};
+ghost use Rattle.tn_workers.specs.Stops.{StopsStay};
+ghost use Rattle.tn_session.specs.Stops.{AreNewStops};
+ghost use Rattle.tn_workers.specs.Turning.{IsQueue, ids_of, jobs_of};
 ghost use Rattle.tn_session.specs.Turns.{StaysInReach};
-ghost use Rattle.tn_session.specs.declared.mail.Sender.TheVariants.{Desk, Back};
+ghost use Rattle.tn_workers.specs.declared.mail.Sender.TheVariants.{Desk, Back};
 ghost use Rattle.tn_streams.specs.Known.{known_reader, known_writing};
 ghost use Rattle.tn_streams.specs.Sending.{StaysOpen, IsFinished};
 ghost use Rattle.tn_machines.specs.server.Welcoming.{too_far_ahead};
 
-use crate::back::Runner;
-use crate::channels::{AllRoles, CutBack, CutDesk, CutNet, MailPass, MailSeat, View};
-use crate::credit::{
-    CREDITS, Credit, CreditSeat, CreditTally, CutReader, Freely, StepCredits, make_step_credits,
-};
-use crate::entries::{CutTaker, EntryPass, EntrySeat, Hand, InTurn};
+use crate::credit::{CREDITS, make_step_credits};
 use crate::joining::settle;
-use crate::mail::{Mail, Sender};
 use crate::making::{Made, make_jobs};
-use crate::net::ReaderPart;
 use crate::parties::{Maker, Ports, Report};
 use crate::stops::{Watched, make_stops};
 use crate::term::{Ends, Passes, run_term};
@@ -48,8 +42,13 @@ use tn_jobs::{Job, JobId};
 use tn_machines::server::laws::{all_goes_before_a_hang_up, faults_have_causes, pieces_are_heard};
 use tn_machines::server::{ServerProgress, Term};
 use tn_machines::{Gate, Place, SessionFault};
+use tn_queue::{CutTaker, Hand, InTurn};
 use tn_server::Editing;
 use tn_streams::{Finish, Source};
+use tn_workers::{
+    AllRoles, Credit, CreditSeat, CreditTally, CutBack, CutDesk, CutNet, CutReader, EntryPass,
+    EntrySeat, Freely, Mail, MailPass, MailSeat, ReaderPart, Runner, Sender, StepCredits, View,
+};
 
 /// How many mails the mailbox holds.
 pub(crate) const MAILS: usize = 64;

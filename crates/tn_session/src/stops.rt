@@ -1,32 +1,19 @@
 //! A thread is told once to stop: the one that reads the keys after its next piece, and the one of the
 //! background jobs before its next step.
 
-ghost use Rattle.std.specs.Prelude.{◌≡◌, ◌≢◌, ◌||◌, List, [], true, IsTrue, IfOk, IfSome};
+ghost use Rattle.std.specs.Prelude.{◌≡◌, ◌≢◌, ◌||◌, List, [], IsTrue, IfOk, IfSome};
 ghost use Rattle.crossbeam_channel.specs.Claims.{view, IsSeatAt};
-ghost use Rattle.crossbeam_channel.specs.Ends.{sends_on, receives_on};
-ghost use Rattle.tn_queue.specs.Queue.{putter, taker};
-ghost use Rattle.tn_session.specs.Stops.{AreNewStops, IsTold, StopsStay, TakesStop, has_stopped};
-ghost use Rattle.tn_session.specs.declared.stops.Stop.{Stop as StopT};
+ghost use Rattle.crossbeam_channel.specs.Ends.{sends_on};
+ghost use Rattle.tn_queue.specs.Queue.{putter};
+ghost use Rattle.tn_workers.specs.Stops.{has_stopped};
+ghost use Rattle.tn_session.specs.Stops.{AreNewStops, IsTold};
+ghost use Rattle.tn_workers.specs.declared.stops.Stop.{Stop as StopT};
 
 use crossbeam_channel::bounded_with;
 use std::alloc::{AllocError, Global};
 use std::sync::{Arc, Wait};
-use tn_queue::{
-    CutTaker, Hand, InTurn, JoinHands, Puts, QueuePass, QueueReceiver, QueueSender, Takes,
-};
-
-/// The word to stop.
-#[derive(Drop)]
-pub struct Stop;
-
-pub type StopPass = QueuePass<Stop>;
-
-/// The seat of the one that is told.
-#[derive(Drop)]
-pub(crate) struct StopSeat {
-    pub(crate) from: QueueReceiver<Stop>,
-    pub(crate) pass: StopPass,
-}
+use tn_queue::{CutTaker, Hand, InTurn, JoinHands, Puts, QueueSender, Takes};
+use tn_workers::{Stop, StopPass, StopSeat};
 
 /// The seat of the one that tells it.
 #[derive(Drop)]
@@ -49,34 +36,6 @@ pub(crate) fn make_stops(alloc: Global) -> Result<(StopTeller, StopSeat), AllocE
     let (to, from, mut pass) = bounded_with::<Stop, Hand<Stop>, InTurn, Global>(alloc, 1)?;
     let taken = to.another::<CutTaker>(&mut pass);
     Ok((StopTeller { to, pass }, StopSeat { from, pass: taken }))
-}
-
-impl StopSeat {
-    // Whether it was told by now.
-    fn take<R: Wait>(&mut self, rt: &R) -> bool
-        requires seat { IsSeatAt (receives_on self.old.from) self.old.pass }
-        requires role { (l : List StopT) × (view self.old.pass ≡ taker l) }
-        ensures seat { IsSeatAt (receives_on self.new.from) self.new.pass }
-        ensures from { self.new.from ≡ self.old.from }
-        ensures took { TakesStop result (view self.old.pass) (view self.new.pass) }
-    {
-        match self.from.try_recv_as::<Takes, R>(rt, &mut self.pass) {
-            Ok(Stop) => true,
-            Err(_) => false,
-        }
-    }
-}
-
-/// Whether a thread is to go on no more: never where it has no seat.
-pub(crate) fn is_stopped<R: Wait>(rt: &R, stops: &mut Option<StopSeat>) -> bool
-    requires seat { StopsStay stops.old stops.old }
-    ensures stays { StopsStay stops.old stops.new }
-    ensures told { IsTrue result → IsTrue (has_stopped stops.new) }
-{
-    match stops {
-        Some(seat) => seat.take(rt),
-        None => false,
-    }
 }
 
 impl StopTeller {

@@ -12,17 +12,14 @@ ghost use Rattle.tn_queue.specs.Queue.{putter};
 ghost use Rattle.tn_session.specs.Notes.{noted_of};
 ghost use Rattle.tn_session.specs.Stops.{term_stops, leaves as leaves_of};
 ghost use Rattle.tn_session.specs.Turns.{HandlesAll, StaysInReach, TurnsMessage, left_one};
-ghost use Rattle.tn_session.specs.declared.mail.Sender.TheVariants.{Back};
+ghost use Rattle.tn_workers.specs.declared.mail.Sender.TheVariants.{Back};
 ghost use Rattle.tn_streams.specs.Known.{known_writing};
 ghost use Rattle.tn_streams.specs.Sending.{StaysOpen, IsFinished};
 ghost use Rattle.tn_machines.specs.server.Marks.{is_whole};
 ghost use Rattle.tn_machines.specs.server.Run.{puts_of};
 
-use crate::channels::{MailPass, MailReceiver, MailSender};
 use crate::closing::finish_once;
-use crate::credit::{CreditGiver, CreditPass, CreditSender, give_credit, is_piece};
-use crate::entries::{EntryPass, EntrySender, Puts};
-use crate::mail::{Mail, Sender};
+use crate::credit::{CreditGiver, give_credit, is_piece};
 use crate::stops::Watched;
 use crate::transcript::Output;
 use std::sync::Wait;
@@ -30,7 +27,12 @@ use tn_discipline::Entry;
 use tn_jobs::JobId;
 use tn_machines::server::{MessageOutcome, Put, ServerMark, ServerProgress, Term};
 use tn_machines::{Gate, Message, Place};
+use tn_queue::Puts;
 use tn_streams::Finish;
+use tn_workers::{
+    CreditPass, CreditSender, EntryPass, EntrySender, Mail, MailPass, MailReceiver, MailSender,
+    Sender,
+};
 
 /// How many threads send mails.
 const SENDERS: u64 = 3;

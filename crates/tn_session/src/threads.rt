@@ -3,26 +3,19 @@
 ghost use Rattle.std.specs.Prelude.{◌≡◌, [], false, None, Some, IfSome};
 ghost use Rattle.crossbeam_channel.specs.Claims.{view, IsSeatAt};
 ghost use Rattle.crossbeam_channel.specs.Ends.{sends_on, receives_on};
-ghost use Rattle.tn_session.specs.Acts.{job_acts};
-ghost use Rattle.tn_session.specs.Credits.{IsSeated};
-ghost use Rattle.tn_session.specs.Mailbox.{sender};
+ghost use Rattle.tn_workers.specs.Acts.{job_acts};
+ghost use Rattle.tn_workers.specs.Credits.{IsSeated};
+ghost use Rattle.tn_workers.specs.Mailbox.{sender};
 ghost use Rattle.tn_queue.specs.Queue.{taker};
-ghost use Rattle.tn_session.specs.Reader.{TypingSends};
-ghost use Rattle.tn_session.specs.Stepping.{AreSteps};
-ghost use Rattle.tn_session.specs.Stops.{StopsStay, has_stopped};
-ghost use Rattle.tn_session.specs.Talk.{IsJob, IsTalk};
-ghost use Rattle.tn_session.specs.Turning.{Holds, IsQueue, queue_of};
-ghost use Rattle.tn_session.specs.declared.mail.Sender.TheVariants.{Desk, Back};
+ghost use Rattle.tn_workers.specs.Reader.{TypingSends};
+ghost use Rattle.tn_workers.specs.Stepping.{AreSteps};
+ghost use Rattle.tn_workers.specs.Stops.{StopsStay, has_stopped};
+ghost use Rattle.tn_workers.specs.Talk.{IsJob, IsTalk};
+ghost use Rattle.tn_workers.specs.Turning.{Holds, IsQueue, queue_of};
+ghost use Rattle.tn_workers.specs.declared.mail.Sender.TheVariants.{Desk, Back};
 ghost use Rattle.tn_streams.specs.Known.{known_typing};
 
-use crate::back::{Runner, run_back};
-use crate::channels::{MailPass, MailSeat, MailSender};
-use crate::credit::{CreditSeat, StepCredits};
-use crate::desk::run_desk;
-use crate::entries::{EntryPass, EntryReceiver, EntrySeat};
-use crate::mail::Sender;
-use crate::net::{ReaderPart, run_reader};
-use crate::stops::StopSeat;
+use crate::waiting::Waiting;
 use std::alloc::Global;
 use std::collections::VecDeque;
 use std::marker::PhantomData;
@@ -33,6 +26,10 @@ use std::thread::{Promise, PromisedHandle, Threads};
 use tn_jobs::{Job, JobId};
 use tn_machines::Gate;
 use tn_streams::Source;
+use tn_workers::{
+    CreditSeat, EntryPass, EntryReceiver, EntrySeat, MailPass, MailSeat, MailSender, ReaderPart,
+    Runner, Sender, StepCredits, StopSeat, run_back, run_desk, run_reader,
+};
 
 /// What a thread gives back that may be told to stop: its pass, and the seat where it may have been told.
 #[derive(Drop)]
@@ -56,8 +53,8 @@ impl<Rd: Source> Promise<Option<ThreadLeft>> for ReaderSays<Rd> {
     ghost use Rattle.std.specs.Prelude.{IfSome};
     ghost use Rattle.crossbeam_channel.specs.Claims.{view, IsSeatAt};
     ghost use Rattle.crossbeam_channel.specs.Ends.{sends_on};
-    ghost use Rattle.tn_session.specs.Reader.{TypingSends};
-    ghost use Rattle.tn_session.specs.Stops.{StopsStay, has_stopped};
+    ghost use Rattle.tn_workers.specs.Reader.{TypingSends};
+    ghost use Rattle.tn_workers.specs.Stops.{StopsStay, has_stopped};
     ghost use Rattle.tn_streams.specs.Known.{known_typing};
 
     ghost kept_by = { λ p r.
@@ -81,8 +78,8 @@ impl<J: Job> Promise<Option<(MailPass, EntryPass)>> for DeskSays<J> {
     ghost use Rattle.std.specs.Prelude.{IfSome};
     ghost use Rattle.crossbeam_channel.specs.Claims.{view, IsSeatAt};
     ghost use Rattle.crossbeam_channel.specs.Ends.{sends_on, receives_on};
-    ghost use Rattle.tn_session.specs.Acts.{job_acts};
-    ghost use Rattle.tn_session.specs.Talk.{IsJob, IsTalk};
+    ghost use Rattle.tn_workers.specs.Acts.{job_acts};
+    ghost use Rattle.tn_workers.specs.Talk.{IsJob, IsTalk};
 
     ghost kept_by = { λ p r.
         IfSome r (λ x. IsSeatAt (sends_on p.to.value) x.0 × IsSeatAt (receives_on p.from.value) x.1 ×
@@ -103,10 +100,10 @@ impl<J: Job> Promise<Option<ThreadLeft>> for BackSays<J> {
     ghost use Rattle.std.specs.Prelude.{IfSome};
     ghost use Rattle.crossbeam_channel.specs.Claims.{view, IsSeatAt};
     ghost use Rattle.crossbeam_channel.specs.Ends.{sends_on};
-    ghost use Rattle.tn_session.specs.Acts.{job_acts};
-    ghost use Rattle.tn_session.specs.Stepping.{AreSteps};
-    ghost use Rattle.tn_session.specs.Stops.{StopsStay, has_stopped};
-    ghost use Rattle.tn_session.specs.Turning.{Holds, queue_of};
+    ghost use Rattle.tn_workers.specs.Acts.{job_acts};
+    ghost use Rattle.tn_workers.specs.Stepping.{AreSteps};
+    ghost use Rattle.tn_workers.specs.Stops.{StopsStay, has_stopped};
+    ghost use Rattle.tn_workers.specs.Turning.{Holds, queue_of};
 
     ghost kept_by = { λ p r.
         IfSome r (λ left. IsSeatAt (sends_on p.to.value) left.pass ×
@@ -157,7 +154,7 @@ pub(crate) fn start_reader<
         let mut credits = credits;
         let mut stops = stops;
         let ran = run_reader(
-            &rt,
+            &Waiting(rt),
             alloc,
             &mut seat,
             reader,
@@ -228,7 +225,15 @@ pub(crate) fn start_desk<
     {
         let mut seat = seat;
         let mut entries = entries;
-        match run_desk(&rt, alloc, &mut seat, &mut entries, id, job, &*gate) {
+        match run_desk(
+            &Waiting(rt),
+            alloc,
+            &mut seat,
+            &mut entries,
+            id,
+            job,
+            &*gate,
+        ) {
             Some(()) => Some((seat.pass, entries.pass)),
             None => None,
         }
@@ -296,7 +301,7 @@ pub(crate) fn start_back<
         let mut stops = stops;
         let mut credits = credits;
         let ran = run_back(
-            &rt,
+            &Waiting(rt),
             alloc,
             &mut seat,
             queue,

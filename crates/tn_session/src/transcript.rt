@@ -3,19 +3,18 @@
 ghost use Rattle.std.specs.Prelude.{◌≡◌, ◌∷◌, [], List, Some, IfSome, IsTrue};
 ghost use Rattle.crossbeam_channel.specs.Claims.{view, IsSeatAt};
 ghost use Rattle.crossbeam_channel.specs.Ends.{receives_on};
-ghost use Rattle.tn_session.specs.Mailbox.{handed};
+ghost use Rattle.tn_workers.specs.Mailbox.{handed};
 ghost use Rattle.tn_session.specs.Notes.{NotesWrite, no_notes, noted_of, takes, writes};
 ghost use Rattle.tn_streams.specs.Writing.{Tells};
-ghost use Rattle.tn_session.specs.declared.mail.Mail.{Mail as MailT};
+ghost use Rattle.tn_workers.specs.declared.mail.Mail.{Mail as MailT};
 ghost use Rattle.tn_streams.specs.Sending.{StaysOpen};
 
-use crate::channels::{Handles, MailPass, MailReceiver};
-use crate::mail::Mail;
 use std::alloc::Global;
 use std::mem;
 use std::snapshot::Snapshot;
 use std::sync::Wait;
 use tn_streams::{Drain, write_front};
+use tn_workers::{Handles, Mail, MailPass, MailReceiver};
 
 /// What only a call of this module makes.
 #[derive(Drop)]

@@ -17,11 +17,11 @@ use Rattle.tn_machines.specs.declared.client.progress.ClientProgress.{ClientProg
 use Rattle.tn_session.proofs.lemmas.ClientTurns.{opens, sent_latest}
 use Rattle.tn_session.proofs.lemmas.Plain.{PlainlyCloses}
 use Rattle.tn_session.specs.CoreTurns.{all_told}
-use Rattle.tn_session.specs.Mailbox.{from, mail}
-use Rattle.tn_session.specs.Reading.{IsEnding, Telling, piece_told, size_told, control_told, told_messages, pieces_in}
-use Rattle.tn_session.specs.declared.mail.Mail.{Mail}
-use Rattle.tn_session.specs.declared.mail.Sender.{Sender}
-use Rattle.tn_session.specs.declared.mail.Sender.TheVariants as sender
+use Rattle.tn_workers.specs.Mailbox.{from, mail}
+use Rattle.tn_workers.specs.Reading.{IsEnding, Telling, piece_told, size_told, control_told, told_messages, pieces_in}
+use Rattle.tn_workers.specs.declared.mail.Mail.{Mail}
+use Rattle.tn_workers.specs.declared.mail.Sender.{Sender}
+use Rattle.tn_workers.specs.declared.mail.Sender.TheVariants as sender
 use Rattle.tn_streams.specs.Foretelling.{Failures}
 use Rattle.tn_machines.specs.declared.messages.Message.{Message}
 use Rattle.tn_machines.specs.declared.messages.Message.TheVariants.{Piece, HangUp, ReadFailed, Take, Said, Refused, Left, Resized, Asked}

@@ -40,19 +40,19 @@ use Rattle.tn_session.specs.Client as of_client
 use Rattle.tn_session.specs.CoreTurns.{all_told}
 use Rattle.tn_session.specs.Stops.{IsTold, LeavesAt, core_stops, term_stops}
 use Rattle.tn_session.specs.Turns.{messages_of}
-use Rattle.tn_session.specs.declared.stops.Stop.{Stop}
+use Rattle.tn_workers.specs.declared.stops.Stop.{Stop}
 use Rattle.tn_session.specs.Client.{RunningClient}
 use Rattle.tn_queue.specs.Queue.{putter, taker}
 use Rattle.tn_session.specs.Facts.{SessionJobs, SessionResult, TermSettings, ClientResult, Window}
-use Rattle.tn_session.specs.Mailbox.{from, four, mail, nobody, sender}
-use Rattle.tn_session.specs.Reader.{ReaderSends}
-use Rattle.tn_session.specs.Reading.{IsPiece, piece_told}
+use Rattle.tn_workers.specs.Mailbox.{from, four, mail, nobody, sender}
+use Rattle.tn_workers.specs.Reader.{ReaderSends}
+use Rattle.tn_workers.specs.Reading.{IsPiece, piece_told}
 use Rattle.tn_session.specs.Session as of_server
 use Rattle.tn_session.specs.Session.{Schedule, RunningSession, report_of}
 use Rattle.tn_session.specs.Transcripts.{Exchange, all_read, all_wrote}
-use Rattle.tn_session.specs.declared.mail.Mail.{Mail}
-use Rattle.tn_session.specs.declared.mail.Sender.{Sender}
-use Rattle.tn_session.specs.declared.mail.Sender.TheVariants as who
+use Rattle.tn_workers.specs.declared.mail.Mail.{Mail}
+use Rattle.tn_workers.specs.declared.mail.Sender.{Sender}
+use Rattle.tn_workers.specs.declared.mail.Sender.TheVariants as who
 use Rattle.tn_streams.specs.Beside.{no_words}
 use Rattle.tn_streams.specs.Known.{KnownReader, KnownTyping, KnownWriting}
 use Rattle.tn_streams.specs.Prefixes.{IsPrefixOf}

@@ -22,10 +22,10 @@ use Rattle.tn_discipline.specs.Steps.{gain_all}
 use Rattle.tn_discipline.specs.declared.keys.Role.{Role}
 use Rattle.tn_discipline.specs.declared.termios.Settings.{Settings}
 use Rattle.tn_two_sessions.specs.Transcripts.{HasKey, key_of, keys_of}
-use Rattle.tn_session.specs.Mailbox.{sender}
-use Rattle.tn_session.specs.declared.channels.View.{View}
-use Rattle.tn_session.specs.declared.mail.Mail.{Mail}
-use Rattle.tn_session.specs.declared.mail.Sender.TheVariants as who
+use Rattle.tn_workers.specs.Mailbox.{sender}
+use Rattle.tn_workers.specs.declared.channels.View.{View}
+use Rattle.tn_workers.specs.declared.mail.Mail.{Mail}
+use Rattle.tn_workers.specs.declared.mail.Sender.TheVariants as who
 use Rattle.tn_streams.specs.Beside.{TellsFirst}
 use Rattle.tn_streams.specs.Prefixes.{IsPrefixOf}
 use Rattle.tn_streams.specs.declared.control.Control.{Control}

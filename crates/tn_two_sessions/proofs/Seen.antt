@@ -22,10 +22,10 @@ use Rattle.tn_server.specs.Lines.{entries}
 use Rattle.tn_session.proofs.lemmas.Plain.{plainly}
 use Rattle.tn_session.proofs.lemmas.Transcribing.{prefix_trans}
 use Rattle.tn_session.specs.Facts.{JobFacts}
-use Rattle.tn_session.specs.Mailbox.{mail}
-use Rattle.tn_session.specs.Reading.{pieces_in, told_messages}
+use Rattle.tn_workers.specs.Mailbox.{mail}
+use Rattle.tn_workers.specs.Reading.{pieces_in, told_messages}
 use Rattle.tn_session.specs.Transcripts.{all_wrote}
-use Rattle.tn_session.specs.declared.mail.Sender.TheVariants as who
+use Rattle.tn_workers.specs.declared.mail.Sender.TheVariants as who
 use Rattle.tn_session.specs.declared.parties.Report.{Report}
 use Rattle.tn_streams.specs.Prefixes.{IsPrefixOf}
 use Rattle.tn_machines.proofs.lemmas.server.Hearing.{hears}

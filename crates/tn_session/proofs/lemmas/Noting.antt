@@ -4,7 +4,7 @@ use Rattle.std.specs.List.{FoldsTo}
 use Rattle.tn_session.proofs.lemmas.Transcribing.{prefix_trans}
 use Rattle.tn_session.specs.Notes.{Note}
 use Rattle.tn_session.specs.Transcripts.{Exchange, IsExchange, IsStep, exchange_of, total}
-use Rattle.tn_session.specs.declared.mail.Mail.{Mail}
+use Rattle.tn_workers.specs.declared.mail.Mail.{Mail}
 use Rattle.tn_streams.specs.Prefixes.{IsPrefixOf}
 
 pub total-append : {M : Type 0} (ss ts : List (M × List ℕ)) → total (ss ++ ts) ≡ total ss ++ total ts

@@ -2,8 +2,8 @@
 use Rattle.std.proofs.Common.{◌≡◌, ◌≢◌, ℕ, Bool, true, List, [], ◌∷◌, ◌++◌, Option, None, ap, ◌∙◌, ◌⊎◌, ⊎_elim, inl, inr, length}
 use Rattle.tn_machines.specs.declared.messages.Message.{Message}
 use Rattle.tn_machines.specs.declared.messages.Message.TheVariants.{Left}
-use Rattle.tn_session.specs.Reader.{Closes}
-use Rattle.tn_session.specs.Reading.{IsEnding, IsReadCause}
+use Rattle.tn_workers.specs.Reader.{Closes}
+use Rattle.tn_workers.specs.Reading.{IsEnding, IsReadCause}
 use Rattle.tn_streams.specs.Foretelling.{Failures}
 use Rattle.tn_streams.specs.Known.{KnownReader}
 

@@ -28,7 +28,7 @@ use Rattle.tn_session.specs.Notes.{Note, Noted, no_notes, notes}
 use Rattle.tn_session.specs.Transcripts.{Exchange, Point, ReadsPrefix, Transcribes, IsExchange, IsStep, all_read, all_wrote, exchange_of, total}
 use Rattle.tn_session.specs.Turns as terms
 use Rattle.tn_session.specs.Turns.{messages_of}
-use Rattle.tn_session.specs.declared.mail.Mail.{Mail}
+use Rattle.tn_workers.specs.declared.mail.Mail.{Mail}
 use Rattle.tn_streams.specs.Prefixes.{IsPrefixOf}
 use Rattle.tn_machines.specs.server.Hearing.{heard}
 use Rattle.tn_machines.specs.server.Marks as term

@@ -3,9 +3,9 @@ use Rattle.crossbeam_channel.specs.Claims.{view}
 use Rattle.tn_session.proofs.ClientWhole.{client_ran}
 use Rattle.tn_session.proofs.Stopped.{told_words, seat_at}
 use Rattle.tn_session.specs.CoreTurns.{CoreHandles}
-use Rattle.tn_session.proofs.Readers.{sends_as}
-use Rattle.tn_session.specs.declared.mail.Sender.TheVariants.{Net, Keys}
-use Rattle.tn_session.specs.Stops.{has_stopped}
+use Rattle.tn_workers.proofs.lemmas.Readers.{sends_as}
+use Rattle.tn_workers.specs.declared.mail.Sender.TheVariants.{Net, Keys}
+use Rattle.tn_workers.specs.Stops.{has_stopped}
 use Rattle.tn_session.specs.Client.{client_report}
 use Rattle.tn_session.specs.Facts.{client_result}
 use Rattle.tn_streams.specs.Known.{known_typing, known_writing}

@@ -11,8 +11,8 @@ use Rattle.tn_session.proofs.Stopped.{left_next, stands_first}
 use Rattle.tn_session.specs.CoreTurns.{TurnsTold, all_told, told_of}
 use Rattle.tn_session.specs.Notes.{Noted, NotesAll, no_notes, noted_of}
 use Rattle.tn_session.specs.Stops.{StandsTold, core_stops}
-use Rattle.tn_session.specs.declared.mail.Mail.{Mail}
-use Rattle.tn_session.specs.declared.mail.Sender.TheVariants.{Keys}
+use Rattle.tn_workers.specs.declared.mail.Mail.{Mail}
+use Rattle.tn_workers.specs.declared.mail.Sender.TheVariants.{Keys}
 use Rattle.tn_machines.specs.client.Marks.{Runs}
 use Rattle.tn_streams.specs.Known.{known_writer, known_writing}
 use Rattle.tn_session.proofs.client_loop.run_core.Goals as goal

@@ -3,7 +3,7 @@ use Rattle.tn_session.proofs.Mailbox.{starts, cut}
 use Rattle.tn_session.proofs.Credits.{cuts}
 use Rattle.tn_queue.proofs.lemmas.Queue as channel
 use Rattle.tn_session.proofs.Whole.{ready_views, ready_hands}
-use Rattle.tn_session.specs.declared.mail.Sender.TheVariants.{Net, Desk, Back}
+use Rattle.tn_workers.specs.declared.mail.Sender.TheVariants.{Net, Desk, Back}
 use Rattle.tn_session.proofs.session.make_channels.Goals as goal
 
 pub bounded_with-requires-clause-rule : goal.bounded_with-requires-clause-rule

@@ -1,6 +1,6 @@
 use Rattle.std.proofs.Common.{Bool, IfOk, subst}
 use Rattle.tn_jobs.specs.declared.held_jobs.JobId.{JobId}
-use Rattle.tn_session.specs.Acts.{job_acts}
+use Rattle.tn_workers.specs.Acts.{job_acts}
 use Rattle.tn_session.specs.Facts.{session_result}
 use Rattle.tn_session.specs.Session.{RunsOn}
 use Rattle.tn_streams.specs.Known.{known_reader, known_writing}

@@ -1,13 +1,13 @@
 use Rattle.std.proofs.Common.{false, Some, ap, subst, sym, ◌∙◌}
 use Rattle.crossbeam_channel.specs.Claims.{view}
 use Rattle.tn_session.proofs.Whole.{scheduled}
-use Rattle.tn_session.proofs.Readers.{sends_as}
-use Rattle.tn_session.specs.declared.mail.Sender.TheVariants.{Net}
-use Rattle.tn_session.specs.Acts.{job_acts}
+use Rattle.tn_workers.proofs.lemmas.Readers.{sends_as}
+use Rattle.tn_workers.specs.declared.mail.Sender.TheVariants.{Net}
+use Rattle.tn_workers.specs.Acts.{job_acts}
 use Rattle.tn_session.specs.Facts.{session_result}
 use Rattle.tn_session.proofs.Stopped.{told_words, seat_at}
 use Rattle.tn_session.specs.Session.{report_of}
-use Rattle.tn_session.specs.Stops.{has_stopped}
+use Rattle.tn_workers.specs.Stops.{has_stopped}
 use Rattle.tn_session.specs.Turns.{HandlesAll}
 use Rattle.tn_streams.specs.Known.{known_typing, known_writer}
 use Rattle.tn_session.specs.declared.parties.Report.{Report}

@@ -2,15 +2,15 @@ use Rattle.std.proofs.Common.{false, not, ◌&&◌, ap, refl, sym, ◌∙◌, su
 use Rattle.crossbeam_channel.specs.Claims.{view}
 use Rattle.tn_queue.specs.Queue.{putter}
 use Rattle.tn_machines.specs.declared.messages.Message.{Message}
-use Rattle.tn_session.specs.declared.mail.Mail.{Mail}
-use Rattle.tn_session.specs.declared.mail.Sender.TheVariants.{Back}
+use Rattle.tn_workers.specs.declared.mail.Mail.{Mail}
+use Rattle.tn_workers.specs.declared.mail.Sender.TheVariants.{Back}
 use Rattle.tn_machines.specs.server.Marks.{Runs}
 use Rattle.tn_machines.specs.declared.server.messages.ServerMark.{ServerMark}
 use Rattle.tn_machines.specs.server.Run.{puts_of}
 use Rattle.tn_machines.specs.declared.server.progress.ServerProgress.{ServerProgress}
 use Rattle.tn_session.proofs.Mailbox.{handled_more}
 use Rattle.tn_session.proofs.Credits.{among-push, counts_on, steps-push}
-use Rattle.tn_session.specs.Credits.{pieces_among}
+use Rattle.tn_workers.specs.Credits.{pieces_among}
 use Rattle.tn_session.proofs.Finishing.{open_none, stands_next, stands_last}
 use Rattle.tn_session.proofs.Going.{false_true, going_first, going_next, going_kept, lefts_of-push, left_small, notes_next, notes_kept, puts_two, term_told}
 use Rattle.tn_session.proofs.Reach.{reach_start, reach_next}

@@ -1,10 +1,10 @@
 use Rattle.std.proofs.Common.{IfSome, Some, subst, sym}
 use Rattle.crossbeam_channel.specs.Claims.{view, IsSeatAt}
 use Rattle.crossbeam_channel.specs.Ends.{sends_on}
-use Rattle.tn_session.specs.Acts.{job_acts}
-use Rattle.tn_session.specs.Stepping.{AreSteps}
-use Rattle.tn_session.specs.Stops.{StopsStay, has_stopped}
-use Rattle.tn_session.specs.Turning.{Holds, queue_of}
+use Rattle.tn_workers.specs.Acts.{job_acts}
+use Rattle.tn_workers.specs.Stepping.{AreSteps}
+use Rattle.tn_workers.specs.Stops.{StopsStay, has_stopped}
+use Rattle.tn_workers.specs.Turning.{Holds, queue_of}
 use Rattle.tn_session.proofs.threads.start_back.Goals as goal
 
 pub spawn_with-requires-clause-keeps : goal.spawn_with-requires-clause-keeps

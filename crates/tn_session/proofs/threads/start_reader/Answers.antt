@@ -1,8 +1,8 @@
 use Rattle.std.proofs.Common.{IfSome, subst, sym}
 use Rattle.crossbeam_channel.specs.Claims.{view, IsSeatAt}
 use Rattle.crossbeam_channel.specs.Ends.{sends_on}
-use Rattle.tn_session.specs.Reader.{TypingSends}
-use Rattle.tn_session.specs.Stops.{StopsStay, has_stopped}
+use Rattle.tn_workers.specs.Reader.{TypingSends}
+use Rattle.tn_workers.specs.Stops.{StopsStay, has_stopped}
 use Rattle.tn_streams.specs.Known.{known_typing}
 use Rattle.tn_session.proofs.threads.start_reader.Goals as goal
 

@@ -1,0 +1,6 @@
+pub mod Counting
+pub mod Reading
+pub mod Stopping
+pub mod Talk
+pub mod Telling
+pub mod lemmas

@@ -1,0 +1,22 @@
+use Rattle.std.proofs.Common.{◌≡◌, List, map, length}
+use Rattle.crossbeam_channel.specs.Claims.{view, IsSeatAt}
+use Rattle.crossbeam_channel.specs.Ends.{sends_on, receives_on}
+use Rattle.tn_jobs.specs.declared.held_jobs.JobId.{JobId}
+use Rattle.tn_jobs.specs.declared.reactions.Reaction.{Reaction}
+use Rattle.tn_workers.specs.declared.mail.Sender.TheVariants.{Back}
+use Rattle.tn_workers.specs.Credits.{HaveUsed}
+use Rattle.tn_workers.specs.Mailbox.{sender, mail}
+use Rattle.tn_workers.specs.Stepping.{StepInTurn, step_said}
+use Rattle.tn_workers.specs.Stops.{StopsStay}
+use Rattle.tn_workers.specs.Turning.{Holds, Running, ids_of}
+use Rattle.tn_workers.proofs.back.run_back.Given as goal
+
+abbrev pub invariant-loop : goal.invariant-loop
+invariant-loop g l =
+    IsSeatAt (sends_on l.seat.to) l.seat.pass
+    × ((said : List (JobId × Reaction)) × (view l.seat.pass ≡ sender Back (map (mail Back) (map step_said said)))
+    × Running (Holds l.fn.queue.items) g.J.Job.steps l.fn.tostop (ids_of l.fn.queue.items) said l.queue.items
+    × StepInTurn l.fn.tostop (ids_of l.fn.queue.items) said (ids_of l.queue.items) × HaveUsed (length said) l.fn.credits l.credits)
+    × StopsStay l.fn.stops l.stops
+    × IsSeatAt (receives_on l.credits.seat.from) l.credits.seat.pass
+    × (l.seat.to ≡ l.fn.seat.to)

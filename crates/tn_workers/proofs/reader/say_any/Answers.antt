@@ -1,0 +1,11 @@
+use Rattle.std.proofs.Common.{Option, option_to_list, subst, sym, ap, ◌∙◌, append-nil}
+use Rattle.crossbeam_channel.specs.Claims.{view}
+use Rattle.tn_machines.specs.declared.messages.Message.{Message}
+use Rattle.tn_workers.specs.Mailbox.{sender}
+use Rattle.tn_workers.specs.Reader.{SaysAll}
+use Rattle.tn_workers.proofs.reader.say_any.Goals as goal
+
+pub returns-in-None-clause-said : goal.returns-in-None-clause-said
+returns-in-None-clause-said g c =
+    subst (λ (m : Option Message). SaysAll c.args.who (option_to_list m) (view c.args.pass.now) (view c.args.pass.now)) (sym c.in-None.is)
+    (λ l e. e ∙ ap (sender c.args.who) (sym (append-nil l)))

@@ -1,0 +1,10 @@
+pub mod Acts
+pub mod Credits
+pub mod EntryChannel
+pub mod Mailbox
+pub mod Reader
+pub mod Reading
+pub mod Stepping
+pub mod Stops
+pub mod Talk
+pub mod Turning

@@ -1,0 +1,67 @@
+//! The thread of the foreground job.
+
+ghost use Rattle.std.specs.Prelude.{◌≡◌, List, Option, [], ◌++◌, ◌∷◌, IfSome, Some, None, map};
+ghost use Rattle.crossbeam_channel.specs.Claims.{view, IsSeatAt};
+ghost use Rattle.crossbeam_channel.specs.Ends.{sends_on, receives_on};
+ghost use Rattle.tn_discipline.specs.declared.reads.Entry.{Entry as EntryT};
+ghost use Rattle.tn_workers.specs.Acts.{job_acts};
+ghost use Rattle.tn_workers.specs.Mailbox.{sender};
+ghost use Rattle.tn_queue.specs.Queue.{taker};
+ghost use Rattle.tn_workers.specs.Talk.{IsJob, IsTalk};
+ghost use Rattle.tn_workers.specs.declared.mail.Sender.TheVariants.{Desk};
+
+use crate::channels::MailSeat;
+use crate::entries::EntrySeat;
+use crate::mail::Sender;
+use crate::post::Post;
+use std::alloc::Global;
+use tn_jobs::{After, Job, JobId, Reaction};
+use tn_machines::{Gate, Message, Place};
+
+// tools/progress: proctype Desk
+/// Asks for entries and lets the job answer them, until the end, a Done or out of memory. `None` where the
+/// other end of a channel is gone, or after 18,446,744,073,709,551,615 entries.
+pub fn run_desk<P: Post, J: Job, G: Gate>(
+    post: &P,
+    alloc: Global,
+    seat: &mut MailSeat,
+    entries: &mut EntrySeat,
+    id: JobId,
+    mut job: J,
+    gate: &G,
+) -> Option<()>
+    requires mailbox { IsSeatAt (sends_on seat.old.to) seat.old.pass × (view seat.old.pass ≡ sender Desk []) }
+    requires entries { IsSeatAt (receives_on entries.old.from) entries.old.pass ×
+        (view entries.old.pass ≡ taker []) }
+    requires fresh { J.fresh job }
+    ensures mailbox { IfSome result (λ _. IsSeatAt (sends_on seat.old.to) seat.new.pass) }
+    ensures entries { IfSome result (λ _. IsSeatAt (receives_on entries.old.from) entries.new.pass) }
+    ensures talk { IfSome result (λ _. IsTalk id (IsJob job) (job_acts J.reacts J.steps J.refuses)
+        (view seat.new.pass) (view entries.new.pass)) }
+{
+    for _ in 0..u64::MAX {
+        post.say(&seat.to, &mut seat.pass, Sender::Desk, Message::Take)?;
+        let Some(entry) = post.next_entry(&entries.from, &mut entries.pass)? else {
+            return post.say(&seat.to, &mut seat.pass, Sender::Desk, Message::Left);
+        };
+        gate.at(Place::DeskEntry);
+        let Ok(reaction) = job.entry(alloc, entry) else {
+            post.say(&seat.to, &mut seat.pass, Sender::Desk, Message::Refused)?;
+            return post.say(&seat.to, &mut seat.pass, Sender::Desk, Message::Left);
+        };
+        let Reaction { text, after } = reaction;
+        let said = Message::Said {
+            job: id,
+            text,
+            after,
+        };
+        post.say(&seat.to, &mut seat.pass, Sender::Desk, said)?;
+        match after {
+            After::Stay | After::WantsInput | After::Stop => {},
+            After::Done => {
+                return post.say(&seat.to, &mut seat.pass, Sender::Desk, Message::Left);
+            },
+        }
+    }
+    None
+}
