@@ -13,7 +13,6 @@
 //! encrypts nothing, and reads no urgent data.
 #![tactic(auto)]
 
-use crate::outlet::Outlet;
 use std::alloc::{AllocError, Global};
 use std::env::{Env, FillError};
 use std::fs::{File, Files, OpenOptions};
@@ -21,10 +20,8 @@ use std::process::ExitCode;
 use std::sync::Arc;
 use std::{env, io, str};
 use tn_program::{
-    KeySource, Link, OWN_LENGTH, OwnCharacters, Screen, Streams, own_characters, run_words,
+    KeySource, Link, OWN_LENGTH, Outlet, OwnCharacters, Screen, Streams, own_characters, run_words,
 };
-
-mod outlet;
 
 /// The environment variable by which the launcher says that standard input is a terminal, raw once the
 /// connection stands.

@@ -12,6 +12,7 @@
 #![tactic(auto)]
 
 pub use outcome::Outcome;
+pub use outlet::Outlet;
 pub use own::{OWN_LENGTH, own_characters};
 pub use program::{outcome_of_words, run_words};
 pub use serving::{Joining, Noting};
@@ -23,6 +24,7 @@ pub use watching::Lookout;
 
 mod lines;
 mod outcome;
+mod outlet;
 mod own;
 mod program;
 mod serving;

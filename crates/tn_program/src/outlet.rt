@@ -2,7 +2,7 @@
 
 ghost use Rattle.std.specs.Io.{WritesAtMost};
 ghost use Rattle.std.specs.Io.KnownBytes.{WriteAppends};
-ghost use Rattle.tn.specs.Outlets.{HandsOn, held_by};
+ghost use Rattle.tn_program.specs.Outlets.{HandsOn, held_by};
 
 use std::io;
 use std::io::{ErrorKind, Write};
@@ -11,10 +11,10 @@ use std::io::{ErrorKind, Write};
 /// screen has ended the connection then, and the session ends as by a hang-up. So of what a session's holds
 /// nothing is known beforehand; any other holds what is written to it.
 #[derive(Drop)]
-pub(crate) struct Outlet<S> {
-    pub(crate) screen: S,
+pub struct Outlet<S> {
+    pub screen: S,
     /// Whether that is no fault.
-    pub(crate) is_session: bool,
+    pub is_session: bool,
 }
 
 impl<S: Write> Write for Outlet<S> {
