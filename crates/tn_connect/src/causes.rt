@@ -1,5 +1,5 @@
-//! Why a connection failed, as its user is told, in lines. Out of memory a line is dropped, and one that has a
-//! value in it may be cut.
+//! Why a connection failed, as its user is told, in lines. Out of memory a line is dropped, and one that has
+//! a value in it may be cut.
 
 use std::io::Write;
 

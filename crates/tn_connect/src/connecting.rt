@@ -55,6 +55,15 @@ struct Opened<H> {
     queue: NewQueue,
 }
 
+impl<H: Host> Opened<H> {
+    // Once more what both directions share.
+    fn shared(&self) -> Result<(Arc<Link, Global>, Trace<H>), AllocError> {
+        let link = Arc::try_clone(&self.link)?;
+        let trace = self.trace.try_clone()?;
+        Ok((link, trace))
+    }
+}
+
 // A connection's two directions, of which the second is sent by a thread of its own.
 #[derive(Drop)]
 struct Wires<H, Q: Queue> {
@@ -75,6 +84,13 @@ struct Talked {
     log: WriteLog,
 }
 
+// The word that a session is over, for the one that tells it and for the one that hears it.
+fn flags(alloc: Global) -> Result<(Arc<AtomicBool, Global>, Arc<AtomicBool, Global>), AllocError> {
+    let told = Arc::new(alloc, AtomicBool::new(false))?;
+    let heard = Arc::try_clone(&told)?;
+    Ok((told, heard))
+}
+
 // Lays out a connection's two directions.
 #[tactic(auto, using(crate::proofs::Faults::of_network))]
 fn wire<H: Host, Q: Queue>(
@@ -87,10 +103,8 @@ fn wire<H: Host, Q: Queue>(
     ensures fault { IfErr result IsOfNetwork }
     ensures nothing_yet { IfOk result (λ wires. view wires.outgoing.pass ≡ putter []) }
 {
-    let sent = Arc::try_clone(&opened.link)?;
-    let trace = opened.trace.try_clone()?;
-    let is_over = Arc::new(alloc, AtomicBool::new(false))?;
-    let seen = Arc::try_clone(&is_over)?;
+    let (is_over, seen) = flags(alloc)?;
+    let (sent, trace) = opened.shared()?;
     let Opened {
         stream,
         link,
@@ -281,6 +295,24 @@ struct Laid<H, K> {
     trace: Trace<H>,
 }
 
+// A trace to this file, for the connection and for the one that asks at its end whether it is whole.
+fn traces<H: Host>(
+    rt: H,
+    alloc: Global,
+    file: Option<File>,
+) -> Result<(Trace<H>, Trace<H>), AllocError> {
+    let trace = Trace::new(rt, alloc, file)?;
+    let written = trace.try_clone()?;
+    Ok((trace, written))
+}
+
+// The link, for the connection and for the keys.
+fn links(link: &Arc<Link, Global>) -> Result<(Arc<Link, Global>, Arc<Link, Global>), AllocError> {
+    let wired = Arc::try_clone(link)?;
+    let asked = Arc::try_clone(link)?;
+    Ok((wired, asked))
+}
+
 // The connection with a queue of its own, the user's keys, held back while much waits there, and the trace.
 // It takes eight, as they go together nowhere else.
 fn lay_out<H: Host, K: Drop>(
@@ -302,10 +334,8 @@ fn lay_out<H: Host, K: Drop>(
         stands,
         terminal,
     } = files;
-    let trace = Trace::new(rt, alloc, trace)?;
-    let written = trace.try_clone()?;
-    let wired = Arc::try_clone(link)?;
-    let asked = Arc::try_clone(link)?;
+    let (trace, written) = traces(rt, alloc, trace)?;
+    let (wired, asked) = links(link)?;
     let host = String::from_str(alloc, host)?;
     let (queue, throttle) = new_queue(rt, alloc)?;
     let typing = Typing {

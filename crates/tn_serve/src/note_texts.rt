@@ -21,9 +21,8 @@ pub(crate) fn listening(alloc: Global, address: &SocketAddr) -> Result<Vec<u8>, 
     ensures { IfOk result (λ text. text.items ≡ listening_text address.now) }
 {
     let address = address.to_string(alloc)?;
-    let mut text = vec_of(alloc, b"listening on ")?;
-    text.extend_from_slice(address.as_bytes())?;
-    Ok(text)
+    let text = ["listening on ", address.as_str()].concat(alloc)?;
+    Ok(text.into_bytes())
 }
 
 /// A session begins.
@@ -41,12 +40,15 @@ pub(crate) fn full(alloc: Global, serial: u64, peer: &SocketAddr) -> Result<Vec<
 {
     let serial = serial.to_string(alloc)?;
     let peer = peer.to_string(alloc)?;
-    let mut text = vec_of(alloc, b"no session (serial ")?;
-    text.extend_from_slice(serial.as_bytes())?;
-    text.extend_from_slice(b") from ")?;
-    text.extend_from_slice(peer.as_bytes())?;
-    text.extend_from_slice(b": full")?;
-    Ok(text)
+    let text = [
+        "no session (serial ",
+        serial.as_str(),
+        ") from ",
+        peer.as_str(),
+        ": full",
+    ]
+    .concat(alloc)?;
+    Ok(text.into_bytes())
 }
 
 /// A line of so many bytes may have been cut.
@@ -65,9 +67,8 @@ pub(crate) fn starved(alloc: Global, error: &io::Error) -> Result<Vec<u8>, Alloc
     ensures { IfOk result (λ text. TellsError (codes "no connection can be accepted now: ") text.items) }
 {
     let error = error.to_string(alloc)?;
-    let mut text = vec_of(alloc, b"no connection can be accepted now: ")?;
-    text.extend_from_slice(error.as_bytes())?;
-    Ok(text)
+    let text = ["no connection can be accepted now: ", error.as_str()].concat(alloc)?;
+    Ok(text.into_bytes())
 }
 
 /// No connection is accepted any more.
@@ -231,13 +232,16 @@ fn session(alloc: Global, caller: &Caller) -> Result<Vec<u8>, AllocError>
     let number = caller.number.to_string(alloc)?;
     let serial = caller.serial.to_string(alloc)?;
     let peer = caller.peer.to_string(alloc)?;
-    let mut text = vec_of(alloc, b"session ")?;
-    text.extend_from_slice(number.as_bytes())?;
-    text.extend_from_slice(b" (serial ")?;
-    text.extend_from_slice(serial.as_bytes())?;
-    text.extend_from_slice(b") from ")?;
-    text.extend_from_slice(peer.as_bytes())?;
-    Ok(text)
+    let text = [
+        "session ",
+        number.as_str(),
+        " (serial ",
+        serial.as_str(),
+        ") from ",
+        peer.as_str(),
+    ]
+    .concat(alloc)?;
+    Ok(text.into_bytes())
 }
 
 // Appends a number with a comma before each three of its last digits.
