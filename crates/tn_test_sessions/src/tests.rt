@@ -1,6 +1,7 @@
 //! The tests.
 
 mod cores;
+mod endless;
 mod gates;
 mod makers;
 mod one_loop;
