@@ -1,9 +1,14 @@
-//! A client's session whose keys have no end.
+//! Keys, and a job in the background, that have no end by themselves.
 
-use super::runs::join;
+use super::runs::{join, serve};
+use super::sessions::reaction;
+use std::alloc::{AllocError, Global};
 use std::io;
 use std::test::Fail;
-use tn_session::{Ended, Unwatched};
+use tn_discipline::{Entry, Settings};
+use tn_jobs::{After, Job, Reaction};
+use tn_server::Editing;
+use tn_session::{Ended, Maker, Unwatched};
 use tn_streams::{Source, nothing_to_say};
 
 /// Gives keys for ever.
@@ -33,6 +38,60 @@ impl Source for Gone {
     fn read_some(&mut self, _buf: &mut [u8]) -> io::Result<usize> {
         Ok(0)
     }
+}
+
+/// Is done at its first entry; in the background it steps for ever.
+#[derive(Drop)]
+struct Ticking;
+
+impl Job for Ticking {
+    ghost use Rattle.std.specs.Prelude.{⊤};
+
+    ghost fresh = { λ job. ⊤ };
+
+    ghost reacts = { λ old entry reaction new. ⊤ };
+
+    ghost steps = { λ old reaction new. ⊤ };
+
+    fn entry(&mut self, alloc: Global, _entry: Entry) -> Result<Reaction, AllocError> {
+        reaction(alloc, b"", After::Done)
+    }
+
+    fn step(&mut self, alloc: Global) -> Result<Reaction, AllocError> {
+        reaction(alloc, b"tick\n", After::Stay)
+    }
+}
+
+/// Makes so many of them.
+#[derive(Drop)]
+struct Ticks {
+    left: u8,
+}
+
+impl Maker for Ticks {
+    type Job = Ticking;
+
+    fn next(&mut self, _alloc: Global) -> Result<Option<Ticking>, AllocError> {
+        if self.left == 0 {
+            return Ok(None);
+        }
+        self.left -= 1;
+        Ok(Some(Ticking))
+    }
+}
+
+// The thread of the background jobs is told to stop.
+#[test]
+fn a_background_job_steps_no_more_once_the_client_has_gone(rt: HostRuntime) -> Result<(), Fail> {
+    let alloc = rt.alloc();
+    let mut out = Vec::new(alloc);
+    let (settings, editing) = (Settings::standard(), Editing::Remote);
+    let maker = Ticks { left: 2 };
+    let report = serve(
+        rt, alloc, Gone, &mut out, settings, editing, maker, Unwatched,
+    )?;
+    assert!(rt; report.ended == Ended::HangUp);
+    Ok(())
 }
 
 // The thread that reads the keys is told to stop.
