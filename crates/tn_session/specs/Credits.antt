@@ -1,4 +1,5 @@
--- The credits that a session gives: one at first and one for each piece that was handled, and one for each step.
+-- The credits that a session gives: one at first and one for each piece that was handled, and one for
+-- each step.
 use Rattle.std.specs.Prelude.{◌≡◌, ◌+◌, ◌≤◌, List, length}
 use Rattle.crossbeam_channel.specs.Claims.{IsSeatAt}
 use Rattle.crossbeam_channel.specs.Ends.{sends_on, receives_on, ruled_capacity}

@@ -46,7 +46,7 @@ impl<R: Wait> Post for Waiting<R> {
         }
     }
 
-    fn take_one(&self, seat: &mut CreditSeat) -> Option<()> {
+    fn take_credit(&self, seat: &mut CreditSeat) -> Option<()> {
         match seat.from.recv_as::<TakesOne, R>(&self.0, &mut seat.pass) {
             Ok(Credit) => Some(()),
             Err(_) => None,

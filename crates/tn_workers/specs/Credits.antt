@@ -1,5 +1,5 @@
--- Credits, as each pass counts them: the thread that reads the network takes one for each piece that it sends,
--- and the one of the background jobs uses one for each step that it says.
+-- Credits, as each pass counts them: the thread that reads the network takes one for each piece that it
+-- sends, and the one of the background jobs uses one for each step that it says.
 use Rattle.std.specs.Prelude.{◌≡◌, ℕ, Bool, true, false, ◌+◌, ◌≤◌, List, Option, Some, None, [], ◌∷◌, ◌++◌}
 use Rattle.std.specs.Prelude.{length, ⊤}
 use Rattle.crossbeam_channel.specs.Claims.{view, IsSeatAt}

@@ -81,7 +81,7 @@ pub(crate) fn take_credit<P: Post>(post: &P, credits: &mut Option<CreditSeat>) -
     ensures taken { IfSome result (λ _. HaveTaken 1 credits.old credits.new) }
 {
     match credits {
-        Some(seat) => post.take_one(seat),
+        Some(seat) => post.take_credit(seat),
         None => Some(()),
     }
 }
@@ -105,6 +105,6 @@ impl StepCredits {
             self.left -= 1;
             return Some(());
         }
-        post.take_one(&mut self.seat)
+        post.take_credit(&mut self.seat)
     }
 }

@@ -39,7 +39,7 @@ pub trait Post {
             view hand.new ≡ taker (l ++ entry ∷ [])) };
 
     /// Takes a credit.
-    fn take_one(&self, seat: &mut CreditSeat) -> Option<()>
+    fn take_credit(&self, seat: &mut CreditSeat) -> Option<()>
         requires seat { IsSeatAt (receives_on seat.old.from) seat.old.pass }
         ensures seat { IsSeatAt (receives_on seat.new.from) seat.new.pass }
         ensures taken { IfSome result (λ _.
