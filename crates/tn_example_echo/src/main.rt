@@ -7,7 +7,6 @@
 ghost use Rattle.std.specs.Prelude.{OnOk};
 ghost use Rattle.tn_example_echo.specs.Said.{SaysMore, Echoes};
 
-use std::alloc::Global;
 use std::io;
 use std::io::{ErrorKind, Read, Write};
 use tn_discipline::{Entry, Limit, Settings};
@@ -20,25 +19,32 @@ const MAX_WAITING: usize = 1_024;
 const MAX_SYMBOLS: usize = 65_536;
 
 fn main(rt: HostRuntime) -> io::Result<()> {
-    serve(rt.alloc(), &mut rt.stdin(), &mut rt.stdout())
-}
-
-fn serve<R: Read, W: Write>(alloc: Global, reader: &mut R, writer: &mut W) -> io::Result<()> {
+    let alloc = rt.alloc();
     let mut out = Vec::new(alloc);
     let started = ServerEnd::start(alloc, Settings::standard(), Limit::standard(), &mut out);
-    let Ok(mut end) = started else {
-        return Err(io::Error::from(ErrorKind::OutOfMemory));
-    };
+    match started {
+        Ok(mut end) => serve(&mut end, &mut out, &mut rt.stdin(), &mut rt.stdout()),
+        Err(_) => Err(io::Error::from(ErrorKind::OutOfMemory)),
+    }
+}
+
+// Writes what there is to say, and then what each piece of the client's stream asks for, to its end.
+fn serve<R: Read, W: Write>(
+    end: &mut ServerEnd,
+    out: &mut Vec<u8>,
+    reader: &mut R,
+    writer: &mut W,
+) -> io::Result<()> {
     let mut piece = [0; 512];
     for _ in 0..u64::MAX {
-        writer.write_all(&out)?;
+        writer.write_all(out)?;
         writer.flush()?;
         out.clear();
         let count = reader.read(&mut piece)?;
         if count == 0 {
             break;
         }
-        if answer(&mut end, &piece[..count], &mut out).is_err() {
+        if answer(end, &piece[..count], out).is_err() {
             return Err(io::Error::from(ErrorKind::Other));
         }
     }
