@@ -1,6 +1,5 @@
 pub mod Addresses
 pub mod Asking
-pub mod Commanding
 pub mod Given
 pub mod Hosts
 pub mod Wholes

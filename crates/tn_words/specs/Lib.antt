@@ -1,6 +1,6 @@
 pub mod Addresses
+pub mod Choices
 pub mod Commands
 pub mod Escapes
-pub mod Growing
 pub mod Numbers
 pub mod Words

@@ -1,14 +1,14 @@
 //! The command line that `tn` takes, as `clap` reads it.
 
-ghost use Rattle.std.specs.Prelude.{◌≡◌, false, IfOk, codes, pos};
-ghost use Rattle.tn_words.specs.Commands.{tn, alone, offline, plain, serve, connect, whole_rule};
-ghost use Rattle.tn_words.specs.Growing.{Grown};
-ghost use Rattle.tn_words.specs.Commands.{with_default, flag_rule};
-ghost use Rattle.tn_words.specs.Commands.{host_rule, line_rule, maybe_port_rule, number_rule, place_rule};
-ghost use Rattle.tn_words.specs.Commands.{port_rule, text_rule, wait_rule};
-ghost use Rattle.clap.specs.Words.{app_of, new_app, rule_of, shape_of, with_rule, with_subcommand};
+ghost use Rattle.std.specs.Prelude.{◌≡◌, Bool, false, IfOk, codes, pos};
+ghost use Rattle.clap.specs.Words.{App, app_of, new_app, rule_of, with_rule, with_subcommand};
 ghost use Rattle.clap.specs.declared.builder.command.Command.TheViews.{out-Command};
 ghost use Rattle.clap.specs.declared.builder.value_parser.ValueParser.TheVariants as parser;
+ghost use Rattle.tn_words.specs.Choices.{rule_of_choice, with_choices};
+ghost use Rattle.tn_words.specs.Commands.{tn, alone, offline, plain, serve, connect, whole_rule};
+ghost use Rattle.tn_words.specs.Commands.{with_default, flag_rule};
+ghost use Rattle.tn_words.specs.Commands.{host_rule, maybe_port_rule, number_rule, place_rule};
+ghost use Rattle.tn_words.specs.Commands.{port_rule, text_rule, wait_rule};
 
 use clap::builder::ValueParser;
 use clap::{Arg, ArgAction, Command, value_parser};
@@ -150,47 +150,207 @@ const VERSION: &str = "1.2.0";
 /// What `tn --version` prints.
 pub const VERSION_LINE: &str = "tn 1.2.0\n";
 
-// A command that gets its arguments one by one, until memory is short.
-#[derive(Drop)]
-struct Growing<'a> {
-    command: Result<Command<'a>, AllocError>,
+/// An option of a subcommand, or a place for a word without a name before it.
+#[derive(Clone, Copy)]
+enum Choice {
+    /// An option without a value: its name and its help text.
+    Flag(&'static str, &'static str),
+    /// An option that takes a text: its name, the name of its value, and its help text.
+    Text(&'static str, &'static str, &'static str),
+    /// An option for a number that need not be given, with its help text.
+    Number(Whole, &'static str),
+    /// One with a default value, and its help text.
+    Default(Whole, &'static str, &'static str),
+    /// The address to listen on.
+    Host,
+    /// The port to listen on.
+    RequiredPort,
+    /// The place of the host to connect to.
+    HostPlace,
+    /// The place of the port behind it.
+    PortPlace,
+    /// The port to connect to.
+    Port,
+    /// How long to wait at the end of the keys.
+    Wait,
 }
 
-impl<'a> Growing<'a> {
-    fn arg(self, arg: Arg<'a>) -> Growing<'a>
-        ensures grown { arg.entry.global ≡ false
-            → Grown self.entry result (λ app. with_rule app (rule_of arg.entry)) }
-    {
-        match self.command {
-            Ok(command) => Growing {
-                command: command.arg(arg),
-            },
-            Err(error) => {
-                // Dropped by a call: field by field takes the prover long.
-                drop(arg);
-                Growing {
-                    command: Err(error),
-                }
-            },
-        }
+/// How long a line may be.
+const LINE_LENGTH: Choice = Choice::Default(
+    LINE,
+    "255",
+    "How many bytes a line may have, with its closing byte",
+);
+
+/// The options of `tn serve`.
+const SERVE_CHOICES: &[Choice] = &[
+    Choice::Host,
+    Choice::RequiredPort,
+    Choice::Default(LIMIT, "8", "How many sessions there may be at once"),
+    Choice::Default(
+        PER_HOST,
+        "64",
+        "How many of them there may be from one address",
+    ),
+    Choice::Number(
+        COUNT,
+        "Ends after this many accepted connections; default: 1",
+    ),
+    Choice::Flag(FOREVER, "Serves until it is stopped, in place of a count"),
+    Choice::Text(
+        UNTIL,
+        "FILE",
+        "Accepts no more once this file is there, lets its sessions end, and ends with status 0",
+    ),
+    Choice::Default(
+        TICKS,
+        "0",
+        "How often a job in the background writes `tick`",
+    ),
+    LINE_LENGTH,
+    Choice::Default(
+        IDLE,
+        "0",
+        "Ends a session whose client types nothing for this many seconds; 0 never does",
+    ),
+    Choice::Default(
+        LONGEST,
+        "0",
+        "Ends each session after this many seconds; 0 never does",
+    ),
+    Choice::Flag(LOCALLY, "Lets the client edit the lines, where it can"),
+    Choice::Flag(
+        VERBOSE,
+        "Notes on standard error who connects and how each session ends",
+    ),
+    Choice::Text(
+        TO,
+        "HOST:PORT",
+        "Joins each session to the line service there: lines go to it, and what it says comes back",
+    ),
+    Choice::Flag(
+        CRLF,
+        "Ends each line to that service with CR LF in place of LF",
+    ),
+    Choice::Flag(CR, "Ends each line to that service with CR in place of LF"),
+    Choice::Text(
+        LINE_CUT,
+        "WHAT",
+        "With a line as long as one may be, which may have been cut: `send` it, which is the default, or \
+         `end` the session",
+    ),
+];
+
+/// The places and the options of `tn connect`.
+const CONNECT_CHOICES: &[Choice] = &[
+    Choice::HostPlace,
+    Choice::PortPlace,
+    Choice::Port,
+    Choice::Number(
+        WIDTH,
+        "The width of the window, in characters; 0 tells none; default: the terminal's, or 80",
+    ),
+    Choice::Number(
+        HEIGHT,
+        "The height of the window, in lines; 0 tells none; default: the terminal's, or 24",
+    ),
+    LINE_LENGTH,
+    Choice::Text(
+        ESCAPE,
+        "C",
+        "The key that speaks to the client itself at a terminal: a caret and one of A to Z, [, \\, ], ^ \
+         and _, or `none`; default: ^]",
+    ),
+    Choice::Text(
+        KEYS,
+        "WHOSE",
+        "Takes the keys of a terminal by its `own` special characters, which is the default, or by the \
+         `standard` ones",
+    ),
+    Choice::Text(
+        TRACE,
+        "FILE",
+        "Writes to this file what goes over the connection",
+    ),
+    Choice::Wait,
+    Choice::Flag(
+        QUIET,
+        "Tells nothing of the connection at a terminal, but what fails",
+    ),
+    Choice::Flag(
+        PLAIN,
+        "Edits lines here, and sends each with CR LF, without Telnet",
+    ),
+    Choice::Flag(LF, "With --plain: ends each line with LF"),
+    Choice::Flag(CR, "With --plain: ends each line with CR"),
+];
+
+/// A command that gets its options and its subcommands one by one. The functions that list them take any such:
+/// where a `Command` itself is at hand, the prover writes out all of its fields at each step.
+trait Grow: Drop {
+    // What a parse reads of it.
+    ghost app: { Self → App };
+
+    // Whether it has an argument that its subcommands have too.
+    ghost has_globals: { Self → Bool };
+
+    /// The command without its subcommands.
+    fn bare(alloc: Global) -> Self
+        ensures { app result ≡ alone };
+
+    /// A subcommand without options, with its help texts.
+    fn described(
+        alloc: Global,
+        name: &'static str,
+        about: &'static str,
+        long: &'static str,
+        after: &'static str,
+    ) -> Self
+        ensures app { app result ≡ new_app name.now }
+        ensures local { has_globals result ≡ false };
+
+    fn with_choice(self, alloc: Global, choice: Choice) -> Result<Self, AllocError>
+        requires { has_globals self ≡ false }
+        ensures app { IfOk result (λ r. app r ≡ with_rule (app self) (rule_of_choice choice)) }
+        ensures local { IfOk result (λ r. has_globals r ≡ false) };
+
+    fn with_subcommand(self, subcommand: Self) -> Result<Self, AllocError>
+        requires { has_globals subcommand ≡ false }
+        ensures { IfOk result (λ r. app r ≡ with_subcommand (app self) (app subcommand).top) };
+}
+
+impl<'a> Grow for Command<'a> {
+    ghost app = { app_of };
+
+    ghost has_globals = { λ command. (out-Command command).has_globals };
+
+    fn bare(alloc: Global) -> Command<'a> {
+        Command::new(alloc, "tn")
+            .version(VERSION)
+            .about("Telnet with LINEMODE: a line means the same wherever it was edited")
+            .after_help("Example:\n  printf 'ab\\177c\\r' | tn local")
+            .subcommand_required(true)
     }
 
-    fn subcommand(self, subcommand: Command<'a>) -> Growing<'a>
-        ensures grown { (out-Command subcommand.entry).has_globals ≡ false
-            → Grown self.entry result (λ app. with_subcommand app (shape_of subcommand.entry)) }
-    {
-        match self.command {
-            Ok(command) => Growing {
-                command: command.subcommand(subcommand),
-            },
-            Err(error) => {
-                // Dropped by a call: field by field takes the prover long.
-                drop(subcommand);
-                Growing {
-                    command: Err(error),
-                }
-            },
-        }
+    fn described(
+        alloc: Global,
+        name: &'static str,
+        about: &'static str,
+        long: &'static str,
+        after: &'static str,
+    ) -> Command<'a> {
+        Command::new(alloc, name)
+            .about(about)
+            .long_about(long)
+            .after_help(after)
+    }
+
+    fn with_choice(self, alloc: Global, choice: Choice) -> Result<Command<'a>, AllocError> {
+        self.arg(choice_arg(alloc, choice))
+    }
+
+    fn with_subcommand(self, subcommand: Command<'a>) -> Result<Command<'a>, AllocError> {
+        self.subcommand(subcommand)
     }
 }
 
@@ -198,44 +358,35 @@ impl<'a> Growing<'a> {
 pub(crate) fn tn_command<'a>(alloc: Global) -> Result<Command<'a>, AllocError>
     ensures { IfOk result (λ command. app_of command ≡ tn) }
 {
+    whole_command(alloc)
+}
+
+fn whole_command<C: Grow>(alloc: Global) -> Result<C, AllocError>
+    ensures { IfOk result (λ r. C.app r ≡ tn) }
+{
     let serve = serve_command(alloc)?;
     let connect = connect_command(alloc)?;
-    offline_command(alloc)
-        .subcommand(serve)
-        .subcommand(connect)
-        .command
+    offline_command::<C>(alloc)?
+        .with_subcommand(serve)?
+        .with_subcommand(connect)
 }
 
 // The subcommands that need no network.
-fn offline_command<'a>(alloc: Global) -> Growing<'a>
-    ensures { IfOk result.command (λ command. app_of command ≡ offline) }
+fn offline_command<C: Grow>(alloc: Global) -> Result<C, AllocError>
+    ensures { IfOk result (λ r. C.app r ≡ offline) }
 {
-    let command = Growing {
-        command: Ok(bare_command(alloc)),
-    };
-    command
-        .subcommand(local_command(alloc))
-        .subcommand(replay_command(alloc))
-        .subcommand(decode_command(alloc))
-        .subcommand(world_command(alloc))
+    C::bare(alloc)
+        .with_subcommand(local_command(alloc))?
+        .with_subcommand(replay_command(alloc))?
+        .with_subcommand(decode_command(alloc))?
+        .with_subcommand(world_command(alloc))
 }
 
-// The command without its subcommands.
-fn bare_command<'a>(alloc: Global) -> Command<'a>
-    ensures { app_of result ≡ alone }
+fn local_command<C: Grow>(alloc: Global) -> C
+    ensures shape { (C.app result).top ≡ plain (codes "local") }
+    ensures local { C.has_globals result ≡ false }
 {
-    Command::new(alloc, "tn")
-        .version(VERSION)
-        .about("Telnet with LINEMODE: a line means the same wherever it was edited")
-        .after_help("Example:\n  printf 'ab\\177c\\r' | tn local")
-        .subcommand_required(true)
-}
-
-fn local_command<'a>(alloc: Global) -> Command<'a>
-    ensures shape { shape_of result ≡ plain (codes "local") }
-    ensures local { (out-Command result).has_globals ≡ false }
-{
-    described(
+    C::described(
         alloc,
         LOCAL,
         "Reads typed keys, and prints the entries that they give",
@@ -247,11 +398,11 @@ fn local_command<'a>(alloc: Global) -> Command<'a>
     )
 }
 
-fn replay_command<'a>(alloc: Global) -> Command<'a>
-    ensures shape { shape_of result ≡ plain (codes "replay") }
-    ensures local { (out-Command result).has_globals ≡ false }
+fn replay_command<C: Grow>(alloc: Global) -> C
+    ensures shape { (C.app result).top ≡ plain (codes "replay") }
+    ensures local { C.has_globals result ≡ false }
 {
-    described(
+    C::described(
         alloc,
         REPLAY,
         "Reads a Telnet client's byte stream, and prints the entries that its keys give",
@@ -262,11 +413,11 @@ fn replay_command<'a>(alloc: Global) -> Command<'a>
     )
 }
 
-fn decode_command<'a>(alloc: Global) -> Command<'a>
-    ensures shape { shape_of result ≡ plain (codes "decode") }
-    ensures local { (out-Command result).has_globals ≡ false }
+fn decode_command<C: Grow>(alloc: Global) -> C
+    ensures shape { (C.app result).top ≡ plain (codes "decode") }
+    ensures local { C.has_globals result ≡ false }
 {
-    described(
+    C::described(
         alloc,
         DECODE,
         "Reads one direction of a Telnet byte stream, and prints its items",
@@ -277,11 +428,11 @@ fn decode_command<'a>(alloc: Global) -> Command<'a>
     )
 }
 
-fn world_command<'a>(alloc: Global) -> Command<'a>
-    ensures shape { shape_of result ≡ plain (codes "world") }
-    ensures local { (out-Command result).has_globals ≡ false }
+fn world_command<C: Grow>(alloc: Global) -> C
+    ensures shape { (C.app result).top ≡ plain (codes "world") }
+    ensures local { C.has_globals result ≡ false }
 {
-    described(
+    C::described(
         alloc,
         WORLD,
         "Does a script of what happens at a Telnet server, at its client and between them",
@@ -309,11 +460,11 @@ fn world_command<'a>(alloc: Global) -> Command<'a>
     )
 }
 
-fn serve_command<'a>(alloc: Global) -> Result<Command<'a>, AllocError>
-    ensures shape { IfOk result (λ command. shape_of command ≡ serve) }
-    ensures local { IfOk result (λ command. (out-Command command).has_globals ≡ false) }
+fn serve_command<C: Grow>(alloc: Global) -> Result<C, AllocError>
+    ensures shape { IfOk result (λ r. (C.app r).top ≡ serve) }
+    ensures local { IfOk result (λ r. C.has_globals r ≡ false) }
 {
-    let command = described(
+    let command = C::described(
         alloc,
         SERVE,
         "Serves Telnet with LINEMODE to this machine, and writes each line back",
@@ -328,126 +479,14 @@ fn serve_command<'a>(alloc: Global) -> Result<Command<'a>, AllocError>
         "Example:\n  tn serve --port 2323 --count 2\n\nAnd in another terminal, one after the other:\n  \
          tn connect --port 2323\n  telnet 127.0.0.1 2323",
     );
-    let command = with_server_options(
-        alloc,
-        Growing {
-            command: Ok(command),
-        },
-    );
-    let command = with_session_options(alloc, command);
-    with_gateway_options(alloc, command).command
+    with_choices(alloc, command, SERVE_CHOICES)
 }
 
-fn with_server_options<'a>(alloc: Global, command: Growing<'a>) -> Growing<'a>
-    ensures { Grown command.entry result (λ app. with_rule (with_rule (with_rule (with_rule (with_rule
-        (with_rule (with_rule app host_rule) port_rule)
-        (with_default (whole_rule (codes "limit") 1 64) (codes "8")))
-        (with_default (whole_rule (codes "per-host") 1 64) (codes "64")))
-        (whole_rule (codes "count") 1 1000000)) (flag_rule (codes "forever"))) (text_rule (codes "until"))) }
+fn connect_command<C: Grow>(alloc: Global) -> Result<C, AllocError>
+    ensures shape { IfOk result (λ r. (C.app r).top ≡ connect) }
+    ensures local { IfOk result (λ r. C.has_globals r ≡ false) }
 {
-    command
-        .arg(host_option(alloc))
-        .arg(required_port(alloc, "The port to listen on"))
-        .arg(whole_option(alloc, LIMIT, "8", "How many sessions there may be at once"))
-        .arg(whole_option(
-            alloc,
-            PER_HOST,
-            "64",
-            "How many of them there may be from one address",
-        ))
-        .arg(optional_number(
-            alloc,
-            COUNT,
-            "Ends after this many accepted connections; default: 1",
-        ))
-        .arg(flag_option(
-            alloc,
-            FOREVER,
-            "Serves until it is stopped, in place of a count",
-        ))
-        .arg(text_option(
-            alloc,
-            UNTIL,
-            "FILE",
-            "Accepts no more once this file is there, lets its sessions end, and ends with status 0",
-        ))
-}
-
-fn with_session_options<'a>(alloc: Global, command: Growing<'a>) -> Growing<'a>
-    ensures { Grown command.entry result (λ app. with_rule (with_rule (with_rule (with_rule (with_rule
-        (with_rule app (with_default (whole_rule (codes "ticks") 0 1000) (codes "0"))) line_rule)
-        (with_default (whole_rule (codes "idle") 0 86400) (codes "0")))
-        (with_default (whole_rule (codes "longest") 0 86400) (codes "0"))) (flag_rule (codes "local")))
-        (flag_rule (codes "verbose"))) }
-{
-    command
-        .arg(whole_option(
-            alloc,
-            TICKS,
-            "0",
-            "How often a job in the background writes `tick`",
-        ))
-        .arg(line_option(alloc))
-        .arg(whole_option(
-            alloc,
-            IDLE,
-            "0",
-            "Ends a session whose client types nothing for this many seconds; 0 never does",
-        ))
-        .arg(whole_option(
-            alloc,
-            LONGEST,
-            "0",
-            "Ends each session after this many seconds; 0 never does",
-        ))
-        .arg(flag_option(
-            alloc,
-            LOCALLY,
-            "Lets the client edit the lines, where it can",
-        ))
-        .arg(flag_option(
-            alloc,
-            VERBOSE,
-            "Notes on standard error who connects and how each session ends",
-        ))
-}
-
-fn with_gateway_options<'a>(alloc: Global, command: Growing<'a>) -> Growing<'a>
-    ensures { Grown command.entry result (λ app. with_rule (with_rule (with_rule (with_rule app
-        (text_rule (codes "to"))) (flag_rule (codes "crlf"))) (flag_rule (codes "cr")))
-        (text_rule (codes "line-cut"))) }
-{
-    command
-        .arg(text_option(
-            alloc,
-            TO,
-            "HOST:PORT",
-            "Joins each session to the line service there: lines go to it, and what it says comes back",
-        ))
-        .arg(flag_option(
-            alloc,
-            CRLF,
-            "Ends each line to that service with CR LF in place of LF",
-        ))
-        .arg(flag_option(
-            alloc,
-            CR,
-            "Ends each line to that service with CR in place of LF",
-        ))
-        .arg(text_option(
-            alloc,
-            LINE_CUT,
-            "WHAT",
-            "With a line as long as one may be, which may have been cut: `send` it, which is the default, or \
-             `end` the session",
-        ))
-}
-
-fn connect_command<'a>(alloc: Global) -> Result<Command<'a>, AllocError>
-    ensures shape { IfOk result (λ command. shape_of command ≡ connect) }
-    ensures local { IfOk result (λ command. (out-Command command).has_globals ≡ false) }
-{
-    let command = described(
+    let command = C::described(
         alloc,
         CONNECT,
         "Joins a Telnet server, as a client with LINEMODE",
@@ -462,106 +501,42 @@ fn connect_command<'a>(alloc: Global) -> Result<Command<'a>, AllocError>
         "Example, where `tn serve --port 2323` runs in another terminal:\n  \
          printf 'hello\\rexit\\r' | tn connect --port 2323",
     );
-    let command = with_places(
-        alloc,
-        Growing {
-            command: Ok(command),
-        },
-    );
-    let command = with_window_options(alloc, command);
-    let command = with_terminal_options(alloc, command);
-    with_plain_options(alloc, command).command
+    with_choices(alloc, command, CONNECT_CHOICES)
 }
 
-// Where to connect to.
-fn with_places<'a>(alloc: Global, command: Growing<'a>) -> Growing<'a>
-    ensures { Grown command.entry result (λ app. with_rule (with_rule (with_rule
-        app (place_rule (codes "host"))) (number_rule (codes "at") 1 65535)) maybe_port_rule) }
+// The command with these choices.
+fn with_choices<C: Grow>(alloc: Global, command: C, choices: &[Choice]) -> Result<C, AllocError>
+    requires { C.has_globals command ≡ false }
+    ensures app { IfOk result (λ r. C.app r ≡ with_choices (C.app command) choices.now) }
+    ensures local { IfOk result (λ r. C.has_globals r ≡ false) }
 {
-    command
-        .arg(host_place(alloc))
-        .arg(port_place(alloc))
-        .arg(port_option(
+    let mut command = command;
+    for choice in choices {
+        command = command.with_choice(alloc, *choice)?;
+    }
+    Ok(command)
+}
+
+// The argument by which the parser knows a choice.
+fn choice_arg<'a>(alloc: Global, choice: Choice) -> Arg<'a>
+    ensures rule { rule_of result ≡ rule_of_choice choice }
+    ensures local { result.global ≡ false }
+{
+    match choice {
+        Choice::Flag(name, help) => flag_option(alloc, name, help),
+        Choice::Text(name, value_name, help) => text_option(alloc, name, value_name, help),
+        Choice::Number(whole, help) => optional_number(alloc, whole, help),
+        Choice::Default(whole, default, help) => whole_option(alloc, whole, default, help),
+        Choice::Host => host_option(alloc),
+        Choice::RequiredPort => required_port(alloc, "The port to listen on"),
+        Choice::HostPlace => host_place(alloc),
+        Choice::PortPlace => port_place(alloc),
+        Choice::Port => port_option(
             alloc,
             "The port, in place of the one behind HOST or within it",
-        ))
-}
-
-fn with_window_options<'a>(alloc: Global, command: Growing<'a>) -> Growing<'a>
-    ensures { Grown command.entry result (λ app. with_rule (with_rule (with_rule app
-        (whole_rule (codes "width") 0 65535)) (whole_rule (codes "height") 0 65535)) line_rule) }
-{
-    command
-        .arg(optional_number(
-            alloc,
-            WIDTH,
-            "The width of the window, in characters; 0 tells none; default: the terminal's, or 80",
-        ))
-        .arg(optional_number(
-            alloc,
-            HEIGHT,
-            "The height of the window, in lines; 0 tells none; default: the terminal's, or 24",
-        ))
-        .arg(line_option(alloc))
-}
-
-fn with_terminal_options<'a>(alloc: Global, command: Growing<'a>) -> Growing<'a>
-    ensures { Grown command.entry result (λ app. with_rule (with_rule (with_rule (with_rule (with_rule
-        app (text_rule (codes "escape"))) (text_rule (codes "keys")))
-        (text_rule (codes "trace"))) wait_rule) (flag_rule (codes "quiet"))) }
-{
-    command
-        .arg(escape_option(alloc))
-        .arg(text_option(
-            alloc,
-            KEYS,
-            "WHOSE",
-            "Takes the keys of a terminal by its `own` special characters, which is the default, or by the \
-             `standard` ones",
-        ))
-        .arg(text_option(
-            alloc,
-            TRACE,
-            "FILE",
-            "Writes to this file what goes over the connection",
-        ))
-        .arg(wait_option(alloc))
-        .arg(flag_option(
-            alloc,
-            QUIET,
-            "Tells nothing of the connection at a terminal, but what fails",
-        ))
-}
-
-fn with_plain_options<'a>(alloc: Global, command: Growing<'a>) -> Growing<'a>
-    ensures { Grown command.entry result (λ app. with_rule (with_rule (with_rule app
-        (flag_rule (codes "plain"))) (flag_rule (codes "lf"))) (flag_rule (codes "cr"))) }
-{
-    command
-        .arg(flag_option(
-            alloc,
-            PLAIN,
-            "Edits lines here, and sends each with CR LF, without Telnet",
-        ))
-        .arg(flag_option(alloc, LF, "With --plain: ends each line with LF"))
-        .arg(flag_option(alloc, CR, "With --plain: ends each line with CR"))
-}
-
-// A subcommand without options, with its help texts.
-fn described<'a>(
-    alloc: Global,
-    name: &'static str,
-    about: &'static str,
-    long: &'static str,
-    after: &'static str,
-) -> Command<'a>
-    ensures app { app_of result ≡ new_app name.now }
-    ensures local { (out-Command result).has_globals ≡ false }
-{
-    Command::new(alloc, name)
-        .about(about)
-        .long_about(long)
-        .after_help(after)
+        ),
+        Choice::Wait => wait_option(alloc),
+    }
 }
 
 // An argument that takes a whole number.
@@ -691,31 +666,6 @@ fn port_place<'a>(alloc: Global) -> Arg<'a>
 {
     number_place(alloc, AT).value_name("PORT").help(
         "The port to connect to, which is 23 where a HOST is given and no port",
-    )
-}
-
-fn escape_option<'a>(alloc: Global) -> Arg<'a>
-    ensures rule { rule_of result ≡ text_rule (codes "escape") }
-    ensures local { result.global ≡ false }
-{
-    text_option(
-        alloc,
-        ESCAPE,
-        "C",
-        "The key that speaks to the client itself at a terminal: a caret and one of A to Z, [, \\, ], ^ \
-         and _, or `none`; default: ^]",
-    )
-}
-
-fn line_option<'a>(alloc: Global) -> Arg<'a>
-    ensures rule { rule_of result ≡ line_rule }
-    ensures local { result.global ≡ false }
-{
-    whole_option(
-        alloc,
-        LINE,
-        "255",
-        "How many bytes a line may have, with its closing byte",
     )
 }
 

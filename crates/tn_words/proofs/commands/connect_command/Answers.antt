@@ -1,9 +1,0 @@
-use Rattle.tn_words.proofs.Commanding.{shape_from, then_more}
-use Rattle.tn_words.proofs.commands.connect_command.Goals as goal
-
-pub returns : goal.returns
-returns c =
-    let grown = then_more
-    (then_more (then_more c.with_places-command.ensures c.with_window_options-command.ensures) c.with_terminal_options-command.ensures)
-    c.with_plain_options.ensures in
-    record { shape = shape_from _ grown c.described-command.ensures.app; local = grown.local c.described-command.ensures.local }
