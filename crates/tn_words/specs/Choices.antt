@@ -1,8 +1,8 @@
 -- The rules of the options and places in the tables of `commands`.
 use Rattle.std.specs.Prelude.{List, codes, fold}
 use Rattle.clap.specs.Words.{App, Rule, with_rule}
-use Rattle.tn_words.specs.Commands.{flag_rule, host_rule, maybe_port_rule, number_rule, place_rule, port_rule}
-use Rattle.tn_words.specs.Commands.{text_rule, wait_rule, whole_rule, with_default}
+use Rattle.tn_words.specs.Commands.{flag_rule, host_rule, maybe_port_rule, number_rule, place_rule}
+use Rattle.tn_words.specs.Commands.{port_rule, text_rule, wait_rule, whole_rule, with_default}
 use Rattle.tn_words.specs.declared.commands.Choice.{Choice}
 use Rattle.tn_words.specs.declared.commands.Choice.TheVariants.{Default, Flag, Host, HostPlace, Number, Port}
 use Rattle.tn_words.specs.declared.commands.Choice.TheVariants.{PortPlace, RequiredPort, Text, Wait}
@@ -12,7 +12,8 @@ abbrev pub rule_of_choice : Choice → Rule
 rule_of_choice (Flag name _) = flag_rule name.now
 rule_of_choice (Text name _ _) = text_rule name.now
 rule_of_choice (Number whole _) = whole_rule whole.name.now whole.least whole.most
-rule_of_choice (Default whole text _) = with_default (whole_rule whole.name.now whole.least whole.most) text.now
+rule_of_choice (Default whole text _)
+    = with_default (whole_rule whole.name.now whole.least whole.most) text.now
 rule_of_choice Host = host_rule
 rule_of_choice RequiredPort = port_rule
 rule_of_choice HostPlace = place_rule (codes "host")

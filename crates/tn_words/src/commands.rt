@@ -285,8 +285,8 @@ const CONNECT_CHOICES: &[Choice] = &[
     Choice::Flag(CR, "With --plain: ends each line with CR"),
 ];
 
-/// A command that gets its options and its subcommands one by one. The functions that list them take any such:
-/// where a `Command` itself is at hand, the prover writes out all of its fields at each step.
+/// A command that gets its options and its subcommands one by one. The functions that list them take any
+/// such: where a `Command` itself is at hand, the prover writes out all of its fields at each step.
 trait Grow: Drop {
     // What a parse reads of it.
     ghost app: { Self → App };

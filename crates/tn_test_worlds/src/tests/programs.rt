@@ -5,27 +5,11 @@ ghost use Rattle.std.specs.Io.{ReadsAtMost, WritesAtMost};
 ghost use Rattle.std.specs.Io.KnownBytes.{ReadConsumes, WriteAppends};
 ghost use Rattle.tn_streams.specs.Counting.{told_by};
 
-use std::alloc::{AllocError, Global};
+use std::alloc::Global;
 use std::io::{self, ErrorKind, Read};
 use std::process::Abort;
-use std::test::Fail;
-use tn_cli::{
-    Address, Asked, Characters, CliFault, ConnectWords, Escape, ServeWords, WordsFault, read_words,
-    run_local, run_replay,
-};
-use tn_discipline::Limit;
-use tn_lines::LineEnd;
+use tn_cli::{Asked, CliFault, WordsFault, read_words, run_local, run_replay};
 use tn_streams::{Drain, Source, Tally, nothing_to_say};
-
-// What the words of a line ask for. Want of memory is an ordinary answer, and help is asked for elsewhere.
-fn is_told(read: &Result<Asked, WordsFault>, wanted: Option<&Asked>) -> bool {
-    match read {
-        Ok(asked) => wanted == Some(asked),
-        Err(WordsFault::Usage(_)) => wanted.is_none(),
-        Err(WordsFault::Memory) => true,
-        Err(WordsFault::Help(_) | WordsFault::Version) => false,
-    }
-}
 
 fn read_line(alloc: Global, line: &str) -> Result<Asked, WordsFault> {
     let mut words = Vec::new(alloc);
@@ -37,172 +21,83 @@ fn read_line(alloc: Global, line: &str) -> Result<Asked, WordsFault> {
     read_words(alloc, &words)
 }
 
-fn asks(rt: &impl Abort, alloc: Global, line: &str, wanted: Option<Asked>) {
-    let told = is_told(&read_line(alloc, line), wanted.as_ref());
-    assert!(rt; told, "{line}");
-}
-
-#[test]
-fn words_ask_for_runs(rt: HostRuntime) {
-    let alloc = rt.alloc();
-    asks(&rt, alloc, "tn local", Some(Asked::Local));
-    asks(&rt, alloc, "tn replay", Some(Asked::Replay));
-    asks(&rt, alloc, "tn decode", Some(Asked::Decode));
-    asks(&rt, alloc, "tn world", Some(Asked::World));
-}
-
-#[test]
-fn words_ask_for_a_server(rt: HostRuntime) -> Result<(), Fail> {
-    let asked = Asked::Serve(ServeWords {
-        host: String::from_str(rt.alloc(), "127.0.0.1")?,
-        port: 2323,
-        sessions: 8,
-        per_host: 64,
-        count: Some(1),
-        until: None,
-        ticks: 0,
-        line_limit: Limit::standard(),
-        idle: 0,
-        longest: 0,
-        local: false,
-        verbose: false,
-        to: None,
-        line_end: LineEnd::Lf,
-        ends_cut: false,
-    });
-    asks(&rt, rt.alloc(), "tn serve --port 2323", Some(asked));
-    Ok(())
-}
-
-#[test]
-fn words_ask_for_all_of_a_server(rt: HostRuntime) -> Result<(), Fail> {
-    let asked = Asked::Serve(ServeWords {
-        host: String::from_str(rt.alloc(), "::1")?,
-        port: 2323,
-        sessions: 64,
-        per_host: 2,
-        count: Some(1_000_000),
-        until: Some(String::from_str(rt.alloc(), "/run/end")?),
-        ticks: 1_000,
-        line_limit: Limit::new(4_095).unwrap_or(Limit::standard()),
-        idle: 86_400,
-        longest: 3_600,
-        local: true,
-        verbose: true,
-        to: Some(Address {
-            host: String::from_str(rt.alloc(), "::1")?,
-            port: 7,
-        }),
-        line_end: LineEnd::CrLf,
-        ends_cut: true,
-    });
-    let line =
-        "tn serve --limit=64 --count 1000000 --ticks=1000 --host ::1 --line 4095 --idle 86400 --until /run/end \
-                --per-host 2 --longest=3600 --local --verbose --port=2323 --to [::1]:7 --crlf --line-cut end";
-    asks(&rt, rt.alloc(), line, Some(asked));
-    Ok(())
-}
-
-#[test]
-fn words_ask_for_a_server_without_end(rt: HostRuntime) -> Result<(), Fail> {
-    let asked = Asked::Serve(ServeWords {
-        host: String::from_str(rt.alloc(), "127.0.0.1")?,
-        port: 7,
-        sessions: 8,
-        per_host: 64,
-        count: None,
-        until: None,
-        ticks: 0,
-        line_limit: Limit::standard(),
-        idle: 0,
-        longest: 0,
-        local: false,
-        verbose: false,
-        to: Some(Address {
-            host: String::from_str(rt.alloc(), "h")?,
-            port: 7,
-        }),
-        line_end: LineEnd::Cr,
-        ends_cut: false,
-    });
-    let line = "tn serve --forever -p 7 --cr --to h:7 --line-cut=send";
-    asks(&rt, rt.alloc(), line, Some(asked));
-    Ok(())
-}
-
-// A connection to port 7 of a host, without any option.
-fn connecting(alloc: Global, host: &str) -> Result<ConnectWords, AllocError> {
-    Ok(ConnectWords {
-        host: String::from_str(alloc, host)?,
-        port: 7,
-        width: None,
-        height: None,
-        line_limit: Limit::standard(),
-        escape: Escape::Key(29),
-        characters: Characters::Own,
-        trace: None,
-        wait: 0,
-        quiet: false,
-        plain: None,
-    })
-}
-
-#[test]
-fn words_ask_for_a_connection(rt: HostRuntime) -> Result<(), Fail> {
-    let alloc = rt.alloc();
-    let plain = connecting(alloc, "127.0.0.1")?;
-    asks(
-        &rt,
-        alloc,
-        "tn connect --port 7",
-        Some(Asked::Connect(plain)),
-    );
-    let mut wide = connecting(alloc, "127.0.0.1")?;
-    wide.width = Some(65_535);
-    wide.height = Some(0);
-    wide.escape = Escape::Key(1);
-    wide.characters = Characters::Standard;
-    wide.wait = 86_400;
-    wide.quiet = true;
-    let line =
-        "tn connect -p7 --width 65535 --height 0 --escape ^a -q 86400 --quiet --keys standard";
-    asks(&rt, alloc, line, Some(Asked::Connect(wide)));
-    Ok(())
-}
-
-#[test]
-fn words_ask_for_a_host(rt: HostRuntime) -> Result<(), Fail> {
-    let alloc = rt.alloc();
-    let mut named = connecting(alloc, "example.org")?;
-    named.port = 23;
-    asks(
-        &rt,
-        alloc,
-        "tn connect example.org",
-        Some(Asked::Connect(named)),
-    );
-    let trace = String::from_str(alloc, "a/b")?;
-    let mut whole = connecting(alloc, "::1")?;
-    whole.escape = Escape::None;
-    whole.trace = Some(trace);
-    let line = "tn connect --escape none --port 7 ::1 --trace a/b";
-    asks(&rt, alloc, line, Some(Asked::Connect(whole)));
-    Ok(())
-}
-
-#[test]
-fn words_ask_for_a_port_in_four_places(rt: HostRuntime) -> Result<(), Fail> {
-    let alloc = rt.alloc();
-    for line in &[
-        "tn connect 127.0.0.1 7",
-        "tn connect 127.0.0.1:7",
-        "tn connect [127.0.0.1]:7",
-        "tn connect [127.0.0.1] -p 7",
-    ] {
-        let plain = connecting(alloc, "127.0.0.1")?;
-        asks(&rt, alloc, line, Some(Asked::Connect(plain)));
+// Whether the line asks for what is printed so. Want of memory is an ordinary answer.
+fn asks(alloc: Global, line: &str, wanted: &str) -> bool {
+    match read_line(alloc, line) {
+        Ok(asked) => is_printed(alloc, &asked, wanted),
+        Err(fault) => matches!(fault, WordsFault::Memory),
     }
-    Ok(())
+}
+
+fn is_printed(alloc: Global, asked: &Asked, wanted: &str) -> bool {
+    match format!(in alloc; "{asked:?}") {
+        Ok(text) => text.as_str() == wanted,
+        Err(_) => true,
+    }
+}
+
+/// Lines, with what each asks for.
+const ASKED: &[(&str, &str)] = &[
+    ("tn local", "Local"),
+    ("tn replay", "Replay"),
+    ("tn decode", "Decode"),
+    ("tn world", "World"),
+    (
+        "tn serve --port 2323",
+        "Serve(ServeWords { host: \"127.0.0.1\", port: 2323, sessions: 8, per_host: 64, count: Some(1), \
+         until: None, ticks: 0, line_limit: Limit { bytes: 255 }, idle: 0, longest: 0, local: false, verbose: false, \
+         to: None, line_end: Lf, ends_cut: false })",
+    ),
+    (
+        "tn serve --limit=64 --count 1000000 --ticks=1000 --host ::1 --line 4095 --idle 86400 \
+         --until /run/end --per-host 2 --longest=3600 --local --verbose --port=2323 --to [::1]:7 --crlf \
+         --line-cut end",
+        "Serve(ServeWords { host: \"::1\", port: 2323, sessions: 64, per_host: 2, count: Some(1000000), \
+         until: Some(\"/run/end\"), ticks: 1000, line_limit: Limit { bytes: 4095 }, idle: 86400, longest: 3600, \
+         local: true, verbose: true, to: Some(Address { host: \"::1\", port: 7 }), line_end: CrLf, \
+         ends_cut: true })",
+    ),
+    (
+        "tn serve --forever -p 7 --cr --to h:7 --line-cut=send",
+        "Serve(ServeWords { host: \"127.0.0.1\", port: 7, sessions: 8, per_host: 64, count: None, \
+         until: None, ticks: 0, line_limit: Limit { bytes: 255 }, idle: 0, longest: 0, local: false, verbose: false, \
+         to: Some(Address { host: \"h\", port: 7 }), line_end: Cr, ends_cut: false })",
+    ),
+    (
+        "tn connect -p7 --width 65535 --height 0 --escape ^a -q 86400 --quiet --keys standard",
+        "Connect(ConnectWords { host: \"127.0.0.1\", port: 7, width: Some(65535), height: Some(0), \
+         line_limit: Limit { bytes: 255 }, escape: Key(1), characters: Standard, trace: None, wait: 86400, \
+         quiet: true, plain: None })",
+    ),
+    (
+        "tn connect example.org",
+        "Connect(ConnectWords { host: \"example.org\", port: 23, width: None, height: None, \
+         line_limit: Limit { bytes: 255 }, escape: Key(29), characters: Own, trace: None, wait: 0, quiet: false, \
+         plain: None })",
+    ),
+    (
+        "tn connect --escape none --port 7 ::1 --trace a/b",
+        "Connect(ConnectWords { host: \"::1\", port: 7, width: None, height: None, line_limit: Limit { bytes: 255 }, \
+         escape: None, characters: Own, trace: Some(\"a/b\"), wait: 0, quiet: false, plain: None })",
+    ),
+    ("tn connect --port 7", AT_PORT_7),
+    ("tn connect 127.0.0.1 7", AT_PORT_7),
+    ("tn connect 127.0.0.1:7", AT_PORT_7),
+    ("tn connect [127.0.0.1]:7", AT_PORT_7),
+    ("tn connect [127.0.0.1] -p 7", AT_PORT_7),
+];
+
+/// A connection to port 7 of this machine, without any option.
+const AT_PORT_7: &str =
+    "Connect(ConnectWords { host: \"127.0.0.1\", port: 7, width: None, height: None, \
+     line_limit: Limit { bytes: 255 }, escape: Key(29), characters: Own, trace: None, wait: 0, quiet: false, \
+     plain: None })";
+
+#[test]
+fn words_ask_for_what_they_say(rt: HostRuntime) {
+    for (line, wanted) in ASKED {
+        assert!(rt; asks(rt.alloc(), line, wanted), "{line}");
+    }
 }
 
 /// Lines that ask for no run.
@@ -272,10 +167,14 @@ const REFUSED: &[&str] = &[
     "tn decode x",
 ];
 
+fn is_refused(read: &Result<Asked, WordsFault>) -> bool {
+    matches!(read, Err(WordsFault::Usage(_) | WordsFault::Memory))
+}
+
 #[test]
 fn other_words_are_refused(rt: HostRuntime) {
     for line in REFUSED {
-        asks(&rt, rt.alloc(), line, None);
+        assert!(rt; is_refused(&read_line(rt.alloc(), line)), "{line}");
     }
 }
 
