@@ -1,7 +1,9 @@
 -- A refusal has the code of its cause.
 use Rattle.std.proofs.Common.{◌≡◌, ◌≢◌, ◌⊎◌, inl, inr, ℕ, Bool, true, false, Option, Some, None, Result, Ok, Err, OnOk, OnErr, IsErrOf, List, refl, sym, ap}
 use Rattle.std.proofs.Common.{subst, ◌∙◌, if◌then◌else◌}
-use Rattle.std.specs.Prelude.{option_map}
+use Rattle.std.specs.Prelude.{◌↔◌, ◌++◌, [], option_map}
+use Rattle.tn_codes.specs.Codes.{func_code}
+use Rattle.tn_codes.specs.declared.codes.Func.{Func}
 use Rattle.tn_codes.specs.declared.masks.Mask.{Mask}
 use Rattle.tn_discipline.specs.declared.characters.CharFault.{CharFault}
 use Rattle.tn_discipline.specs.declared.characters.CharFault.TheVariants as char
@@ -16,12 +18,17 @@ use Rattle.tn_client.specs.Events.{Event, typed}
 use Rattle.tn_client.specs.declared.commands.UserCommand.{UserCommand}
 use Rattle.tn_client.specs.declared.faults.ClientFault.{ClientFault}
 use Rattle.tn_client.specs.declared.faults.ClientFault.TheVariants as client_fault
+use Rattle.tn_nvt.specs.Spelling.{spelling}
+use Rattle.tn_nvt.specs.declared.items.Item.{Item}
+use Rattle.tn_c_parts.specs.Bytes.{Gives}
+use Rattle.tn_c_parts.specs.Calling.{OfFunction}
 use Rattle.tn_c_parts.specs.ClientCalls.{Acts}
 use Rattle.tn_c_parts.specs.ServerCalls.{SetMaskCall}
 use Rattle.tn_c_parts.specs.declared.client.HeldClient.{HeldClient}
 use Rattle.tn_c_parts.specs.declared.codes.Code.{Code}
 use Rattle.tn_c_parts.specs.declared.codes.Code.TheVariants as code
 use Rattle.tn_c_parts.specs.declared.server.HeldServer.{HeldServer}
+use Rattle.tn_c_parts.specs.Spelled.{Room, Spells}
 use Rattle.tn_c_parts.specs.Faults.{server_code, server_refusal, client_code, client_answer, client_refusal}
 
 pub server_told : (cause : Option ServerFault) (f g : ServerFault) → f ≡ g → server.IsFault cause f → server_code g ≡ server_refusal cause
@@ -159,3 +166,32 @@ is_done (inr none) other = absurd (other none)
 -- a command that was found is the one that was found
 pub same_command : (c d : UserCommand) → Some c ≡ Some d → c ≡ d
 same_command c d e = cc
+
+-- it was not both
+pub not_memory : code.Done ≡ code.Memory → ⊥
+not_memory e = cc
+
+same_func : (f g : Func) → Some f ≡ Some g → f ≡ g
+same_func f g e = cc
+
+-- a function was found by its number, and this is so of it
+pub of_found : {X : Type 0} (number : ℕ) (R : Func → Code → X → X → Type 0) (answer : Code) (before after : X) (found : Func)
+    → ((func : Func) → (Some found ≡ Some func) ↔ (func_code func ≡ number)) → R found answer before after → answer ≢ code.NoFunction
+    → OfFunction number R answer before after
+of_found number R answer before after found is told known =
+    record {
+      known = λ func n. subst (λ (x : Func). R x answer before after) (same_func found func ((is func).1 n)) told;
+      unknown = (λ e. absurd (known e), λ none. absurd (none found ((is found).0 refl)));
+      stays = λ e. absurd (known e);
+    }
+
+-- a spelling was put into a list that was empty, and given
+pub spelled : (item : Item) (begun out bytes : List ℕ) (room : Room) → begun ≡ [] → out ≡ begun ++ spelling item → bytes ≡ out
+    → Gives bytes room.old_buf room.new_buf room.new_count → Spells item room code.Done
+spelled item begun out bytes room empty appended is gives =
+    record {
+      codes = inl refl;
+      ok = λ _. subst (λ (b : List ℕ). Gives b room.old_buf room.new_buf room.new_count)
+          (is ∙ appended ∙ ap (λ (x : List ℕ). x ++ spelling item) empty) gives;
+      err = λ e. absurd (not_memory e);
+    }

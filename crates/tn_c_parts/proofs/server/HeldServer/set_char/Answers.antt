@@ -1,4 +1,4 @@
-use Rattle.std.proofs.Common.{rules, inr, ap, ◌∙◌}
+use Rattle.std.proofs.Common.{rules, inl, inr, refl, ap, ◌∙◌}
 use Rattle.tn_discipline.specs.Characters.{char_fault}
 use Rattle.tn_discipline.specs.declared.characters.CharFault.TheVariants as char
 use Rattle.tn_pty.specs.declared.pty.PtyFault.TheVariants as pty
@@ -6,6 +6,18 @@ use Rattle.tn_server.specs.Calls.{char_fault_at}
 use Rattle.tn_server.specs.declared.faults.ServerFault.TheVariants as fault
 use Rattle.tn_c_parts.proofs.Refusing.{server_told, never_pty}
 use Rattle.tn_c_parts.proofs.server.HeldServer.set_char.Goals as goal
+
+pub returns-in-Ok-clause-call : goal.returns-in-Ok-clause-call
+returns-in-Ok-clause-call c =
+    record {
+      ok = λ _. c.in-Ok.ensures.ok;
+      keeps = c.in-Ok.ensures.keeps;
+      accepted = λ _. c.in-Ok.ensures.accepted;
+      refused = inl refl;
+      err = search rules;
+      full = search rules;
+      entry = refl;
+    }
 
 pub returns-in-Err-Memory-clause-call : goal.returns-in-Err-Memory-clause-call
 returns-in-Err-Memory-clause-call c =

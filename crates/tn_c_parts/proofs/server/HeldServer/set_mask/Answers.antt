@@ -1,5 +1,17 @@
-use Rattle.std.proofs.Common.{rules, Err, ap}
+use Rattle.std.proofs.Common.{rules, inl, Err, refl, ap}
 use Rattle.tn_c_parts.proofs.server.HeldServer.set_mask.Goals as goal
+
+pub returns-in-Ok-clause-call : goal.returns-in-Ok-clause-call
+returns-in-Ok-clause-call c =
+    record {
+      ok = λ _. c.in-Ok.ensures.ok;
+      keeps = c.in-Ok.ensures.keeps;
+      accepted = λ _. c.in-Ok.ensures.accepted;
+      refused = inl refl;
+      err = search rules;
+      full = search rules;
+      entry = refl;
+    }
 
 pub returns-in-Err-Memory-clause-call : goal.returns-in-Err-Memory-clause-call
 returns-in-Err-Memory-clause-call c =

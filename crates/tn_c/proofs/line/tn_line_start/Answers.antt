@@ -1,0 +1,9 @@
+use Rattle.std.proofs.Common.{◌≡◌, arith}
+use Rattle.std.proofs.lemmas.Grind.{common_steps}
+use Rattle.tn_c_parts.specs.Codes.{code_number}
+use Rattle.tn_c.proofs.line.tn_line_start.Goals as goal
+
+pub returns : goal.returns
+returns c =
+    let numbers : c.number-2.result ≡ code_number c.hold.result = c.number-2.ensures.value in
+    grind (arith, common_steps)

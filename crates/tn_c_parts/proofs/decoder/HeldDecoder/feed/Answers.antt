@@ -1,0 +1,8 @@
+use Rattle.std.proofs.Common.{arith}
+use Rattle.std.proofs.lemmas.Grind.{common_steps}
+use Rattle.tn_c_parts.proofs.decoder.HeldDecoder.feed.Goals as goal
+
+pub returns : goal.returns
+returns c =
+    let told = c.feed-fed.ensures in
+    grind (arith, common_steps)

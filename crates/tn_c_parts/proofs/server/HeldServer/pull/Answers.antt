@@ -1,0 +1,30 @@
+use Rattle.std.proofs.Common.{rules, inl, inr, refl}
+use Rattle.tn_c_parts.proofs.server.HeldServer.pull.Goals as goal
+
+pub returns-in-Ok : goal.returns-in-Ok
+returns-in-Ok c =
+    record {
+      codes = inl refl;
+      ok = λ _. c.in-Ok.ensures.ok;
+      keeps = c.in-Ok.ensures.keeps;
+      counts = λ _. c.in-Ok.ensures.count;
+      entry = refl;
+      err = search rules;
+      err_count = search rules;
+      grows = search rules;
+      full = search rules;
+    }
+
+pub returns-in-Err : goal.returns-in-Err
+returns-in-Err c =
+    record {
+      codes = inr refl;
+      ok = search rules;
+      keeps = search rules;
+      counts = search rules;
+      entry = refl;
+      err = search rules;
+      err_count = search rules;
+      grows = λ _. c.in-Err.ensures.grows;
+      full = λ _. c.in-Err.ensures.full;
+    }

@@ -1,0 +1,16 @@
+use Rattle.std.proofs.Common.{rules, inl, refl}
+use Rattle.tn_c_parts.proofs.server.HeldServer.take.Goals as goal
+
+pub returns-in-Ok : goal.returns-in-Ok
+returns-in-Ok c =
+    record {
+      codes = inl refl;
+      ok = λ _. c.in-Ok.ensures.ok;
+      keeps = c.in-Ok.ensures.keeps;
+      entry = λ _. c.in-Ok.ensures.entry;
+      kind = λ _. c.kind_number.ensures;
+      err = search rules;
+      err_kind = search rules;
+      grows = search rules;
+      full = search rules;
+    }
