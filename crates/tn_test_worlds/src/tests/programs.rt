@@ -45,23 +45,23 @@ const ASKED: &[(&str, &str)] = &[
     (
         "tn serve --port 2323",
         "Serve(ServeWords { host: \"127.0.0.1\", port: 2323, sessions: 8, per_host: 64, count: Some(1), \
-         until: None, ticks: 0, line_limit: Limit { bytes: 255 }, idle: 0, longest: 0, local: false, verbose: false, \
-         to: None, line_end: Lf, ends_cut: false })",
+         until: None, ticks: 0, line_limit: Limit { bytes: 255 }, idle: 0, longest: 0, local: false, \
+         verbose: false, to: None, line_end: Lf, ends_cut: false })",
     ),
     (
         "tn serve --limit=64 --count 1000000 --ticks=1000 --host ::1 --line 4095 --idle 86400 \
          --until /run/end --per-host 2 --longest=3600 --local --verbose --port=2323 --to [::1]:7 --crlf \
          --line-cut end",
         "Serve(ServeWords { host: \"::1\", port: 2323, sessions: 64, per_host: 2, count: Some(1000000), \
-         until: Some(\"/run/end\"), ticks: 1000, line_limit: Limit { bytes: 4095 }, idle: 86400, longest: 3600, \
-         local: true, verbose: true, to: Some(Address { host: \"::1\", port: 7 }), line_end: CrLf, \
-         ends_cut: true })",
+         until: Some(\"/run/end\"), ticks: 1000, line_limit: Limit { bytes: 4095 }, idle: 86400, \
+         longest: 3600, local: true, verbose: true, to: Some(Address { host: \"::1\", port: 7 }), \
+         line_end: CrLf, ends_cut: true })",
     ),
     (
         "tn serve --forever -p 7 --cr --to h:7 --line-cut=send",
         "Serve(ServeWords { host: \"127.0.0.1\", port: 7, sessions: 8, per_host: 64, count: None, \
-         until: None, ticks: 0, line_limit: Limit { bytes: 255 }, idle: 0, longest: 0, local: false, verbose: false, \
-         to: Some(Address { host: \"h\", port: 7 }), line_end: Cr, ends_cut: false })",
+         until: None, ticks: 0, line_limit: Limit { bytes: 255 }, idle: 0, longest: 0, local: false, \
+         verbose: false, to: Some(Address { host: \"h\", port: 7 }), line_end: Cr, ends_cut: false })",
     ),
     (
         "tn connect -p7 --width 65535 --height 0 --escape ^a -q 86400 --quiet --keys standard",
@@ -72,13 +72,14 @@ const ASKED: &[(&str, &str)] = &[
     (
         "tn connect example.org",
         "Connect(ConnectWords { host: \"example.org\", port: 23, width: None, height: None, \
-         line_limit: Limit { bytes: 255 }, escape: Key(29), characters: Own, trace: None, wait: 0, quiet: false, \
-         plain: None })",
+         line_limit: Limit { bytes: 255 }, escape: Key(29), characters: Own, trace: None, wait: 0, \
+         quiet: false, plain: None })",
     ),
     (
         "tn connect --escape none --port 7 ::1 --trace a/b",
-        "Connect(ConnectWords { host: \"::1\", port: 7, width: None, height: None, line_limit: Limit { bytes: 255 }, \
-         escape: None, characters: Own, trace: Some(\"a/b\"), wait: 0, quiet: false, plain: None })",
+        "Connect(ConnectWords { host: \"::1\", port: 7, width: None, height: None, \
+         line_limit: Limit { bytes: 255 }, escape: None, characters: Own, trace: Some(\"a/b\"), wait: 0, \
+         quiet: false, plain: None })",
     ),
     ("tn connect --port 7", AT_PORT_7),
     ("tn connect 127.0.0.1 7", AT_PORT_7),
