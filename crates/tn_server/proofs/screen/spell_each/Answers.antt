@@ -1,9 +1,13 @@
-use Rattle.std.proofs.Common.{◌++◌, length, map, take, drop, ap, ◌∙◌, arith, length-drop}
+use Rattle.std.proofs.Common.{◌≡◌, ◌++◌, length, map, take, drop, refl, sym, ap, ◌∙◌, arith, append-nil, length-drop}
 use Rattle.std.proofs.lemmas.List.{drop-drop}
 use Rattle.tn_nvt.specs.Spelling.{spells}
 use Rattle.tn_server.specs.Replies.{data_of}
 use Rattle.tn_server.proofs.Spelling.{spelled_both, shown_still}
 use Rattle.tn_server.proofs.screen.spell_each.Goals as goal
+
+pub loop-symbol-init : goal.loop-symbol-init
+loop-symbol-init c =
+    record { pair = refl; items = sym (append-nil c.args.out.now.items); len = omega (arith); capacity = omega (arith) }
 
 pub spell_next-requires : goal.spell_next-requires
 spell_next-requires c =
@@ -30,4 +34,15 @@ loop-symbol-preserved c =
           ∙ spelled_both c.args.out.now.items before.queue i 1;
       len = omega (arith, had.len, next.len);
       capacity = omega (arith, had.capacity, next.capacity);
+    }
+
+pub returns : goal.returns
+returns c =
+    let had = c.loop-symbol.invariant in
+    let all : c.loop-symbol._symbol ≡ c.args.count = omega (arith, c.loop-symbol.auto._symbol-end, c.loop-symbol-test.false) in
+    record {
+      out = rw all at had.items;
+      pair = rw all at had.pair;
+      len = rw all at had.len;
+      capacity = had.capacity;
     }

@@ -1,3 +1,5 @@
+use Rattle.std.proofs.Common.{◌≡◌, take, arith, length-take}
+use Rattle.std.proofs.lemmas.Grind.{common_steps}
 use Rattle.tn_workers.proofs.Reading.{consumes_none}
 use Rattle.tn_streams.proofs.lemmas.Foretelling.{come_none, come_more, come_again, come_failed}
 use Rattle.tn_workers.proofs.reader.read_piece.Goals as goal
@@ -18,3 +20,15 @@ returns-clause-gives g c = (consumes_none _ _ c.in-Err-2.ensures.bytes, tt)
 pub returns-clause-foretold : goal.returns-clause-foretold
 returns-clause-foretold g c = come_failed c.in-Err.error 4294967295 0 0 _ _ _ (c.is_interrupted.ensures.failed c.if-is_interrupted.false)
     (come_none _) c.in-Err.ensures.foretells
+
+pub returns-in-Ok-eq0-clause-foretold : goal.returns-in-Ok-eq0-clause-foretold
+returns-in-Ok-eq0-clause-foretold g c = tt
+
+pub returns-in-Ok-read_some-clause-gives : goal.returns-in-Ok-read_some-clause-gives
+returns-in-Ok-read_some-clause-gives g c =
+    let n = c.in-Ok-read_some.n in
+    let buffer = c.read_some.new.buf in
+    let bound = c.in-Ok-read_some.ensures.bound in
+    let same : c.from.result ≡ take n buffer = grind (arith, common_steps) in
+    rw same (c.in-Ok-read_some.ensures.bytes.0, (omega (arith, length-take n buffer, bound.0, c.in-Ok-read_some.n-test),
+    omega (arith, length-take n buffer, bound.0, c.read_some.auto.buf, c.as_mut_slice.ensures.len, c.in-Ok.ensures.len)))

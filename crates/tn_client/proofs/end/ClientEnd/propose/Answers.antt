@@ -18,3 +18,24 @@ returns-clause-ok c = elim c.match-propose.branch [
   })
   | in-Ok+in-Err-put_triple w ↦ rw w.result-is tt
 ]
+
+pub returns-clause-failed : goal.returns-clause-failed
+returns-clause-failed c = elim c.match-propose.branch [
+  | in-Err w ↦ rw w.result-is (search rules)
+  | in-Ok+in-Ok-put_triple w ↦ rw w.result-is (search rules)
+  | in-Ok+in-Err-put_triple w ↦ rw w.result-is (search rules)
+]
+
+pub returns-clause-memory : goal.returns-clause-memory
+returns-clause-memory c = elim c.match-propose.branch [
+  | in-Err w ↦ rw w.result-is (search rules)
+  | in-Ok+in-Ok-put_triple w ↦ rw w.result-is (search rules)
+  | in-Ok+in-Err-put_triple w ↦ rw w.result-is (search rules)
+]
+
+pub returns-clause-err : goal.returns-clause-err
+returns-clause-err c = elim c.match-propose.branch [
+  | in-Err w ↦ rw w.result-is (search rules)
+  | in-Ok+in-Ok-put_triple w ↦ rw w.result-is tt
+  | in-Ok+in-Err-put_triple w ↦ rw w.result-is (search rules)
+]

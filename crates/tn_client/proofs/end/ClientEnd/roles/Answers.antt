@@ -14,3 +14,10 @@ returns c =
       trapping = trapping;
       plain = trapping ∙ same_role_either table c.args.key (λ sig is. c.in_default.not-Signal sig (trapping ∙ is));
     }
+
+pub returns-in-Signal : goal.returns-in-Signal
+returns-in-Signal c =
+    record {
+      trapping = c.role_of-trapping.ensures ∙ ap (λ s. role_of_key s c.args.key) c.settings_under.ensures;
+      plain = c.role_of.ensures ∙ ap (λ s. role_of_key s c.args.key) c.settings_under-in-Signal.ensures;
+    }

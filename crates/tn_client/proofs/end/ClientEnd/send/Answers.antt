@@ -17,3 +17,21 @@ returns-clause-ok c = elim c.match-put_cmd.branch [
   })
   | in-Err w ↦ rw w.result-is tt
 ]
+
+pub returns-clause-failed : goal.returns-clause-failed
+returns-clause-failed c = elim c.match-put_cmd.branch [
+  | in-Ok w ↦ rw w.result-is (search rules)
+  | in-Err w ↦ rw w.result-is (search rules)
+]
+
+pub returns-clause-memory : goal.returns-clause-memory
+returns-clause-memory c = elim c.match-put_cmd.branch [
+  | in-Ok w ↦ rw w.result-is (search rules)
+  | in-Err w ↦ rw w.result-is (search rules)
+]
+
+pub returns-clause-err : goal.returns-clause-err
+returns-clause-err c = elim c.match-put_cmd.branch [
+  | in-Ok w ↦ rw w.result-is tt
+  | in-Err w ↦ rw w.result-is (search rules)
+]

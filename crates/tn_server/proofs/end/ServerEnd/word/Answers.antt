@@ -1,11 +1,10 @@
-use Rattle.std.proofs.Common.{refl, false, arith}
-use Rattle.std.proofs.lemmas.Grind.{common_steps}
+use Rattle.std.proofs.Common.{refl, false}
 use Rattle.std.proofs.lemmas.Result.{err_from_is_err_and}
 use Rattle.tn_option.specs.Options.{reply_to, options_after_word}
 use Rattle.tn_server.specs.Terms.{linemode}
 use Rattle.tn_linemode.specs.Words.{word_items}
 use Rattle.tn_server.specs.Steps.{negotiation_items}
-use Rattle.tn_linemode.proofs.lemmas.Cutting.{cut_after_one}
+use Rattle.tn_linemode.proofs.lemmas.Cutting.{cut_after_one, spelled_on}
 use Rattle.tn_server.proofs.end.ServerEnd.word.Goals as goal
 
 pub returns-in_err-_sent-clause-cut : goal.returns-in_err-_sent-clause-cut
@@ -21,4 +20,12 @@ returns-in_err-_sent-clause-cut c =
     (c.has_linemode-was_on.ensures, c.settings.ensures, c.got-said.ensures.engine) at c.in_err-_sent.ensures.err))
 
 pub returns-clause-out : goal.returns-clause-out
-returns-clause-out c = grind (arith, common_steps)
+returns-clause-out c =
+    let old = c.self.inside in
+    let o = old.terms.options in
+    rw (← c.self.view_is) (spelled_on (word_items (reply_to o c.args.verb c.args.option))
+    (negotiation_items (linemode o) false old.pair.settings.flags old.table
+    (record { options = options_after_word o c.args.verb c.args.option; modes = old.terms.modes; wish = old.terms.wish })) c.args.out.now.items
+    c.put_word.new.out.items c.settle.new.out.items
+    (rw c.got-said.ensures.word at c.in_ok-put_word.ensures.ok) (rw
+    (c.has_linemode-was_on.ensures, c.settings.ensures, c.got-said.ensures.engine) at c.in_ok-_sent.ensures.out))

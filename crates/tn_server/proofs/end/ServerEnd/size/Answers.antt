@@ -1,0 +1,5 @@
+use Rattle.std.proofs.Common.{◌∙◌}
+use Rattle.tn_server.proofs.end.ServerEnd.size.Goals as goal
+
+pub returns : goal.returns
+returns c = rw (← c.self.view_is) (λ h leads. c.size.ensures ∙ leads.size)
