@@ -1,7 +1,11 @@
-use Rattle.std.proofs.Common.{get_or, arith}
+use Rattle.std.proofs.Common.{ℕ, true, List, ◌++◌, ap, get_or, arith}
 use Rattle.std.proofs.lemmas.List.{drop_more}
+use Rattle.tn_sockets.specs.Traces.{timed_lines}
 use Rattle.tn_sockets.proofs.Tracing.{none_left, one_more}
 use Rattle.tn_sockets.proofs.trace_lines.timed.Goals as goal
+
+pub loop-byte-init : goal.loop-byte-init
+loop-byte-init c = ap (λ (lines : List ℕ). lines ++ timed_lines c.args.stamp.now true c.args.text.now) c.new-lines.ensures.items
 
 pub loop-byte-preserved : goal.loop-byte-preserved
 loop-byte-preserved c =
