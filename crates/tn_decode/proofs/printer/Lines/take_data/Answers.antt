@@ -24,3 +24,9 @@ returns-clause-takes c =
       c.self.invariant,
     ) in
     rw (← c.self.view_is) (takes_full _ _ front refl full (rw c.as_slice.ensures.value at c.in_ok-append_data.ensures.ok) c.clear.ensures)
+
+pub invariant_of-self : goal.invariant_of-self
+invariant_of-self c =
+    let kept = c.try_extend_from_slice-kept.ensures in
+    let fits = kept.variant.1 (omega (arith, c.if-bytes-room.true, c.len-room.ensures.value)) in
+    omega (arith, ok_gives _ fits kept.len, c.if-bytes-room.true, c.len-room.ensures.value)

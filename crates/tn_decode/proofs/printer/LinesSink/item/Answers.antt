@@ -7,3 +7,6 @@ returns-in-Byte-clause-err c = rw (c.in-Byte.is, c.in-Err.ensures.err) (some_of_
 
 pub returns-clause-err : goal.returns-clause-err
 returns-clause-err c = rw c.in-Err-say.ensures.err (none_of_single _ _ (single_other _ c.in_default.not-Byte))
+
+pub returns-in-Ok-clause-ok : goal.returns-in-Ok-clause-ok
+returns-in-Ok-clause-ok c = rw c.in-Byte.is c.in-Ok.ensures.ok

@@ -22,3 +22,9 @@ returns-in-Err-clause-err c =
     let n = c.loop-taken.taken in
     let rest : take (length bytes - n) (drop n bytes) ≡ drop n bytes = take_all (length bytes - n) (drop n bytes) (omega (arith, length-drop n bytes)) in
     rw c.in-Err.ensures.err (some_of_run _ _ bytes n c.loop-taken.invariant.takes (rw rest at c.in-Err.ensures.fills))
+
+pub returns-clause-ok : goal.returns-clause-ok
+returns-clause-ok c =
+    let bytes = c.args.bytes.now in
+    let whole : take c.loop-taken.taken bytes ≡ bytes = take_all c.loop-taken.taken bytes (omega arith) in
+    rw whole at c.loop-taken.invariant.takes
