@@ -1,15 +1,16 @@
 -- A text is split at its last colon.
 use Rattle.std.proofs.Common.{◌≡◌, ◌≢◌, inl, inr, ℕ, zero, suc, ◌+◌, ◌<◌, ◌≤◌, ◌==◌, ◌&&◌, ◌||◌, Bool, true, false, not, Option, Some, None}
 use Rattle.std.proofs.Common.{List, [], ◌∷◌, ◌++◌, length, get_or, drop, cond, eqb, eqb-true, take-append-drop, refl, sym, ap, ap₂, ◌∙◌}
-use Rattle.std.proofs.Common.{subst, arith, MatchOption, codes}
+use Rattle.std.proofs.Common.{subst, arith, MatchOption, IfSome, codes, take, ◌-◌}
 use Rattle.std.specs.List.{after_first, ends_with, starts_with}
 use Rattle.std.specs.Borrow.{Bor}
 use Rattle.std.specs.Str.Parse.{AllDigits, digits_value, without_leading_plus}
 use Rattle.std.specs.Char.{digit_value}
 use Rattle.std.specs.Str.{NoCharPasses}
-use Rattle.std.specs.Str.Pattern.{FindsCharPrefix, RFindsChar, SplitsAroundMatch}
+use Rattle.std.specs.Str.Pattern.{FindsCharPrefix, FindsCharSuffix, RFindsChar, SplitsAroundMatch}
 use Rattle.std.proofs.lemmas.List.{append_cancel_right}
 use Rattle.std.proofs.lemmas.Str.Pattern.{IsSplitOnceResult, NoCharPasses-char, drop_at_char, split_once_first, split_parts, strip_prefix_char}
+use Rattle.std.proofs.lemmas.Str.Pattern.{strip_suffix_char}
 use Rattle.tn_words.specs.Addresses.{WritesAddress, WritesHost, WritesName, WritesPlace, has_colon, has_one_colon, has_port}
 use Rattle.tn_words.specs.Numbers.{Writes}
 
@@ -119,6 +120,29 @@ StripsFront text r = MatchOption r (FindsCharPrefix 91 text None)
 
 pub front_none : (text : List ℕ) (r : Option (Bor (List ℕ))) → StripsFront text r → r ≡ None → (rest : List ℕ) → text ≢ 91 ∷ rest
 front_none text r strips is = strip_prefix_char 91 text None (subst (StripsFront text) is strips) (omega arith)
+
+pub front_some : (text : List ℕ) (r : Option (Bor (List ℕ))) (rest : Bor (List ℕ)) → StripsFront text r → r ≡ Some rest
+    → text ≡ 91 ∷ rest.now
+front_some text r rest strips is =
+    strip_prefix_char 91 text (Some rest) (subst (StripsFront text) is strips) (omega arith)
+
+abbrev pub StripsBack : List ℕ → Option (Bor (List ℕ)) → Type 0
+StripsBack rest r = MatchOption r (FindsCharSuffix 93 rest None)
+    (λ x. (n : ℕ) × FindsCharSuffix 93 rest (Some n) × (x.now ≡ take (length rest - n) rest)
+    × (length x.now + n ≡ length rest))
+
+pub back_some : (text rest : List ℕ) (r : Option (Bor (List ℕ))) → text ≡ 91 ∷ rest → StripsBack rest r
+    → IfSome r (λ name. WritesName text name.now)
+back_some text rest None is strips = tt
+back_some text rest (Some name) is strips =
+    inr (is ∙ ap (λ (l : List ℕ). 91 ∷ l) (strip_suffix_char 93 rest (Some name) strips (omega arith)))
+
+pub back_none : (text rest : List ℕ) (r : Option (Bor (List ℕ))) → text ≡ 91 ∷ rest → StripsBack rest r → r ≡ None
+    → (name : List ℕ) → WritesName text name → ⊥
+back_none text rest r is strips none name (inl bare) = bare.bare rest is
+back_none text rest r is strips none name (inr closed) =
+    strip_suffix_char 93 rest None (subst (StripsBack rest) none strips) (omega arith) name
+    (ap (λ (l : List ℕ). drop 1 l) (sym is ∙ closed))
 
 pub no_empty : (text host : List ℕ) → WritesName text host → (length host == 0) ≡ true → (h : List ℕ) → WritesHost text h → ⊥
 no_empty text host names none h w = w.0 (one_name text h host w.1 names ∙ empty host none)

@@ -10,8 +10,10 @@ use Rattle.clap.specs.declared.parser.matches.ArgMatches.{ArgMatches}
 use Rattle.clap.specs.declared.parser.matches.ArgMatches.TheViews.{out-ArgMatches}
 use Rattle.clap.proofs.OnLiterals.{clap_on_literals}
 use Rattle.tn_words.specs.Commands.{tn}
-use Rattle.tn_words.specs.Words.{AskFor, Asks, AsksIn, AsksNothing, AsksConnect, AsksForHelp, AsksForVersion, AreWrong, Lacks, Refuses, TellsKind}
+use Rattle.tn_words.specs.Words.{AskFor, Asks, AsksIn, AsksNothing, AsksConnect, AsksServe, AsksForHelp, AsksForVersion}
+use Rattle.tn_words.specs.Words.{AreWrong, Lacks, Refuses, TellsKind}
 use Rattle.tn_words.specs.declared.settings.ConnectWords.{ConnectWords}
+use Rattle.tn_words.specs.declared.settings.ServeWords.{ServeWords}
 use Rattle.tn_words.specs.declared.words.Asked.{Asked}
 use Rattle.tn_words.specs.declared.words.Asked.TheVariants.{Local, Replay, Decode, World, Serve, Connect}
 use Rattle.tn_words.specs.declared.words.WordsFault.{WordsFault}
@@ -115,6 +117,22 @@ connects_not (Some p) name rows named has is not asked asks =
       go World other same at = apart p.0 (codes "connect") (codes "world") same other (omega arith)
       go (Serve serving) asks same at = apart p.0 (codes "connect") (codes "serve") same asks.0 (omega arith)
       go (Connect connecting) asks same at = not connecting (subst (λ rs. AsksConnect rs connecting) at asks.1)
+
+-- nor does a subcommand `serve` whose options ask for no server
+pub serves_not : (sub : Option (Text × List Row)) (name : Text) (rows : List Row)
+    → option_map (λ p. p.0) sub ≡ Some name → option_map (λ p. p.1) sub ≡ Some rows → name ≡ codes "serve"
+    → ((serving : ServeWords) → ¬ AsksServe rows serving) → AsksNothing sub
+serves_not None name rows named has is not asked asks = asks
+serves_not (Some p) name rows named has is not asked asks =
+    let same : p.0 ≡ codes "serve" = ap (λ o. unwrap_or o name) named ∙ is in
+    let at : p.1 ≡ rows = ap (λ o. unwrap_or o rows) has in go asked asks same at where
+      go : (asked : Asked) → Asks p asked → p.0 ≡ codes "serve" → p.1 ≡ rows → ⊥
+      go Local other same at = apart p.0 (codes "local") (codes "serve") other same (omega arith)
+      go Replay other same at = apart p.0 (codes "replay") (codes "serve") other same (omega arith)
+      go Decode other same at = apart p.0 (codes "decode") (codes "serve") other same (omega arith)
+      go World other same at = apart p.0 (codes "serve") (codes "world") same other (omega arith)
+      go (Serve serving) asks same at = not serving (subst (λ rs. AsksServe rs serving) at asks.1)
+      go (Connect connecting) asks same at = apart p.0 (codes "connect") (codes "serve") asks.0 same (omega arith)
 
 -- words that are written out
 pub asks_local : AskFor (codes "tn" ∷ codes "local" ∷ []) Local

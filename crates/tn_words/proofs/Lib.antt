@@ -2,4 +2,5 @@ pub mod Addresses
 pub mod Asking
 pub mod Given
 pub mod Hosts
+pub mod Parts
 pub mod Wholes

@@ -3,9 +3,10 @@
 ghost use Rattle.std.specs.Prelude.{◌≡◌, ◌≤◌, ℕ, List, ⊤, true, false, None, Option, Some, IfOk, IfErr};
 ghost use Rattle.std.specs.Prelude.{IfSome, codes, map, option_map, string_bytes, unwrap_or};
 ghost use Rattle.clap.specs.Words.{Text, kind_of, rows_of, first_of, found_of, subcommand_rows_of};
+ghost use Rattle.tn_words.specs.Parts.{AsksConnectNumbers, AsksServeChoices, AsksServeNumbers};
 ghost use Rattle.tn_words.specs.Words.{AskFor, AsksConnect, AsksCount, AsksIn, AsksNothing, AsksPlace};
 ghost use Rattle.tn_words.specs.Words.{AsksPort, AsksServe};
-ghost use Rattle.tn_words.specs.Words.{HasEscape, HasNumber, HasPlace, HasText, IsPath, Lacks};
+ghost use Rattle.tn_words.specs.Words.{HasEscape, HasNumber, HasPlace, IsPath, Lacks};
 ghost use Rattle.tn_words.specs.Words.{MayHaveAddress, MayHaveNumber};
 ghost use Rattle.tn_words.specs.Words.{MayHavePath, MissesNumber, Refuses, TellsKind, chosen_count};
 ghost use Rattle.tn_words.specs.Words.{chosen_cut};
@@ -148,7 +149,7 @@ fn asked_of(alloc: Global, matches: &ArgMatches<'_>) -> Result<Asked, WordsFault
     ensures lacks { IfErr result (Lacks (AsksNothing (subcommand_rows_of matches.now))) }
 {
     let Some((name, words)) = matches.subcommand() else {
-        return Err(lacking(alloc, &Lack::Words(NO_VALUE)));
+        return Err(no_value(alloc));
     };
     match name {
         LOCAL => Ok(Asked::Local),
@@ -163,7 +164,7 @@ fn asked_of(alloc: Global, matches: &ArgMatches<'_>) -> Result<Asked, WordsFault
             Ok(connecting) => Ok(Asked::Connect(connecting)),
             Err(fault) => Err(fault),
         },
-        _ => Err(lacking(alloc, &Lack::Words(NO_VALUE))),
+        _ => Err(no_value(alloc)),
     }
 }
 
@@ -173,9 +174,80 @@ fn serving(alloc: Global, words: &ArgMatches<'_>) -> Result<ServeWords, WordsFau
         (Lacks ((asked : ServeWords) → ¬ AsksServe (rows_of (found_of words.now)) asked)) }
 {
     let Some(host) = words.get_str(HOST) else {
-        return Err(lacking(alloc, &Lack::Words(NO_VALUE)));
+        return Err(no_value(alloc));
+    };
+    let Some(numbers) = serve_numbers(words) else {
+        return Err(no_value(alloc));
     };
     let to = to_of(alloc, words)?;
+    let choices = serve_choices(alloc, words)?;
+    let until = until_of(alloc, words)?;
+    let host = String::from_str(alloc, host)?;
+    Ok(ServeWords {
+        host,
+        port: numbers.port,
+        sessions: numbers.sessions,
+        per_host: numbers.per_host,
+        count: choices.count,
+        until,
+        ticks: numbers.ticks,
+        line_limit: numbers.line_limit,
+        idle: numbers.idle,
+        longest: numbers.longest,
+        local: numbers.local,
+        verbose: numbers.verbose,
+        to,
+        line_end: choices.line_end,
+        ends_cut: choices.ends_cut,
+    })
+}
+
+/// The numbers and flags of how to serve.
+#[derive(Clone, Copy)]
+struct ServeNumbers {
+    port: u16,
+    sessions: u16,
+    per_host: u16,
+    ticks: u16,
+    line_limit: Limit,
+    idle: u32,
+    longest: u32,
+    local: bool,
+    verbose: bool,
+}
+
+// The numbers and flags; `None` where a number is missing or out of its range.
+fn serve_numbers(words: &ArgMatches<'_>) -> Option<ServeNumbers>
+    ensures asked { IfSome result (AsksServeNumbers (rows_of (found_of words.now))) }
+    ensures none { result ≡ None → (asked : ServeNumbers) →
+        ¬ AsksServeNumbers (rows_of (found_of words.now)) asked }
+{
+    Some(ServeNumbers {
+        port: short_number(words, PORT)?,
+        sessions: short_number(words, LIMIT)?,
+        per_host: short_number(words, PER_HOST)?,
+        ticks: short_number(words, TICKS)?,
+        line_limit: line_limit_in(words)?,
+        idle: number(words, IDLE)?,
+        longest: number(words, LONGEST)?,
+        local: words.get_flag(LOCALLY),
+        verbose: words.get_flag(VERBOSE),
+    })
+}
+
+/// What several options of a server choose together.
+#[derive(Clone, Copy)]
+struct ServeChoices {
+    line_end: LineEnd,
+    ends_cut: bool,
+    count: Option<u32>,
+}
+
+fn serve_choices(alloc: Global, words: &ArgMatches<'_>) -> Result<ServeChoices, WordsFault>
+    ensures asked { IfOk result (AsksServeChoices (rows_of (found_of words.now))) }
+    ensures lacks { IfErr result
+        (Lacks ((asked : ServeChoices) → ¬ AsksServeChoices (rows_of (found_of words.now)) asked)) }
+{
     let Some(line_end) = service_line_end_in(words) else {
         return Err(lacking(alloc, &Lack::Words(NO_SERVICE_LINE_END)));
     };
@@ -185,12 +257,11 @@ fn serving(alloc: Global, words: &ArgMatches<'_>) -> Result<ServeWords, WordsFau
     let Some(count) = count_in(words) else {
         return Err(lacking(alloc, &Lack::Words(TWO_COUNTS)));
     };
-    let until = until_of(alloc, words)?;
-    let host = String::from_str(alloc, host)?;
-    match serving_at(host, to, line_end, ends_cut, count, until, words) {
-        Some(serving) => Ok(serving),
-        None => Err(lacking(alloc, &Lack::Words(NO_VALUE))),
-    }
+    Ok(ServeChoices {
+        line_end,
+        ends_cut,
+        count,
+    })
 }
 
 // The address of the service that is named, if one is.
@@ -314,49 +385,14 @@ fn chosen_count(forever: bool, given: Option<u32>) -> Option<Option<u32>>
     }
 }
 
-fn serving_at(
-    host: String,
-    to: Option<Address>,
-    line_end: LineEnd,
-    ends_cut: bool,
-    count: Option<u32>,
-    until: Option<String>,
-    words: &ArgMatches<'_>,
-) -> Option<ServeWords>
-    requires host { HasText (rows_of (found_of words.now)) (codes "host") (string_bytes host) }
-    requires to { MayHaveAddress (rows_of (found_of words.now)) to }
-    requires line_end { service_line_end_in (rows_of (found_of words.now)) ≡ Some line_end }
-    requires ends_cut { ends_cut_in (rows_of (found_of words.now)) ≡ Some ends_cut }
-    requires count { AsksCount (rows_of (found_of words.now)) count }
-    requires until { MayHavePath (rows_of (found_of words.now)) (codes "until")
-        (option_map string_bytes until) }
-    ensures asked { IfSome result (AsksServe (rows_of (found_of words.now))) }
-    ensures none { result ≡ None → (asked : ServeWords) → ¬ AsksServe (rows_of (found_of words.now)) asked }
-{
-    Some(ServeWords {
-        host,
-        port: number(words, PORT)? as u16,
-        sessions: number(words, LIMIT)? as u16,
-        per_host: number(words, PER_HOST)? as u16,
-        count,
-        until,
-        ticks: number(words, TICKS)? as u16,
-        line_limit: Limit::new(number(words, LINE)? as u16)?,
-        idle: number(words, IDLE)?,
-        longest: number(words, LONGEST)?,
-        local: words.get_flag(LOCALLY),
-        verbose: words.get_flag(VERBOSE),
-        to,
-        line_end,
-        ends_cut,
-    })
-}
-
 fn connecting(alloc: Global, words: &ArgMatches<'_>) -> Result<ConnectWords, WordsFault>
     ensures asked { IfOk result (AsksConnect (rows_of (found_of words.now))) }
     ensures lacks { IfErr result
         (Lacks ((asked : ConnectWords) → ¬ AsksConnect (rows_of (found_of words.now)) asked)) }
 {
+    let Some(numbers) = connect_numbers(words) else {
+        return Err(no_value(alloc));
+    };
     let place = place_of(alloc, words)?;
     let escape = escape_of(alloc, words)?;
     let characters = characters_of(alloc, words)?;
@@ -364,41 +400,43 @@ fn connecting(alloc: Global, words: &ArgMatches<'_>) -> Result<ConnectWords, Wor
         return Err(lacking(alloc, &line_end_lack(words)));
     };
     let trace = trace_of(alloc, words)?;
-    match connecting_to(place, escape, characters, plain, trace, words) {
-        Some(connecting) => Ok(connecting),
-        None => Err(lacking(alloc, &Lack::Words(NO_VALUE))),
-    }
-}
-
-fn connecting_to(
-    place: Address,
-    escape: Escape,
-    characters: Characters,
-    plain: Option<LineEnd>,
-    trace: Option<String>,
-    words: &ArgMatches<'_>,
-) -> Option<ConnectWords>
-    requires place { AsksPlace (rows_of (found_of words.now)) (string_bytes place.host) place.port }
-    requires escape { HasEscape (rows_of (found_of words.now)) escape }
-    requires characters { characters_in (rows_of (found_of words.now)) ≡ Some characters }
-    requires plain { line_end_in (rows_of (found_of words.now)) ≡ Some plain }
-    requires trace { option_map string_bytes trace ≡ first_of (codes "trace") (rows_of (found_of words.now)) }
-    ensures asked { IfSome result (AsksConnect (rows_of (found_of words.now))) }
-    ensures none { result ≡ None →
-        (asked : ConnectWords) → ¬ AsksConnect (rows_of (found_of words.now)) asked }
-{
-    Some(ConnectWords {
+    Ok(ConnectWords {
         host: place.host,
         port: place.port,
-        width: size(words, WIDTH)?,
-        height: size(words, HEIGHT)?,
-        line_limit: Limit::new(number(words, LINE)? as u16)?,
+        width: numbers.width,
+        height: numbers.height,
+        line_limit: numbers.line_limit,
         escape,
         characters,
         trace,
+        wait: numbers.wait,
+        quiet: numbers.quiet,
+        plain,
+    })
+}
+
+/// The numbers of how to connect, and its flag.
+#[derive(Clone, Copy)]
+struct ConnectNumbers {
+    width: Option<u16>,
+    height: Option<u16>,
+    line_limit: Limit,
+    wait: u32,
+    quiet: bool,
+}
+
+// The numbers and the flag; `None` where a number is missing or out of its range.
+fn connect_numbers(words: &ArgMatches<'_>) -> Option<ConnectNumbers>
+    ensures asked { IfSome result (AsksConnectNumbers (rows_of (found_of words.now))) }
+    ensures none { result ≡ None → (asked : ConnectNumbers) →
+        ¬ AsksConnectNumbers (rows_of (found_of words.now)) asked }
+{
+    Some(ConnectNumbers {
+        width: size(words, WIDTH)?,
+        height: size(words, HEIGHT)?,
+        line_limit: line_limit_in(words)?,
         wait: number(words, WAIT)?,
         quiet: words.get_flag(QUIET),
-        plain,
     })
 }
 
@@ -585,7 +623,7 @@ fn size(words: &ArgMatches<'_>, whole: Whole) -> Option<Option<u16>>
     if !is_given(words, whole.name) {
         return Some(None);
     }
-    Some(Some(number(words, whole)? as u16))
+    Some(Some(short_number(words, whole)?))
 }
 
 // The number that an option gives, if it is given; `None` where it gives none of its range.
@@ -599,6 +637,15 @@ fn given_number(words: &ArgMatches<'_>, whole: Whole) -> Option<Option<u32>>
         return Some(None);
     }
     Some(Some(number(words, whole)?))
+}
+
+// How long a line may be.
+fn line_limit_in(words: &ArgMatches<'_>) -> Option<Limit>
+    ensures some { IfSome result (HasNumber (rows_of (found_of words.now)) (codes "line") 255 4095) }
+    ensures none { result ≡ None → MissesNumber (rows_of (found_of words.now)) (codes "line") 255 4095 }
+{
+    let bytes = short_number(words, LINE)?;
+    Limit::new(bytes)
 }
 
 // The number of an option, if it is within its range.
@@ -618,6 +665,17 @@ fn number(words: &ArgMatches<'_>, whole: Whole) -> Option<u32>
     Some(number)
 }
 
+// The same number where two bytes hold each of its range.
+fn short_number(words: &ArgMatches<'_>, whole: Whole) -> Option<u16>
+    requires { whole.most ≤ 65535 }
+    ensures some { IfSome result
+        (HasNumber (rows_of (found_of words.now)) whole.name.now whole.least whole.most) }
+    ensures none { result ≡ None
+        → MissesNumber (rows_of (found_of words.now)) whole.name.now whole.least whole.most }
+{
+    Some(number(words, whole)? as u16)
+}
+
 fn words_fault(alloc: Global, error: &Error) -> WordsFault
     ensures { TellsKind (kind_of error.now) result }
 {
@@ -633,6 +691,13 @@ fn words_fault(alloc: Global, error: &Error) -> WordsFault
             Err(_) => WordsFault::Memory,
         },
     }
+}
+
+// What is told of words that lack a value.
+fn no_value(alloc: Global) -> WordsFault
+    ensures { Lacks ⊤ result }
+{
+    lacking(alloc, &Lack::Words(NO_VALUE))
 }
 
 // What is told of words that lack this.

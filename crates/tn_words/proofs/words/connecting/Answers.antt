@@ -1,8 +1,16 @@
 use Rattle.std.proofs.Common.{◌≡◌, ◌∙◌, false, true, sym, ap, is_some, string_bytes}
 use Rattle.std.proofs.lemmas.Result.{err_from_is_err_and}
+use Rattle.clap.specs.Words.{found_of, rows_of}
 use Rattle.tn_words.proofs.Asking.{lacks_by, lacks_more}
 use Rattle.tn_words.proofs.Given.{has_none}
+use Rattle.tn_words.proofs.Parts.{connect_numbers_asked, connect_numbers_of}
 use Rattle.tn_words.proofs.words.connecting.Goals as goal
+
+pub returns-in_default-clause-lacks : goal.returns-in_default-clause-lacks
+returns-in_default-clause-lacks c =
+    let none = c.connect_numbers.ensures.none c.in_default.is in
+    lacks_by c.no_value.result c.no_value.ensures (λ asked asks.
+    none (connect_numbers_of asked) (connect_numbers_asked (rows_of (found_of c.args.words.now)) asked asks))
 
 pub returns-in_err-place-clause-lacks : goal.returns-in_err-place-clause-lacks
 returns-in_err-place-clause-lacks c =
@@ -19,7 +27,23 @@ returns-in_err-characters-clause-lacks c =
     let p = err_from_is_err_and c.from_residual-in_err-characters.result c.from_residual-in_err-characters.ensures.1 in
     rw (p.1, p.2) (lacks_more c.in_err-characters.field-0.0 (λ none asked asks. has_none _ _ none asks.characters) c.in_err-characters.ensures.lacks)
 
-pub returns-in_default-clause-lacks : goal.returns-in_default-clause-lacks
-returns-in_default-clause-lacks c =
+pub returns-in_default-line_end_in-clause-lacks : goal.returns-in_default-line_end_in-clause-lacks
+returns-in_default-line_end_in-clause-lacks c =
     lacks_by c.lacking.result c.lacking.ensures (λ asked asks.
-    let bad : false ≡ true = ap is_some (sym c.in_default.is ∙ (c.line_end_in.ensures ∙ asks.plain)) in absurd (cc))
+    let bad : false ≡ true = ap is_some (sym c.in_default-line_end_in.is ∙ (c.line_end_in.ensures ∙ asks.plain)) in absurd (cc))
+
+pub returns-clause-asked : goal.returns-clause-asked
+returns-clause-asked c =
+    let numbers = c.in-Some.ensures.asked in
+    record {
+      place = c.in_ok-place.ensures.asked;
+      width = numbers.width;
+      height = numbers.height;
+      line = numbers.line;
+      escape = c.in_ok-escape.ensures.asked;
+      characters = c.in_ok-characters.ensures.asked;
+      trace = c.in_ok-trace.ensures;
+      wait = numbers.wait;
+      quiet = numbers.quiet;
+      plain = sym c.line_end_in.ensures ∙ c.in-Some-line_end_in.is;
+    }

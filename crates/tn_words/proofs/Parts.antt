@@ -1,0 +1,62 @@
+-- What is asked for, in its parts.
+use Rattle.std.proofs.Common.{List}
+use Rattle.clap.specs.Words.{Row}
+use Rattle.tn_words.specs.Parts.{AsksConnectNumbers, AsksServeChoices, AsksServeNumbers}
+use Rattle.tn_words.specs.Words.{AsksConnect, AsksServe}
+use Rattle.tn_words.specs.declared.settings.ConnectWords.{ConnectWords}
+use Rattle.tn_words.specs.declared.settings.ServeWords.{ServeWords}
+use Rattle.tn_words.specs.declared.words.ConnectNumbers.{ConnectNumbers}
+use Rattle.tn_words.specs.declared.words.ServeChoices.{ServeChoices}
+use Rattle.tn_words.specs.declared.words.ServeNumbers.{ServeNumbers}
+
+abbrev pub serve_numbers_of : ServeWords → ServeNumbers
+serve_numbers_of asked = record {
+  port = asked.port;
+  sessions = asked.sessions;
+  per_host = asked.per_host;
+  ticks = asked.ticks;
+  line_limit = asked.line_limit;
+  idle = asked.idle;
+  longest = asked.longest;
+  local = asked.local;
+  verbose = asked.verbose;
+}
+
+pub serve_numbers_asked : (rows : List Row) (asked : ServeWords) → AsksServe rows asked
+    → AsksServeNumbers rows (serve_numbers_of asked)
+serve_numbers_asked rows asked asks = record {
+  port = asks.port;
+  limit = asks.limit;
+  per_host = asks.per_host;
+  ticks = asks.ticks;
+  line = asks.line;
+  idle = asks.idle;
+  longest = asks.longest;
+  edited = asks.edited;
+  verbose = asks.verbose;
+}
+
+abbrev pub choices_of : ServeWords → ServeChoices
+choices_of asked = record { line_end = asked.line_end; ends_cut = asked.ends_cut; count = asked.count }
+
+pub choices_asked : (rows : List Row) (asked : ServeWords) → AsksServe rows asked → AsksServeChoices rows (choices_of asked)
+choices_asked rows asked asks = record { line_end = asks.line_end; ends_cut = asks.ends_cut; count = asks.count }
+
+abbrev pub connect_numbers_of : ConnectWords → ConnectNumbers
+connect_numbers_of asked = record {
+  width = asked.width;
+  height = asked.height;
+  line_limit = asked.line_limit;
+  wait = asked.wait;
+  quiet = asked.quiet;
+}
+
+pub connect_numbers_asked : (rows : List Row) (asked : ConnectWords) → AsksConnect rows asked
+    → AsksConnectNumbers rows (connect_numbers_of asked)
+connect_numbers_asked rows asked asks = record {
+  width = asks.width;
+  height = asks.height;
+  line = asks.line;
+  wait = asks.wait;
+  quiet = asks.quiet;
+}

@@ -1,0 +1,20 @@
+use Rattle.std.proofs.Common.{◌∙◌, ap, sym, option_map}
+use Rattle.clap.specs.Words.{found_of, rows_of, subcommand_rows_of}
+use Rattle.tn_words.proofs.Asking.{connects_not, lacks_more, name_in, serves_not}
+use Rattle.tn_words.proofs.words.asked_of.Goals as goal
+
+pub returns-in-Err-clause-lacks : goal.returns-in-Err-clause-lacks
+returns-in-Err-clause-lacks c =
+    let m = c.args.matches.now in
+    let named = sym (name_in m) ∙ (sym c.subcommand.ensures.name ∙ ap (option_map (λ p. p.0.now)) c.in-Some.is) in
+    let has = sym c.subcommand.ensures.rows ∙ ap (option_map (λ p. rows_of (found_of p.1.now))) c.in-Some.is in
+    lacks_more c.in-Err.fault (serves_not (subcommand_rows_of m) c.in-Some.name.now
+    (rows_of (found_of c.in-Some.words.now)) named has c.in-serve.is) c.in-Err.ensures.lacks
+
+pub returns-in-Err-connecting-clause-lacks : goal.returns-in-Err-connecting-clause-lacks
+returns-in-Err-connecting-clause-lacks c =
+    let m = c.args.matches.now in
+    let named = sym (name_in m) ∙ (sym c.subcommand.ensures.name ∙ ap (option_map (λ p. p.0.now)) c.in-Some.is) in
+    let has = sym c.subcommand.ensures.rows ∙ ap (option_map (λ p. rows_of (found_of p.1.now))) c.in-Some.is in
+    lacks_more c.in-Err-connecting.fault (connects_not (subcommand_rows_of m) c.in-Some.name.now
+    (rows_of (found_of c.in-Some.words.now)) named has c.in-connect.is) c.in-Err-connecting.ensures.lacks

@@ -1,0 +1,53 @@
+use Rattle.std.proofs.Common.{◌∙◌, codes}
+use Rattle.clap.specs.Words.{found_of}
+use Rattle.clap.proofs.WalkLemmas.{one_text-rows}
+use Rattle.tn_words.proofs.words.serve_numbers.Goals as goal
+
+pub returns-in_err-short_number-clause-none : goal.returns-in_err-short_number-clause-none
+returns-in_err-short_number-clause-none c none asked asks =
+    c.short_number.ensures.none c.in_err-short_number.was asked.port asks.port
+
+pub returns-in_err-short_number-2-clause-none : goal.returns-in_err-short_number-2-clause-none
+returns-in_err-short_number-2-clause-none c none asked asks =
+    c.short_number-2.ensures.none c.in_err-short_number-2.was asked.sessions asks.limit
+
+pub returns-in_err-short_number-3-clause-none : goal.returns-in_err-short_number-3-clause-none
+returns-in_err-short_number-3-clause-none c none asked asks =
+    c.short_number-3.ensures.none c.in_err-short_number-3.was asked.per_host asks.per_host
+
+pub returns-in_err-short_number-4-clause-none : goal.returns-in_err-short_number-4-clause-none
+returns-in_err-short_number-4-clause-none c none asked asks =
+    c.short_number-4.ensures.none c.in_err-short_number-4.was asked.ticks asks.ticks
+
+pub returns-in_err-line_limit_in-clause-none : goal.returns-in_err-line_limit_in-clause-none
+returns-in_err-line_limit_in-clause-none c none asked asks =
+    c.line_limit_in.ensures.none c.in_err-line_limit_in.was asked.line_limit asks.line
+
+pub returns-in_err-number-clause-none : goal.returns-in_err-number-clause-none
+returns-in_err-number-clause-none c none asked asks =
+    c.number.ensures.none c.in_err-number.was asked.idle asks.idle
+
+pub returns-in_err-number-2-clause-none : goal.returns-in_err-number-2-clause-none
+returns-in_err-number-2-clause-none c none asked asks =
+    c.number-2.ensures.none c.in_err-number-2.was asked.longest asks.longest
+
+pub returns-clause-asked : goal.returns-clause-asked
+returns-clause-asked c = record {
+  port = c.in_ok-short_number.ensures.some;
+  limit = c.in_ok-short_number-2.ensures.some;
+  per_host = c.in_ok-short_number-3.ensures.some;
+  ticks = c.in_ok-short_number-4.ensures.some;
+  line = c.in_ok-line_limit_in.ensures.some;
+  idle = c.in_ok-number.ensures.some;
+  longest = c.in_ok-number-2.ensures.some;
+  edited = record {
+    given = λ is. c.get_flag.ensures.value (one_text-rows (found_of c.args.words.now) (codes "local") ∙ is);
+    not_given = λ is. c.get_flag.ensures.other (one_text-rows (found_of c.args.words.now) (codes "local") ∙ is);
+    unknown = λ is. c.get_flag.ensures.none (one_text-rows (found_of c.args.words.now) (codes "local") ∙ is);
+  };
+  verbose = record {
+    given = λ is. c.get_flag-2.ensures.value (one_text-rows (found_of c.args.words.now) (codes "verbose") ∙ is);
+    not_given = λ is. c.get_flag-2.ensures.other (one_text-rows (found_of c.args.words.now) (codes "verbose") ∙ is);
+    unknown = λ is. c.get_flag-2.ensures.none (one_text-rows (found_of c.args.words.now) (codes "verbose") ∙ is);
+  };
+}
