@@ -4,6 +4,7 @@ pub mod Changing
 pub mod ClientSteps
 pub mod ClientWrites
 pub mod Cut
+pub mod Delivering
 pub mod Engines
 pub mod Failing
 pub mod Following

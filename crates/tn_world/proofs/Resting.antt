@@ -1,5 +1,5 @@
 -- No wish of an end waits behind another where none does at the four options that it knows.
-use Rattle.std.proofs.Common.{◌≡◌, ◌↔◌, ℕ, ◌==◌, Bool, true, false, ◌&&◌, Option, Some, None, List, [], ◌∷◌, length, not, is_some, refl, ap, ◌∙◌, sym, arith}
+use Rattle.std.proofs.Common.{◌≡◌, ◌≢◌, ◌↔◌, ℕ, ◌==◌, Bool, true, false, ◌&&◌, Option, Some, None, List, [], ◌∷◌, length, not, is_some, refl, ap, ◌∙◌, sym, arith}
 use Rattle.std.proofs.Common.{nat_eq, Bor}
 use Rattle.std.specs.Prelude.{option_copied, slice_get}
 use Rattle.std.specs.Option.{option_eq}
@@ -131,3 +131,25 @@ chars_same a b h =
     (same_byte a.eol b.eol v.0)
     ∙ ap (λ x. record { intr = b.intr; quit = b.quit; eof = b.eof; susp = b.susp; erase = b.erase; kill = b.kill; eol = b.eol; eol2 = x })
     (same_byte a.eol2 b.eol2 v.1)
+
+-- characters that compare as others
+eqb_self : (n : ℕ) → nat_eq n n ≡ true
+eqb_self n = grind arith
+
+byte_self : (a : Option ℕ) → option_eq nat_eq a a ≡ true
+byte_self None = refl
+byte_self (Some n) = eqb_self n
+
+pub chars_other : (a b : Characters) → true ≡ not (option_eq nat_eq a.intr b.intr &&
+    (option_eq nat_eq a.quit b.quit && (option_eq nat_eq a.eof b.eof &&
+    (option_eq nat_eq a.susp b.susp && (option_eq nat_eq a.erase b.erase &&
+    (option_eq nat_eq a.kill b.kill && (option_eq nat_eq a.eol b.eol && option_eq nat_eq a.eol2 b.eol2))))))) → a ≢ b
+chars_other a b h is =
+    let same = and_from _ _ (byte_self b.intr) (and_from _ _ (byte_self b.quit) (and_from _ _ (byte_self b.eof)
+    (and_from _ _ (byte_self b.susp) (and_from _ _ (byte_self b.erase) (and_from _ _ (byte_self b.kill)
+    (and_from _ _ (byte_self b.eol) (byte_self b.eol2))))))) in
+    let other = rw is at h in absurd (let bad = other ∙ ap not same in cc)
+
+-- a test that fails, and what holds only where it does not
+pub refuted : {A B : Type 0} (test : Bool) → (A → test ≡ true) → test ≡ false → (B → A) → false ≡ true ↔ B
+refuted test told fails part = (λ t. absurd (let bad = t in cc), λ b. absurd (let bad = sym fails ∙ told (part b) in cc))

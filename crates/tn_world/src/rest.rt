@@ -35,12 +35,10 @@ impl World {
     fn is_idle(&self) -> bool
         ensures { IsTrue result ↔ IsIdle self.now }
     {
-        self.to_server.is_empty()
-            && self.to_client.is_empty()
-            && !self.server_stopped
-            && !self.server.failed()
-            && !self.client_stopped
-            && !self.client.failed()
+        if !self.is_flight_empty() || self.server_stopped || self.client_stopped {
+            return false;
+        }
+        !self.server.failed() && !self.client.failed()
     }
 
     // The ends agree on options, masks and special characters.

@@ -50,7 +50,7 @@ impl World {
     }
 
     // Whether nothing is in flight to either end.
-    fn is_flight_empty(&self) -> bool
+    pub(crate) fn is_flight_empty(&self) -> bool
         ensures { IsTrue result ↔ NothingInFlight self.now }
     {
         self.to_server.is_empty() && self.to_client.is_empty()
