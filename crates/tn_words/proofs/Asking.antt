@@ -1,6 +1,6 @@
 -- What a parse of the words says of them.
 use Rattle.std.proofs.Common.{◌≡◌, ◌≢◌, ◌⊎◌, inl, inr, ℕ, Bool, true, false, Option, Some, None, List, [], ◌∷◌, codes, slice_index, option_map, refl, sym, ap}
-use Rattle.std.proofs.Common.{◌∙◌, subst, arith, ◌<◌}
+use Rattle.std.proofs.Common.{◌∙◌, subst, arith, ◌<◌, is_some, ap₂}
 use Rattle.std.specs.Prelude.{unwrap_or, ⊤}
 use Rattle.clap.specs.Words.{App, Row, Text, subcommand_name_of, subcommand_of, subcommand_rows_of, HasMatchesOf, takes, fault_of, is_simple}
 use Rattle.clap.specs.Words.{is_simple_and_free, IsAmong}
@@ -101,6 +101,16 @@ name_in m = sym (composed _ _ (out-ArgMatches m).subcommand)
 apart : (name a b : Text) → name ≡ a → name ≡ b → slice_index a 0 < slice_index b 0 → ⊥
 apart name a b is_a is_b less =
     let same : slice_index a 0 ≡ slice_index b 0 = ap (λ t. slice_index t 0) (sym is_a ∙ is_b) in absurd (omega arith)
+
+-- a subcommand asks for what its name and its options ask for
+pub asks_in : (sub : Option (Text × List Row)) (name : Text) (rows : List Row) (asked : Asked)
+    → option_map (λ p. p.0) sub ≡ Some name → option_map (λ p. p.1) sub ≡ Some rows → Asks (name, rows) asked
+    → AsksIn sub asked
+asks_in None name rows asked named has asks = let bad : false ≡ true = ap is_some named in absurd (cc)
+asks_in (Some p) name rows asked named has asks =
+    let same : name ≡ p.0 = sym (ap (λ o. unwrap_or o name) named) in
+    let at : rows ≡ p.1 = sym (ap (λ o. unwrap_or o rows) has) in
+    subst (λ (q : Text × List Row). Asks q asked) (ap₂ (λ (n : Text) (r : List Row). (n, r)) same at) asks
 
 -- a subcommand `connect` whose options ask for no connection asks for nothing
 pub connects_not : (sub : Option (Text × List Row)) (name : Text) (rows : List Row) → option_map (λ p. p.0) sub ≡ Some name
