@@ -14,6 +14,9 @@ pub returns : goal.returns
 returns g c =
     let job = c.in-Some-HangUp.job in
     let words = c.last_words-words.result.now in
-    rw (c.in-Some-HangUp.is-0, c.in-Some-HangUp.is-1) (words, c.last_words-words.ensures.one,
-    ap (λ (text : Text). Said job text Stay ∷ []) (c.from-text.ensures ∙ c.in_ok-from_slice.ensures.items)
-    ∙ said_some job words (search rules))
+    rw (c.in-Some-HangUp.is-0, c.in-Some-HangUp.is-1) (
+      words,
+      c.last_words-words.ensures.one,
+      ap (λ (text : Text). Said job text Stay ∷ []) (c.from-text.ensures ∙ c.in_ok-from_slice.ensures.items)
+          ∙ said_some job words (search rules),
+    )

@@ -30,5 +30,10 @@ returns-in-Ok-read_some-clause-gives g c =
     let buffer = c.read_some.new.buf in
     let bound = c.in-Ok-read_some.ensures.bound in
     let same : c.from.result ≡ take n buffer = grind (arith, common_steps) in
-    rw same (c.in-Ok-read_some.ensures.bytes.0, (omega (arith, length-take n buffer, bound.0, c.in-Ok-read_some.n-test),
-    omega (arith, length-take n buffer, bound.0, c.read_some.auto.buf, c.as_mut_slice.ensures.len, c.in-Ok.ensures.len)))
+    rw same (
+      c.in-Ok-read_some.ensures.bytes.0,
+      (
+        omega (arith, length-take n buffer, bound.0, c.in-Ok-read_some.n-test),
+        omega (arith, length-take n buffer, bound.0, c.read_some.auto.buf, c.as_mut_slice.ensures.len, c.in-Ok.ensures.len),
+      ),
+    )

@@ -9,7 +9,7 @@ pub returns-in_err-put_size-clause-full : goal.returns-in_err-put_size-clause-fu
 returns-in_err-put_size-clause-full c =
     let old = c.self.inside in
     let told : (tells_size old.options && not (is_same_size (old.width, old.height) (c.args.width, c.args.height))) ≡ true =
-        grind (arith, common_steps) in
+    grind (arith, common_steps) in
     let p = err_from_is_err_and c.from_residual.result c.from_residual.ensures.1 in
     rw (p.1, ← c.self.view_is, told) c.in_err-put_size.ensures.full
 
@@ -17,5 +17,5 @@ pub returns-then-is_new-clause-out : goal.returns-then-is_new-clause-out
 returns-then-is_new-clause-out c =
     let old = c.self.inside in
     let told : (tells_size old.options && not (is_same_size (old.width, old.height) (c.args.width, c.args.height))) ≡ true =
-        grind (arith, common_steps) in
+    grind (arith, common_steps) in
     rw (← c.self.view_is, told) c.in_ok-put_size.ensures.ok
