@@ -1,5 +1,5 @@
 -- The jobs of a session that is joined to a service.
-use Rattle.std.specs.Prelude.{◌≡◌, ℕ, ◌+◌, IsFalse, Option, Some, None, List}
+use Rattle.std.specs.Prelude.{◌≡◌, ℕ, ◌+◌, IsFalse, IfSome, Option, Some, None, List}
 use Rattle.tn_discipline.specs.declared.reads.Entry.{Entry}
 use Rattle.tn_services.specs.Sending.{SendsEntry, WantsMemory, silent}
 use Rattle.tn_services.specs.Showing.{Shows}
@@ -43,6 +43,15 @@ GivesReached reached lines (Some hook) (side.Sends sending) =
     reached sending.writer × (sending.lines ≡ lines)
 GivesReached reached lines (Some hook) (side.Shows showing) = Unit {0}
 GivesReached reached lines None job = Unit {0}
+
+-- where the connection was still to be tried, the jobs are both of it, and with such a writer if there is one;
+-- else they are as they were
+abbrev pub Connects : {R W A : Type 0} → (W → Type 0) → LineFormat → Option A → Option (Gateways R W)
+    → Option (Gateways R W) → Type 0
+Connects {R = R} {W = W} reached lines (Some hook) old new =
+    (made : Gateways R W) × (new ≡ Some made) × (count made.writer + count made.reader ≡ 2)
+    × (made.lines ≡ lines) × IfSome made.writer reached
+Connects reached lines None old new = new ≡ old
 
 abbrev pub IsFresh : {R W : Type 0} → Gateway R W → Type 0
 IsFresh (side.Sends sending) = sending.way ≡ Open

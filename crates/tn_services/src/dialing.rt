@@ -2,9 +2,10 @@
 
 ghost use Rattle.std.specs.Io.{ReadsAtMost, WritesAtMost};
 ghost use Rattle.std.specs.Io.KnownBytes.{ReadConsumes, WriteAppends};
-ghost use Rattle.std.specs.Prelude.{◌≡◌, ◌+◌, None, IfOk, IfSome, IsSome, option_map, string_bytes};
+ghost use Rattle.std.specs.Prelude.{◌≡◌, ◌+◌, None, IfOk, IfSome, IsSome, OnErr, OnOk, option_map};
+ghost use Rattle.std.specs.Prelude.{string_bytes};
 ghost use Rattle.tn_services.specs.Dialing.{IsReached, bytes_left, bytes_held};
-ghost use Rattle.tn_services.specs.Joining.{count};
+ghost use Rattle.tn_services.specs.Joining.{Connects, count};
 ghost use Rattle.tn_network.specs.Asked.{Reaches};
 ghost use Rattle.tn_sockets.specs.Passing.{HandsOn};
 
@@ -156,6 +157,21 @@ impl<H: Copy + Network + Wait, N: Drop> Joiner<H, N> {
         };
         Ok(Gateways::new(reader, writer, self.lines))
     }
+
+    // Joins the session to the service, where that was not tried yet.
+    fn connect(&mut self, alloc: Global) -> Result<(), AllocError>
+        ensures connects { OnOk result (Connects (λ told. IsReached (Reaches
+            (H.finds self.old.rt (string_bytes self.old.host) self.old.port) (H.dials self.old.rt)) told.stream)
+            self.old.lines self.old.hook self.old.jobs self.new.jobs) }
+        ensures tried { self.new.hook ≡ None }
+        ensures refused { OnErr result (IsSome self.old.hook) }
+    {
+        let Some((hook, notes)) = self.hook.take() else {
+            return Ok(());
+        };
+        self.jobs = Some(self.join(alloc, hook, notes)?);
+        Ok(())
+    }
 }
 
 impl<H: Copy + Network + Wait, N: HearsCut + Drop> Maker for Joiner<H, N> {
@@ -179,9 +195,7 @@ impl<H: Copy + Network + Wait, N: HearsCut + Drop> Maker for Joiner<H, N> {
         Option<Gateway<ServiceReader<H, TcpStream>, ServiceWriter<H, TcpStream, N>>>,
         AllocError,
     > {
-        if let Some((hook, notes)) = self.hook.take() {
-            self.jobs = Some(self.join(alloc, hook, notes)?);
-        }
+        self.connect(alloc)?;
         match &mut self.jobs {
             Some(jobs) => {
                 let next = jobs.next(alloc)?;

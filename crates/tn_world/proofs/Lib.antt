@@ -27,6 +27,7 @@ pub mod SettledOutput
 pub mod Showing
 pub mod Soundness
 pub mod Stages
+pub mod Taking
 pub mod Tied
 pub mod TooFar
 pub mod Typing

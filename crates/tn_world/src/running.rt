@@ -1,6 +1,7 @@
 //! What each event does.
 
-ghost use Rattle.std.specs.Prelude.{◌≡◌, ◌<◌, ℕ, IsFalse, List, length, take, drop, IfOk, IfErr, OnOk, OnErr};
+ghost use Rattle.std.specs.Prelude.{◌≡◌, ◌≢◌, ◌<◌, ℕ, IsFalse, List, [], length, take, drop, IfOk, IfErr};
+ghost use Rattle.std.specs.Prelude.{OnOk, OnErr};
 ghost use Rattle.tn_discipline.specs.Canon.{Canon};
 ghost use Rattle.tn_world.specs.Headline.{Headline, Follows, IsQuiet};
 ghost use Rattle.tn_world.specs.Output.{IsOutput, OutputGrowsAll, OutputGrowsBefore};
@@ -197,9 +198,27 @@ impl World {
         ensures err { IfErr result (λ cause. Refuses self.old event.Take cause self.new) }
     {
         if self.none_waits() {
-            let _none = self.server.take(&mut self.to_client)?;
-            return Ok(());
+            return self.take_none();
         }
+        self.take_first()
+    }
+
+    // The job finds none that waits, which the server may have to say.
+    fn take_none(&mut self) -> Result<(), Cause>
+        requires { self.old.server.terminal.entries ≡ [] }
+        ensures ok { OnOk result (RunsEvent self.old event.Take self.new) }
+        ensures err { IfErr result (λ cause. Refuses self.old event.Take cause self.new) }
+    {
+        let _none = self.server.take(&mut self.to_client)?;
+        Ok(())
+    }
+
+    // The job takes the first that waits.
+    fn take_first(&mut self) -> Result<(), Cause>
+        requires { self.old.server.terminal.entries ≢ [] }
+        ensures ok { OnOk result (RunsEvent self.old event.Take self.new) }
+        ensures err { IfErr result (λ cause. Refuses self.old event.Take cause self.new) }
+    {
         self.taken.reserve(1)?;
         if let Some(entry) = self.server.take(&mut self.to_client)? {
             self.taken.push_reserved(entry);
