@@ -44,7 +44,7 @@ GivesReached reached lines (Some hook) (side.Sends sending) =
 GivesReached reached lines (Some hook) (side.Shows showing) = Unit {0}
 GivesReached reached lines None job = Unit {0}
 
--- where the connection was still to be tried, the jobs are both of it, and with such a writer if there is one;
+-- where the connection was still to be tried, the jobs are both of it, with such a writer if one is to come;
 -- else they are as they were
 abbrev pub Connects : {R W A : Type 0} → (W → Type 0) → LineFormat → Option A → Option (Gateways R W)
     → Option (Gateways R W) → Type 0

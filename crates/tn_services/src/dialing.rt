@@ -161,8 +161,8 @@ impl<H: Copy + Network + Wait, N: Drop> Joiner<H, N> {
     // Joins the session to the service, where that was not tried yet.
     fn connect(&mut self, alloc: Global) -> Result<(), AllocError>
         ensures connects { OnOk result (Connects (λ told. IsReached (Reaches
-            (H.finds self.old.rt (string_bytes self.old.host) self.old.port) (H.dials self.old.rt)) told.stream)
-            self.old.lines self.old.hook self.old.jobs self.new.jobs) }
+            (H.finds self.old.rt (string_bytes self.old.host) self.old.port) (H.dials self.old.rt))
+            told.stream) self.old.lines self.old.hook self.old.jobs self.new.jobs) }
         ensures tried { self.new.hook ≡ None }
         ensures refused { OnErr result (IsSome self.old.hook) }
     {
