@@ -1,4 +1,4 @@
-use Rattle.std.proofs.Common.{ℕ, ap, inr, subst, sym}
+use Rattle.std.proofs.Common.{ℕ, ap, inr, subst, sym, ◌∙◌}
 use Rattle.tn_serve.proofs.Hearing.{jobs_made, jobs_refused, made_and_ended, not_asked, session_ended}
 use Rattle.tn_serve.specs.Counted.{HasEnded, facts_of, server_of}
 use Rattle.tn_serve.specs.Ends.{whole_of}
@@ -38,3 +38,26 @@ returns-clause-none g c =
     (ap whole_of c.unstarted.ensures) made
     (session_ended g.V.Service.turns (HasEnded server) c.args.caller.number c.unstarted.result c.session.new.self c.ended.new.self c.ended.ensures.turns
     (inr c.unstarted.ensures))
+
+pub returns-in_default-clause-makes : goal.returns-in_default-clause-makes
+returns-in_default-clause-makes g c jobs made = made
+
+pub returns-in_default-session-clause-makes : goal.returns-in_default-session-clause-makes
+returns-in_default-session-clause-makes g c = c.in_default-session.ensures.still
+
+pub returns-in-Some-start-clause-makes : goal.returns-in-Some-start-clause-makes
+returns-in-Some-start-clause-makes g c = c.in-Ok.ensures.still
+
+pub returns-in-Some-start-clause-over : goal.returns-in-Some-start-clause-over
+returns-in-Some-start-clause-over g c =
+    ap (λ s. s.promise.stream.value) c.new.ensures.session ∙ c.in-Some-start.ensures.over
+
+pub returns-clause-makes : goal.returns-clause-makes
+returns-clause-makes g c jobs made = c.in-Ok.ensures.still jobs (c.ended.ensures.still jobs made)
+
+pub new-requires-clause-asked : goal.new-requires-clause-asked
+new-requires-clause-asked g c = c.in-Some-start.ensures.options ∙ c.args.self.now.asked
+
+pub new-requires-clause-made : goal.new-requires-clause-made
+new-requires-clause-made g c =
+    subst (λ j. g.O.Asked.made j) (sym c.in-Some-start.ensures.jobs) (c.requires.makes c.in-Ok.jobs c.in-Ok.ensures.makes)
