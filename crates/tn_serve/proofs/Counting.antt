@@ -1,5 +1,5 @@
 -- One session more is counted.
-use Rattle.std.proofs.Common.{◌≡◌, inl, inr, ℕ, ◌+◌, [], ◌∷◌, false, true, Result, Ok, Err, IsOk, IfOk, arith, refl, subst}
+use Rattle.std.proofs.Common.{◌≡◌, inl, inr, ℕ, ◌+◌, [], ◌∷◌, false, true, Result, Ok, Err, IsOk, IfOk, arith, refl, subst, ◌∙◌}
 use Rattle.std.specs.declared.net.tcp.TcpStream.{TcpStream}
 use Rattle.tn_serve.specs.Counted.{CountsSessions, Joined, ServerFacts, StillCounts}
 use Rattle.tn_serve.specs.Ends.{IsWhole, finished_as, whole_end, whole_of, whole_report}
@@ -11,6 +11,19 @@ use Rattle.tn_machines.specs.declared.faults.SessionFault.{SessionFault}
 use Rattle.tn_session.specs.declared.parties.Report.{Report}
 
 module _ {M J : Type 0} (server : ServerFacts M J) (whole faulted refused : ℕ) where
+  -- as many are counted
+  pub none_more : (whole' faulted' refused' : ℕ) → (whole' ≡ whole) × (faulted' ≡ faulted) × (refused' ≡ refused)
+      → StillCounts server whole faulted refused whole' faulted' refused'
+  none_more whole' faulted' refused' same c = record {
+    whole_ones = c.whole_ones;
+    faulted_ones = c.faulted_ones;
+    unstarted = c.unstarted;
+    refused_ones = c.refused_ones;
+    whole_is = same.0 ∙ c.whole_is;
+    faulted_is = same.1 ∙ c.faulted_is;
+    refused_is = same.2 ∙ c.refused_is;
+  }
+
   pub one_unstarted : StillCounts server whole faulted refused whole (faulted + 1) refused
   one_unstarted c = record {
     whole_ones = c.whole_ones;

@@ -1,7 +1,7 @@
 //! A session over a connection that came to its report.
 
 ghost use Rattle.std.specs.Prelude.{◌≡◌};
-ghost use Rattle.tn_serve.specs.Ends.{finished_as, not_started};
+ghost use Rattle.tn_serve.specs.Ends.{finished_as};
 
 use crate::finished::Finished;
 use std::net::TcpStream;
@@ -33,17 +33,6 @@ pub(crate) struct Ran {
 }
 
 impl Ran {
-    // None of its threads could be started.
-    pub(crate) fn unstarted() -> Ran
-        ensures { finished_as result ≡ not_started }
-    {
-        Ran {
-            ended: Err(SessionFault::Start),
-            idle: false,
-            too_long: false,
-        }
-    }
-
     // How it ended, as it is told to a service.
     pub(crate) fn finished(&self) -> Finished
         ensures { result ≡ finished_as self.now }

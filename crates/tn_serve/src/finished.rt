@@ -1,7 +1,7 @@
 //! How a session over a connection ended.
 
 ghost use Rattle.std.specs.Prelude.{◌≡◌, IsTrue, false, IsFalse};
-ghost use Rattle.tn_serve.specs.Ends.{IsWhole};
+ghost use Rattle.tn_serve.specs.Ends.{IsWhole, not_started};
 ghost use Rattle.tn_serve.specs.Notes.{entries_of};
 
 use tn_session::{Report, SessionFault};
@@ -28,6 +28,18 @@ impl Finished {
             Err(_) => false,
         }
     }
+
+    /// None of its threads could be started.
+    pub(crate) fn unstarted() -> Finished
+        ensures { result ≡ not_started }
+    {
+        Finished {
+            report: Err(SessionFault::Start),
+            idle: false,
+            too_long: false,
+        }
+    }
+
     /// The entries that went to its job.
     pub(crate) fn entries(&self) -> u64
         ensures { result ≡ entries_of self.now }

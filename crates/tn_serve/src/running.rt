@@ -199,8 +199,7 @@ impl<J: Job, M: Maker<Job = J>, O: Asked<M>> Running<J, M, O> {
             session,
             ..
         } = self.started.swap_remove(place);
-        let ran = session.join(rt);
-        let finished = ran.finished();
+        let finished = session.join(rt).finished();
         if finished.is_whole() {
             self.whole += 1;
         } else {

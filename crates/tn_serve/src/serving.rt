@@ -1,11 +1,11 @@
 //! Each connection has a session in threads of its own.
 
 ghost use Rattle.std.specs.Prelude.{◌≡◌, ◌⊎◌, ◌<◌, ◌≤◌, ◌+◌, ◌^◌, ◌-◌, true, IsTrue, IfOk, IfSome, IfNone};
-ghost use Rattle.std.specs.Prelude.{IsErrOf};
+ghost use Rattle.std.specs.Prelude.{[], IsErrOf, Ok};
 ghost use Rattle.std.specs.Prelude.{vec_items, vec_len};
 ghost use Rattle.tn_serve.specs.Causes.{FailsBy, IsCaused};
 ghost use Rattle.tn_serve.specs.Counted.{CountsSessions, HasEnded, StillCounts, facts_of, server_of};
-ghost use Rattle.tn_serve.specs.Ends.{ServesAll, ServesUntil};
+ghost use Rattle.tn_serve.specs.Ends.{AreEnough, ServesAll, ServesUntil};
 ghost use Rattle.tn_serve.specs.Places.{AreHeld, AreHeldBeside, HasNoPlace, RunsAll, RunsOver};
 ghost use Rattle.tn_serve.specs.Places.{count_from};
 ghost use Rattle.tn_serve.specs.Services.{MakesOnly, StillMakes, TurnsAway, WasTurnedAway};
@@ -13,18 +13,17 @@ ghost use Rattle.tn_serve.specs.Turns.{HearsAll, HearsOfJobs, HearsOfNone, Still
 ghost use Rattle.tn_network.specs.Asked.{Accepts, Listens};
 ghost use Rattle.tn_roster.specs.Held.{IsLimit, held_count};
 
-use crate::acceptor::Acceptor;
+use crate::acceptor::{Accepted, Acceptor, AcceptorSays};
 use crate::asked::Asked;
 use crate::call::{Call, Notes};
 use crate::caller::Caller;
-use crate::conversed::Ran;
 use crate::events::Event;
 use crate::fault::ServeFault;
 use crate::finished::Finished;
 use crate::listening::{At, listen_at};
 use crate::note_texts;
 use crate::notes::note;
-use crate::running::{Running, Started, tell_fault};
+use crate::running::{Left, Running, Started, tell_fault};
 use crate::served::Served;
 use crate::service::Service;
 use crate::session::Session;
@@ -38,6 +37,7 @@ use std::io::Write;
 use std::marker::Brand;
 use std::net::{SocketAddr, TcpListener, TcpStream};
 use std::sync::Arc;
+use std::thread::PromisedHandle;
 use std::time::{Duration, Instant};
 use tn_network::Network;
 use tn_roster::Roster;
@@ -146,20 +146,10 @@ fn serve_as<
     let count = serving.count;
     let roster = Roster::new(alloc, usize::from(serving.sessions))?;
     let (sender, receiver) = crossbeam_channel::bounded(alloc, EVENTS)?;
-    if let (true, Ok(address)) = (serving.verbose, listener.local_addr()) {
-        note(&rt, alloc, note_texts::listening(alloc, &address), errors);
+    if serving.verbose {
+        tell_listening(&rt, alloc, listener, errors);
     }
-    let acceptor = Acceptor {
-        rt,
-        listener: rt.share(listener)?,
-        events: sender.clone()?,
-        count,
-        until,
-        verbose: serving.verbose,
-    };
-    let Some(acceptor) = acceptor.start() else {
-        return Err(ServeFault::Memory);
-    };
+    let acceptor = accepting(rt, listener, &sender, until, count, serving.verbose)?;
     let mut open: Open<H, V, O> = Open {
         rt,
         alloc,
@@ -171,12 +161,60 @@ fn serve_as<
         events: sender,
         turned_away: TurnedAway::new(alloc),
     };
-    open.serve_all(&receiver, errors);
-    open.join_all(errors);
-    let served = open.running.served();
+    let served = open.run(&receiver, errors);
     drop(open);
     drop(receiver);
     let accepted = acceptor.join(&rt);
+    agreed(served, accepted, count)
+}
+
+// Notes where connections are accepted.
+fn tell_listening<H: Host, E: Write>(
+    rt: &H,
+    alloc: Global,
+    listener: &TcpListener,
+    errors: &mut E,
+) {
+    if let Ok(address) = listener.local_addr() {
+        note(rt, alloc, note_texts::listening(alloc, &address), errors);
+    }
+}
+
+// Accepts connections in a thread of their own.
+fn accepting<H: Host + Network, U: Until + Drop + Send + 'static>(
+    rt: H,
+    listener: &TcpListener,
+    events: &Sender<Event, Global>,
+    until: U,
+    count: u64,
+    verbose: bool,
+) -> Result<PromisedHandle<Accepted, AcceptorSays<H, U>>, ServeFault>
+    ensures rt { IfOk result (λ handle. handle.promise.rt.value ≡ rt) }
+    ensures shares { IfOk result (λ handle. H.shares rt listener.now (Ok handle.promise.listener.value)) }
+    ensures until { IfOk result (λ handle. handle.promise.until.value ≡ until) }
+    ensures in_limit { ¬ IsErrOf result ServeFault.Limit }
+{
+    let acceptor = Acceptor {
+        rt,
+        listener: rt.share(listener)?,
+        events: events.clone()?,
+        count,
+        until,
+        verbose,
+    };
+    match acceptor.start() {
+        Some(handle) => Ok(handle),
+        None => Err(ServeFault::Memory),
+    }
+}
+
+// What became of the connections, where as many were accepted as were served, and enough.
+fn agreed(served: Served, accepted: Accepted, count: u64) -> Result<Served, ServeFault>
+    ensures served { IfOk result (λ agreed. agreed ≡ served) }
+    ensures accepted { IfOk result (λ agreed. agreed.accepted ≡ accepted.count) }
+    ensures enough { IfOk result (λ _. AreEnough count accepted) }
+    ensures in_limit { ¬ IsErrOf result ServeFault.Limit }
+{
     if served.accepted() != accepted.count {
         return Err(ServeFault::Network);
     }
@@ -189,11 +227,9 @@ fn serve_as<
 /// What a session that is to start needs beside its jobs.
 #[derive(Drop)]
 struct Prepared {
+    call: Call,
     events: Sender<Event, Global>,
-    /// For the notes of its jobs.
-    noting: Sender<Event, Global>,
     standing: Arc<Standing, Global>,
-    hook: Hook,
     traffic: Arc<Traffic, Global>,
     /// The two of them, for the note of its end.
     noted: Noted,
@@ -218,6 +254,28 @@ struct Open<H, V: Service, O: Asked<V::Jobs>> {
 }
 
 impl<H: Host + Network, V: Service, O: Asked<V::Jobs>> Open<H, V, O> {
+    // Serves until no more connections are to come and each session has ended.
+    fn run<E: Write>(&mut self, events: &Receiver<Event, Global>, errors: &mut E) -> Served
+        requires makes { MakesOnly V.makes self.old.service O.made }
+        requires turns { TurnsAway (H.dismisses self.old.rt) O.turned }
+        requires empty { self.old.roster.numbers ≡ [] }
+        requires none { vec_len self.old.running.started ≡ 0 }
+        requires counts { (self.old.running.whole ≡ 0) × (self.old.running.faulted ≡ 0)
+            × (self.old.running.refused ≡ 0) }
+        ensures each { CountsSessions (server_of
+            (facts_of V.Job.fresh V.Jobs.gives V.Job.reacts V.Job.steps V.Job.refuses) V.Jobs.left O.options
+            O.made O.turned)
+            result.whole result.faulted result.refused }
+        ensures heard { HearsAll V.turns (HasEnded (server_of
+            (facts_of V.Job.fresh V.Jobs.gives V.Job.reacts V.Job.steps V.Job.refuses) V.Jobs.left O.options
+            O.made O.turned))
+            self.old.service result.whole result.faulted }
+    {
+        self.serve_all(events, errors);
+        self.join_all(errors);
+        self.running.served()
+    }
+
     fn serve_all<E: Write>(&mut self, events: &Receiver<Event, Global>, errors: &mut E)
         requires makes { MakesOnly V.makes self.old.service O.made }
         requires turns { TurnsAway (H.dismisses self.old.rt) O.turned }
@@ -460,7 +518,7 @@ impl<H: Host + Network, V: Service, O: Asked<V::Jobs>> Open<H, V, O> {
         self.running.fail();
         self.tell_end(
             caller,
-            &Ran::unstarted().finished(),
+            &Finished::unstarted(),
             Passed::nothing(),
             None,
             errors,
@@ -485,28 +543,16 @@ impl<H: Host + Network, V: Service, O: Asked<V::Jobs>> Open<H, V, O> {
         ensures over { IfSome result (λ started. started.session.promise.stream.value ≡ stream) }
         ensures rt { self.new.rt ≡ self.old.rt }
     {
-        let Some(prepared) = self.prepared() else {
+        let Some(prepared) = prepare(self.alloc, &self.events, &caller) else {
             return None;
         };
         let Prepared {
+            call,
             events,
-            noting,
             standing,
-            hook,
             traffic,
             noted,
         } = prepared;
-        let Caller { number, peer, .. } = caller;
-        let notes = Notes {
-            events: noting,
-            number,
-        };
-        let call = Call {
-            number,
-            peer,
-            hook,
-            notes,
-        };
         let Ok(jobs) = self.service.session(self.alloc, call) else {
             return None;
         };
@@ -519,32 +565,11 @@ impl<H: Host + Network, V: Service, O: Asked<V::Jobs>> Open<H, V, O> {
             standing,
             traffic,
         };
-        if let Some(session) = session.start(number, events) {
+        if let Some(session) = session.start(caller.number, events) {
             return Some(Started::new(caller, noted, session));
         }
-        self.service.ended(number, &Ran::unstarted().finished());
+        self.service.ended(caller.number, &Finished::unstarted());
         None
-    }
-
-    // What a session that is to start needs beside its jobs.
-    fn prepared(&self) -> Option<Prepared> {
-        let events = self.events.clone().ok()?;
-        let noting = self.events.clone().ok()?;
-        let standing = Standing::new(self.alloc).ok()?;
-        let hook = Hook::new(&standing).ok()?;
-        let traffic = Traffic::new(self.alloc).ok()?;
-        let noted = Noted {
-            traffic: Arc::try_clone(&traffic).ok()?,
-            standing: Arc::try_clone(&standing).ok()?,
-        };
-        Some(Prepared {
-            events,
-            noting,
-            standing,
-            hook,
-            traffic,
-            noted,
-        })
     }
 
     // The session with this number has ended.
@@ -597,6 +622,11 @@ impl<H: Host + Network, V: Service, O: Asked<V::Jobs>> Open<H, V, O> {
         let left = self.running.join_at(&self.rt, place);
         self.service.ended(left.caller.number, &left.finished);
         self.roster.leave(left.caller.number);
+        self.tell_left(&left, errors);
+    }
+
+    // Reports a session that was joined, where that is to be.
+    fn tell_left<E: Write>(&self, left: &Left, errors: &mut E) {
         let Noted { traffic, standing } = &left.noted;
         self.tell_end(
             &left.caller,
@@ -652,6 +682,40 @@ impl<H: Host + Network, V: Service, O: Asked<V::Jobs>> Open<H, V, O> {
             self.end_at(0, errors);
         }
     }
+}
+
+// What a session that is to start needs beside its jobs.
+fn prepare(alloc: Global, events: &Sender<Event, Global>, caller: &Caller) -> Option<Prepared>
+    ensures { IfSome result (λ prepared. prepared.call.number ≡ caller.now.number) }
+{
+    let standing = Standing::new(alloc).ok()?;
+    let traffic = Traffic::new(alloc).ok()?;
+    Some(Prepared {
+        noted: Noted::of(&traffic, &standing)?,
+        call: call_of(events, caller, &standing)?,
+        events: events.clone().ok()?,
+        standing,
+        traffic,
+    })
+}
+
+// What a service is told of a connection that is to have a session.
+fn call_of(
+    events: &Sender<Event, Global>,
+    caller: &Caller,
+    standing: &Arc<Standing, Global>,
+) -> Option<Call>
+    ensures { IfSome result (λ call. call.number ≡ caller.now.number) }
+{
+    let Caller { number, peer, .. } = *caller;
+    let hook = Hook::new(standing).ok()?;
+    let events = events.clone().ok()?;
+    Some(Call {
+        number,
+        peer,
+        hook,
+        notes: Notes { events, number },
+    })
 }
 
 // What happens next at a server, in this time where there is one.

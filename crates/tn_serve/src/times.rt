@@ -1,7 +1,7 @@
 //! The time that a note begins with.
 
 ghost use Rattle.std.specs.Duration.{as_nanos};
-ghost use Rattle.std.specs.Prelude.{◌≡◌, IfOk};
+ghost use Rattle.std.specs.Prelude.{◌≡◌, IfOk, bytes_eq};
 ghost use Rattle.tn_serve.specs.Times.{IsStamp, IsTimeText, hyphenated, instant_text, last_digit};
 
 use httpdate::HttpDate;
@@ -61,29 +61,35 @@ fn digit(number: u32) -> u8
 fn month(name: &[u8]) -> &'static [u8]
     ensures { result.now ≡ hyphenated name.now }
 {
-    if name == b"Jan".as_slice() {
+    if is_name(name, b"Jan") {
         b"-01-"
-    } else if name == b"Feb".as_slice() {
+    } else if is_name(name, b"Feb") {
         b"-02-"
-    } else if name == b"Mar".as_slice() {
+    } else if is_name(name, b"Mar") {
         b"-03-"
-    } else if name == b"Apr".as_slice() {
+    } else if is_name(name, b"Apr") {
         b"-04-"
-    } else if name == b"May".as_slice() {
+    } else if is_name(name, b"May") {
         b"-05-"
-    } else if name == b"Jun".as_slice() {
+    } else if is_name(name, b"Jun") {
         b"-06-"
-    } else if name == b"Jul".as_slice() {
+    } else if is_name(name, b"Jul") {
         b"-07-"
-    } else if name == b"Aug".as_slice() {
+    } else if is_name(name, b"Aug") {
         b"-08-"
-    } else if name == b"Sep".as_slice() {
+    } else if is_name(name, b"Sep") {
         b"-09-"
-    } else if name == b"Oct".as_slice() {
+    } else if is_name(name, b"Oct") {
         b"-10-"
-    } else if name == b"Nov".as_slice() {
+    } else if is_name(name, b"Nov") {
         b"-11-"
     } else {
         b"-12-"
     }
+}
+
+fn is_name(word: &[u8], name: &[u8]) -> bool
+    ensures { result ≡ bytes_eq word.now name.now }
+{
+    word == name
 }

@@ -70,6 +70,19 @@ pub(crate) struct Noted {
     pub(crate) standing: Arc<Standing, Global>,
 }
 
+impl Noted {
+    /// What is known of a session with these, where there is memory for it.
+    pub(crate) fn of(
+        traffic: &Arc<Traffic, Global>,
+        standing: &Arc<Standing, Global>,
+    ) -> Option<Noted> {
+        Some(Noted {
+            traffic: Arc::try_clone(traffic).ok()?,
+            standing: Arc::try_clone(standing).ok()?,
+        })
+    }
+}
+
 impl Passed {
     /// Nothing has passed.
     pub(crate) fn nothing() -> Passed {

@@ -1,37 +1,40 @@
-use Rattle.std.proofs.Common.{ℕ, subst, sym, vec_items, ◌∙◌}
-use Rattle.tn_serve.proofs.Counting.{counts_from_none}
-use Rattle.tn_serve.proofs.Hearing.{hears_all}
-use Rattle.tn_serve.proofs.Holding.{none_held}
-use Rattle.tn_serve.specs.Counted.{HasEnded, facts_of, server_of}
+use Rattle.std.proofs.Common.{ℕ, subst, sym}
+use Rattle.std.proofs.lemmas.Result.{IfOk-weaker}
+use Rattle.tn_network.specs.Asked.{Accepts, AcceptsAll}
+use Rattle.tn_serve.proofs.Ending.{served_until}
+use Rattle.tn_serve.specs.Counted.{CountsSessions, HasEnded, facts_of, server_of}
 use Rattle.tn_serve.specs.Turns.{HearsAll}
+use Rattle.tn_serve.specs.declared.served.Served.{Served}
 use Rattle.tn_serve.proofs.serving.serve_as.Goals as goal
 
 pub returns-clause-each : goal.returns-clause-each
 returns-clause-each g c =
     let server = server_of (facts_of g.V.Job.Job.fresh g.V.Jobs.Maker.gives g.V.Job.Job.reacts g.V.Job.Job.steps g.V.Job.Job.refuses) g.V.Jobs.Maker.left
     g.O.Asked.options g.O.Asked.made g.O.Asked.turned in
-    let started = c.new-2.result in
-    let ended = c.serve_all.new.self.running in
-    let joined = c.join_all.new.self.running in
-    let counts = c.served-served.ensures.counts in
-    rw counts.0 (rw counts.1 (rw counts.2 (counts_from_none server started.whole started.faulted started.refused ended.whole ended.faulted ended.refused
-    joined.whole joined.faulted joined.refused
-    c.new-2.ensures.counts c.serve_all.ensures.each c.join_all.ensures.each)))
+    IfOk-weaker c.agreed.result _ (λ (s : Served). CountsSessions server s.whole s.faulted s.refused)
+    (λ agreed same. subst (λ (s : Served). CountsSessions server s.whole s.faulted s.refused) (sym same) c.run-served.ensures.each) c.agreed.ensures.served
 
 pub returns-clause-heard : goal.returns-clause-heard
 returns-clause-heard g c =
     let server = server_of (facts_of g.V.Job.Job.fresh g.V.Jobs.Maker.gives g.V.Job.Job.reacts g.V.Job.Job.steps g.V.Job.Job.refuses) g.V.Jobs.Maker.left
     g.O.Asked.options g.O.Asked.made g.O.Asked.turned in
-    let started = c.new-2.result in
-    let joined = c.join_all.new.self in
-    let served = c.served-served.result in
-    let counts = c.served-served.ensures.counts in
-    subst (λ (n : ℕ). HearsAll g.V.Service.turns (HasEnded server) c.args.service n served.faulted) (sym counts.0)
-    (subst (λ (n : ℕ). HearsAll g.V.Service.turns (HasEnded server) c.args.service joined.running.whole n) (sym counts.1)
-    (hears_all g.V.Service.turns (HasEnded server) (vec_items started.started) (vec_items joined.running.started) (λ s. s.caller.number)
-    started.whole started.faulted joined.running.whole joined.running.faulted c.args.service joined.service
-    (c.new-2.ensures.counts.0, c.new-2.ensures.counts.1) (sym started.started.ok.0 ∙ c.new-2.ensures.none)
-    (sym joined.running.started.ok.0 ∙ c.join_all.ensures.none)
-    (λ first h. c.join_all.ensures.heard first (c.serve_all.ensures.heard
-    (none_held c.in_ok-roster.roster (vec_items started.started) (λ s. s.caller.number) c.in_ok-roster.ensures.empty
-    (sym started.started.ok.0 ∙ c.new-2.ensures.none)) first h))))
+    IfOk-weaker c.agreed.result _ (λ (s : Served). HearsAll g.V.Service.turns (HasEnded server) c.args.service s.whole s.faulted)
+    (λ agreed same. subst (λ (s : Served). HearsAll g.V.Service.turns (HasEnded server) c.args.service s.whole s.faulted) (sym same)
+    c.run-served.ensures.heard) c.agreed.ensures.served
+
+pub returns-clause-all : goal.returns-clause-all
+returns-clause-all g c =
+    served_until c.args.serving.count (g.U.Until.ends c.args.until) c.join-accepted.result c.agreed.result c.agreed.ensures.accepted c.agreed.ensures.enough
+    (λ told. subst (λ until. g.U.Until.ends until) c.in_ok-acceptor.ensures.until (c.join-accepted.ensures.told told))
+
+pub returns-clause-accepted : goal.returns-clause-accepted
+returns-clause-accepted g c =
+    let listener = c.in_ok-acceptor.acceptor.promise.listener.value in
+    IfOk-weaker c.agreed.result _ (λ (s : Served). Accepts (g.H.Network.shares c.args.rt c.args.listener.now) (g.H.Network.accepts c.args.rt) s.accepted)
+    (λ agreed same. (
+      listener,
+      c.in_ok-acceptor.ensures.shares,
+      subst (λ (n : ℕ). AcceptsAll (g.H.Network.accepts c.args.rt listener) n) (sym same)
+          (subst (λ rt. AcceptsAll (g.H.Network.accepts rt listener) c.join-accepted.result.count) c.in_ok-acceptor.ensures.rt c.join-accepted.ensures.all),
+    ))
+    c.agreed.ensures.accepted

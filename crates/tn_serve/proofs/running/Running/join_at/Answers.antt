@@ -18,9 +18,9 @@ returns-clause-ended g c =
       jobs = jobs;
       made = c.swap_remove-noted.result.made;
       stream = promise.stream.value;
-      ran = c.join-ran.result;
-      promised = subst (λ (o : SessionOptions). IsPromised (server.facts jobs) (server.left jobs) o promise.stream.value c.join-ran.result)
-          c.swap_remove-noted.result.asked c.join-ran.ensures;
+      ran = c.join.result;
+      promised = subst (λ (o : SessionOptions). IsPromised (server.facts jobs) (server.left jobs) o promise.stream.value c.join.result)
+          c.swap_remove-noted.result.asked c.join.ensures;
     } in
     inl (joined, c.finished-finished.ensures)
 
@@ -35,9 +35,9 @@ returns-clause-each g c =
       jobs = jobs;
       made = c.swap_remove-noted.result.made;
       stream = promise.stream.value;
-      ran = c.join-ran.result;
-      promised = subst (λ (o : SessionOptions). IsPromised (server.facts jobs) (server.left jobs) o promise.stream.value c.join-ran.result)
-          c.swap_remove-noted.result.asked c.join-ran.ensures;
+      ran = c.join.result;
+      promised = subst (λ (o : SessionOptions). IsPromised (server.facts jobs) (server.left jobs) o promise.stream.value c.join.result)
+          c.swap_remove-noted.result.asked c.join.ensures;
     } in
     elim c.if-is_whole.branch [
       | then-is_whole w ↦ rw w.self-is (one_whole server old.whole old.faulted old.refused joined c.finished-finished.result c.finished-finished.ensures

@@ -1,5 +1,6 @@
-use Rattle.std.proofs.Common.{arith, ap, inr, length, ◌+◌, subst, sym, vec_items, [], ◌∷◌, ◌++◌, ◌∙◌}
+use Rattle.std.proofs.Common.{arith, ap, inl, inr, length, ◌+◌, subst, sym, vec_items, [], ◌∷◌, ◌++◌, ◌∙◌}
 use Rattle.tn_roster.specs.Held.{Held}
+use Rattle.tn_serve.proofs.Counting.{none_more}
 use Rattle.tn_serve.proofs.Hearing.{not_asked, one_counted, one_started}
 use Rattle.tn_serve.proofs.Holding.{apart, runs}
 use Rattle.tn_serve.specs.Counted.{HasEnded, facts_of, server_of}
@@ -94,3 +95,61 @@ returns-clause-over g c =
       ap (λ k. k.peer) c.in-Some.ensures.caller,
       ap (λ k. k.serial) c.in-Some.ensures.caller,
     )
+
+pub returns-then-not-has_room-clause-each : goal.returns-then-not-has_room-clause-each
+returns-then-not-has_room-clause-each g c counted =
+    let server = server_of (facts_of g.V.Job.Job.fresh g.V.Jobs.Maker.gives g.V.Job.Job.reacts g.V.Job.Job.steps g.V.Job.Job.refuses) g.V.Jobs.Maker.left
+    g.O.Asked.options g.O.Asked.made g.O.Asked.turned in
+    let old = c.args.self.now.running in
+    let mid = c.has_room.new.self in
+    c.give_up.ensures.each (none_more server old.whole old.faulted old.refused mid.whole mid.faulted mid.refused c.has_room.ensures.counts counted)
+
+pub returns-then-not-has_room-clause-makes : goal.returns-then-not-has_room-clause-makes
+returns-then-not-has_room-clause-makes g c jobs made = subst (λ v. g.V.Service.makes v jobs) c.give_up.ensures.service made
+
+pub returns-then-not-has_room-clause-over : goal.returns-then-not-has_room-clause-over
+returns-then-not-has_room-clause-over g c = inl (ap vec_items c.give_up.ensures.started ∙ c.has_room.ensures.same)
+
+pub returns-then-not-has_room-clause-refused : goal.returns-then-not-has_room-clause-refused
+returns-then-not-has_room-clause-refused g c = c.give_up.ensures.one.2 ∙ c.has_room.ensures.counts.2
+
+pub returns-in_default-clause-each : goal.returns-in_default-clause-each
+returns-in_default-clause-each g c counted =
+    let server = server_of (facts_of g.V.Job.Job.fresh g.V.Jobs.Maker.gives g.V.Job.Job.reacts g.V.Job.Job.steps g.V.Job.Job.refuses) g.V.Jobs.Maker.left
+    g.O.Asked.options g.O.Asked.made g.O.Asked.turned in
+    let old = c.args.self.now.running in
+    let mid = c.start.new.self.running in
+    let same = c.start.ensures.running in
+    let counts = c.has_room.ensures.counts in
+    c.give_up-in_default.ensures.each (none_more server old.whole old.faulted old.refused mid.whole mid.faulted mid.refused
+    (ap (λ r. r.whole) same ∙ counts.0, ap (λ r. r.faulted) same ∙ counts.1, ap (λ r. r.refused) same ∙ counts.2) counted)
+
+pub returns-in_default-clause-makes : goal.returns-in_default-clause-makes
+returns-in_default-clause-makes g c jobs made =
+    c.start.ensures.makes jobs (subst (λ v. g.V.Service.makes v jobs) c.give_up-in_default.ensures.service made)
+
+pub returns-in_default-clause-over : goal.returns-in_default-clause-over
+returns-in_default-clause-over g c =
+    inl (ap vec_items (c.give_up-in_default.ensures.started ∙ ap (λ r. r.started) c.start.ensures.running) ∙ c.has_room.ensures.same)
+
+pub returns-in_default-clause-refused : goal.returns-in_default-clause-refused
+returns-in_default-clause-refused g c =
+    c.give_up-in_default.ensures.one.2 ∙ ap (λ r. r.refused) c.start.ensures.running ∙ c.has_room.ensures.counts.2
+
+pub returns-clause-each : goal.returns-clause-each
+returns-clause-each g c =
+    let server = server_of (facts_of g.V.Job.Job.fresh g.V.Jobs.Maker.gives g.V.Job.Job.reacts g.V.Job.Job.steps g.V.Job.Job.refuses) g.V.Jobs.Maker.left
+    g.O.Asked.options g.O.Asked.made g.O.Asked.turned in
+    let old = c.args.self.now.running in
+    let new = c.keep.new.self in
+    let same = c.start.ensures.running in
+    let kept = c.keep.ensures.counts in
+    let counts = c.has_room.ensures.counts in
+    none_more server old.whole old.faulted old.refused new.whole new.faulted new.refused
+    (kept.0 ∙ ap (λ r. r.whole) same ∙ counts.0, kept.1 ∙ ap (λ r. r.faulted) same ∙ counts.1, kept.2 ∙ ap (λ r. r.refused) same ∙ counts.2)
+
+pub returns-clause-makes : goal.returns-clause-makes
+returns-clause-makes g c = c.start.ensures.makes
+
+pub returns-clause-refused : goal.returns-clause-refused
+returns-clause-refused g c = c.keep.ensures.counts.2 ∙ ap (λ r. r.refused) c.start.ensures.running ∙ c.has_room.ensures.counts.2
