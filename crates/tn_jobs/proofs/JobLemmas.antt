@@ -1,15 +1,13 @@
 -- The number of the foreground job, and whether there is one.
-use Rattle.std.proofs.Common.{◌≡◌, ◌≢◌, ℕ, zero, suc, ◌<◌, ◌≤◌, true, false, Option, Some, None, is_some, IsSome, [], ◌∷◌, ◌++◌, length, refl, sym, ◌∙◌, ap}
+use Rattle.std.proofs.Common.{◌≡◌, ◌≢◌, ℕ, suc, ◌<◌, true, false, Option, Some, None, is_some, IsSome, [], ◌∷◌, length, refl, sym, ◌∙◌, ap}
 use Rattle.std.proofs.Common.{subst, if◌then◌else◌, arith, ◌⊎◌, inl, inr}
 use Rattle.std.proofs.lemmas.Grind.{common_steps}
 use Rattle.std.proofs.lemmas.List.{get_or_past}
 use Rattle.std.proofs.lemmas.Bool.{eq-eqb, ne_eqb}
 use Rattle.std.proofs.lemmas.Bool.Decides.{eqb_tells}
-use Rattle.std.proofs.lemmas.List.Sums.{length-filter}
 use Rattle.std.proofs.lemmas.List.Folds.{list_any_at}
 use Rattle.tn_jobs.specs.Jobs.{Jobs, state_at, with_state, held_count, is_foreground, has_foreground, foreground_after, is_number, NamesForeground, IsTable}
-use Rattle.tn_jobs.specs.Jobs.{HasNoGap, add_fault}
-use Rattle.tn_jobs.specs.declared.held_jobs.JobFault.TheVariants.{Full}
+use Rattle.tn_jobs.specs.Jobs.{Adds}
 use Rattle.tn_jobs.specs.declared.verdicts.JobState.{JobState}
 use Rattle.tn_jobs.specs.declared.verdicts.JobState.TheVariants.{Foreground, Background, Stopped, Ended}
 
@@ -34,53 +32,37 @@ is_some-foreground jobs (Some id) names = let there = has_foreground_at jobs id 
 is_some-foreground jobs None names =
     let none = has_no_foreground jobs (λ id there. let named = (names id).1 there in cc) in cc
 
-held_more : (state : JobState) (jobs : Jobs) → held_count (Some state ∷ jobs) ≡ suc (held_count jobs)
-held_more state jobs = sym (length-filter is_some (Some state ∷ jobs)) ∙ ap suc (length-filter is_some jobs)
-
-held_at_most : (jobs : Jobs) → held_count jobs ≤ length jobs
-held_at_most [] = omega arith
-held_at_most (None ∷ jobs) = let again = held_at_most jobs in omega arith
-held_at_most (Some state ∷ jobs) = omega (arith, held_more state jobs, held_at_most jobs)
-
--- fewer are held than there are numbers, where one is free
-pub held_below : (jobs : Jobs) (id : ℕ) → id < length jobs → state_at jobs id ≡ None → held_count jobs < length jobs
-held_below [] id low free = absurd (omega arith)
-held_below (None ∷ jobs) id low free = let most = held_at_most jobs in omega arith
-held_below (Some state ∷ jobs) zero low free = cc
-held_below (Some state ∷ jobs) (suc id) low free = omega (arith, held_more state jobs, held_below jobs id (omega arith) free)
-
--- and as many, where none is
-pub held_all : (jobs : Jobs) → HasNoGap jobs → held_count jobs ≡ length jobs
-held_all [] all = refl
-held_all (None ∷ jobs) all = let there = all 0 (omega arith) in cc
-held_all (Some state ∷ jobs) all = omega (arith, held_more state jobs, held_all jobs (λ id low. all (suc id) (omega arith)))
-
 -- A JOB MORE
 
-more_at : (jobs : Jobs) (id : ℕ) (state : JobState) → state ≢ Background → state_at (jobs ++ Some Background ∷ []) id ≡ Some state
-    → state_at jobs id ≡ Some state
-more_at [] zero state differs e = let same : Background ≡ state = cc in absurd (differs cc)
-more_at [] (suc id) state differs e = cc
-more_at (job ∷ jobs) zero state differs e = e
-more_at (job ∷ jobs) (suc id) state differs e = more_at jobs id state differs e
+-- a state but Background of the new table is one of the old table
+more_at : (old new : Jobs) (id : ℕ) → Adds old new id → (other : ℕ) (state : JobState) → state ≢ Background → state_at new other ≡ Some state
+    → state_at old other ≡ Some state
+more_at old new id a other state differs e =
+    elim (eqb_tells other id) [
+      | inl is ↦ let same : other ≡ id = is.1 in let here : state_at new id ≡ Some state = rw same at e in let added = a.added in absurd (differs cc)
+      | inr other_is ↦ sym (a.others other other_is.1) ∙ e
+    ]
 
-more_keeps : (jobs : Jobs) (id : ℕ) (state : JobState) → state_at jobs id ≡ Some state → state_at (jobs ++ Some Background ∷ []) id ≡ Some state
-more_keeps [] id state e = cc
-more_keeps (job ∷ jobs) zero state e = e
-more_keeps (job ∷ jobs) (suc id) state e = more_keeps jobs id state e
+more_keeps : (old new : Jobs) (id : ℕ) → Adds old new id → (other : ℕ) (state : JobState) → state_at old other ≡ Some state → state_at new other ≡ Some state
+more_keeps old new id a other state e =
+    elim (eqb_tells other id) [
+      | inl is ↦ let same : other ≡ id = is.1 in let here : state_at old id ≡ Some state = rw same at e in let free = a.was_free in cc
+      | inr other_is ↦ a.others other other_is.1 ∙ e
+    ]
 
--- a job at a new number, in the background
-pub sound_more : (jobs : Jobs) → IsTable jobs → length jobs < 16 → IsTable (jobs ++ Some Background ∷ [])
-sound_more jobs sound room = record {
-  one_foreground = λ a b e f. sound.one_foreground a b (more_at jobs a Foreground (λ same. cc) e) (more_at jobs b Foreground (λ same. cc) f);
-  at_most_sixteen = grind (arith, common_steps);
-  none_ended = λ id e. sound.none_ended id (more_at jobs id Ended (λ same. cc) e);
+-- a job at a number that was free, in the background
+pub sound_more : (old new : Jobs) (id : ℕ) → Adds old new id → held_count old < 16 → IsTable old → IsTable new
+sound_more old new id a room sound = record {
+  one_foreground = λ x y e f.
+      sound.one_foreground x y (more_at old new id a x Foreground (λ same. cc) e) (more_at old new id a y Foreground (λ same. cc) f);
+  at_most_sixteen = omega (arith, a.held_more);
+  none_ended = λ x e. sound.none_ended x (more_at old new id a x Ended (λ same. cc) e);
 }
 
-pub names_more : (jobs : Jobs) (foreground : Option ℕ) → NamesForeground jobs foreground → NamesForeground (jobs ++ Some Background ∷ []) foreground
-names_more jobs foreground names = λ id. (
-  λ e. more_keeps jobs id Foreground ((names id).0 e),
-  λ e. (names id).1 (more_at jobs id Foreground (λ same. cc) e),
+pub names_more : (old new : Jobs) (id : ℕ) (foreground : Option ℕ) → Adds old new id → NamesForeground old foreground → NamesForeground new foreground
+names_more old new id foreground a names = λ x. (
+  λ e. more_keeps old new id a x Foreground ((names x).0 e),
+  λ e. (names x).1 (more_at old new id a x Foreground (λ same. cc) e),
 )
 
 -- A JOB ELSEWHERE
@@ -103,6 +85,9 @@ set_at_state jobs id other state found held_count e =
       | inr other_is ↦ let differs : other ≢ id = other_is.1 in inr (differs, sym (at_other jobs id other (Some state) differs) ∙ e)
     ]
 
+held_set : (jobs : Jobs) (id : ℕ) (state : JobState) → IsSome (state_at jobs id) → held_count (with_state jobs id (Some state)) ≡ held_count jobs
+held_set jobs id state held_count = let low = within jobs id held_count in grind (arith, common_steps)
+
 pub sound_set : (jobs : Jobs) (id : ℕ) (state : JobState) → IsSome (state_at jobs id) → (is_foreground (Some state) ≡ true → has_foreground jobs ≡ false)
     → state ≢ Ended
     → IsTable jobs → IsTable (with_state jobs id (Some state))
@@ -118,12 +103,9 @@ sound_set jobs id state held_count alone differs sound = record {
           | inr y ↦ sound.one_foreground a b x.1 y.1
         ]
       ];
-  at_most_sixteen = grind (arith, common_steps);
+  at_most_sixteen = omega (arith, held_set jobs id state held_count, sound.at_most_sixteen);
   none_ended = λ other e. elim (set_at_state jobs id other state Ended held_count e) [ inl x ↦ differs x.1 | inr y ↦ sound.none_ended other y.1 ];
 }
-
-pub full_is : (jobs : Jobs) → held_count jobs ≡ 16 → Full ≡ add_fault jobs
-full_is jobs full = rw full refl
 
 some_is : (a b : ℕ) → Some a ≡ Some b → b ≡ a
 some_is a b e = cc

@@ -1,6 +1,6 @@
 -- The jobs that a terminal holds: at each number the state of its job, or nothing.
-use Rattle.std.specs.Prelude.{◌≡◌, ◌≢◌, ◌<◌, ◌≤◌, ◌+◌, ℕ, Bool, true, false, Option, Some, None, List, length}
-use Rattle.std.specs.Prelude.{is_some, IsSome, count_by, slice_index_or, slice_set, if◌then◌else◌, ◌↔◌, ◌==◌}
+use Rattle.std.specs.Prelude.{◌≡◌, ◌≢◌, ◌≤◌, ◌+◌, ℕ, Bool, true, false, Option, Some, None, List}
+use Rattle.std.specs.Prelude.{is_some, count_by, slice_index_or, slice_set, if◌then◌else◌, ◌↔◌, ◌==◌}
 use Rattle.std.specs.List.{list_any}
 use Rattle.tn_jobs.specs.declared.verdicts.JobState.{JobState}
 use Rattle.tn_jobs.specs.declared.verdicts.JobState.TheVariants.{Foreground, Background, Stopped, Ended}
@@ -32,27 +32,12 @@ is_foreground (Some Ended) = false
 abbrev pub has_foreground : Jobs → Bool
 has_foreground jobs = list_any is_foreground jobs
 
--- at most one job is in the foreground, sixteen at most are held, under numbers below sixteen,
--- and none is Ended
+-- at most one job is in the foreground, at most sixteen are held, and none is Ended
 pub record IsTable (jobs : Jobs) : Type 0 where
   pub one_foreground : (a b : ℕ) → state_at jobs a ≡ Some Foreground → state_at jobs b ≡ Some Foreground
       → a ≡ b
-  pub at_most_sixteen : length jobs ≤ 16
+  pub at_most_sixteen : held_count jobs ≤ 16
   pub none_ended : (id : ℕ) → state_at jobs id ≢ Some Ended
-
--- each number below this one is held
-abbrev pub IsHeldBelow : Jobs → ℕ → Type 0
-IsHeldBelow jobs id = (lower : ℕ) → lower < id → IsSome (state_at jobs lower)
-
--- the lowest number below the end that no job has
-pub record IsFirstFree (jobs : Jobs) (id : ℕ) : Type 0 where
-  pub below : id < length jobs
-  pub free : state_at jobs id ≡ None
-  pub lowest : IsHeldBelow jobs id
-
--- each number below the end is held
-abbrev pub HasNoGap : Jobs → Type 0
-HasNoGap jobs = IsHeldBelow jobs (length jobs)
 
 -- this is the number of the foreground job, or there is none
 abbrev pub NamesForeground : Jobs → Option ℕ → Type 0

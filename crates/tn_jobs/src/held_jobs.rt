@@ -1,14 +1,14 @@
 //! The jobs that a terminal holds, by their numbers.
 
 ghost use Rattle.std.specs.Prelude.{◌≡◌, ◌≢◌, ◌+◌, ◌<◌, [], Some, None, IsTrue, IsFalse, IsSome};
-ghost use Rattle.std.specs.Prelude.{IfOk, OnOk, IfErr, OnErr, IsErrOf, MatchOption};
+ghost use Rattle.std.specs.Prelude.{IfOk, OnOk, IfErr, OnErr};
 ghost use Rattle.std.specs.Result.{result_err};
-ghost use Rattle.tn_jobs.specs.Jobs.{state_at, with_state, held_count, IsTable, IsHeldBelow, HasNoGap};
-ghost use Rattle.tn_jobs.specs.Jobs.{IsFirstFree, Adds};
+ghost use Rattle.tn_jobs.specs.Jobs.{state_at, with_state, held_count, IsTable, Adds};
 ghost use Rattle.tn_jobs.specs.Jobs.{is_foreground, has_foreground, foreground_after, add_fault};
 ghost use Rattle.tn_jobs.specs.Jobs.{foreground_fault, background_fault, stopped_fault, done_fault};
 
 use crate::verdicts::{JobState, Why};
+use slab::Slab;
 use std::alloc::Global;
 use std::marker::Model;
 use thiserror::Error;
@@ -16,7 +16,7 @@ use thiserror::Error;
 /// A table never holds more jobs than this.
 pub const MAX_JOBS: usize = 16;
 
-/// The number of a held job, of 0 to 15. It may be given to another job once this one is done.
+/// The number of a held job. It may be given to another job once this one is done.
 #[derive(Clone, Copy, Debug, PartialEq, Eq)]
 pub struct JobId(pub usize);
 
@@ -36,7 +36,7 @@ pub enum JobFault {
 /// The jobs of one terminal: at most sixteen, of which at most one is in the foreground.
 #[derive(Drop)]
 pub struct Table {
-    jobs: Vec<Option<JobState>>,
+    jobs: Slab<JobState>,
     foreground: Option<usize>,
 }
 
@@ -47,10 +47,10 @@ impl Model for Table {
 
     ghost Value = { List (Option JobState) };
 
-    ghost view = { λ table. table.jobs.items };
+    ghost view = { λ table. table.jobs.slots };
 
-    ghost invariant = { λ table. IsTable table.jobs.items
-        × NamesForeground table.jobs.items table.foreground };
+    ghost invariant = { λ table. IsTable table.jobs.slots
+        × NamesForeground table.jobs.slots table.foreground };
 }
 
 impl Table {
@@ -59,32 +59,29 @@ impl Table {
         ensures { result ≡ [] }
     {
         Table {
-            jobs: Vec::new(alloc),
+            jobs: Slab::new(alloc),
             foreground: None,
         }
     }
 
-    /// Adds a job to the background, under the lowest number that is free. `Full` where sixteen are
-    /// held already; `Memory` where each lower number is held and the table can't grow.
+    /// Adds a job to the background, under a number that no job has.
+    ///
+    /// # Errors
+    /// - `Full` if sixteen jobs are held already.
+    /// - `Memory` if fewer are held and the table cannot grow.
+    ///
+    /// Either leaves the table as it was.
     pub fn add(&mut self) -> Result<JobId, JobFault>
         ensures adds { IfOk result (λ id. Adds self.old self.new id.0) }
-        ensures number { IfOk result (λ id. id.0 < 16) }
-        ensures lowest { IfOk result (λ id. IsHeldBelow self.old id.0) }
         ensures room { OnOk result (held_count self.old < 16) }
         ensures fault { IfErr result (λ fault. fault ≡ add_fault self.old) }
-        ensures memory { IsErrOf result JobFault.Memory → HasNoGap self.old }
         ensures err { OnErr result (self.new ≡ self.old) }
     {
-        if let Some(id) = free_number(&self.jobs) {
-            self.jobs[id] = Some(JobState::Background);
-            return Ok(JobId(id));
-        }
-        let id = self.jobs.len();
-        if id >= MAX_JOBS {
+        if self.jobs.len() == MAX_JOBS {
             return Err(JobFault::Full);
         }
-        match self.jobs.push(Some(JobState::Background)) {
-            Ok(()) => Ok(JobId(id)),
+        match self.jobs.insert(JobState::Background) {
+            Ok(id) => Ok(JobId(id)),
             Err(_) => Err(JobFault::Memory),
         }
     }
@@ -151,7 +148,7 @@ impl Table {
             None => Err(JobFault::NoSuchJob),
             Some(_) => {
                 self.foreground = foreground_after(self.foreground, id.0, None);
-                self.jobs[id.0] = None;
+                self.jobs.try_remove(id.0);
                 Ok(())
             },
         }
@@ -162,7 +159,7 @@ impl Table {
         ensures state { result ≡ state_at self.now id.0 }
         ensures sound { IsTable self.now }
     {
-        self.jobs.get(id.0).copied().flatten()
+        self.jobs.get(id.0).copied()
     }
 
     fn has_foreground(&self) -> bool
@@ -178,7 +175,7 @@ impl Table {
         ensures { self.new ≡ with_state self.old id.0 (Some state) }
     {
         self.foreground = foreground_after(self.foreground, id.0, Some(state));
-        self.jobs[id.0] = Some(state);
+        self.jobs[id.0] = state;
     }
 }
 
@@ -193,11 +190,4 @@ fn foreground_after(foreground: Option<usize>, id: usize, state: Option<JobState
     } else {
         foreground
     }
-}
-
-// The lowest number below the end that is free.
-fn free_number(jobs: &[Option<JobState>]) -> Option<usize>
-    ensures { MatchOption result (HasNoGap jobs.now) (λ id. IsFirstFree jobs.now id) }
-{
-    jobs.iter().position(|job| job.is_none())
 }
