@@ -1,3 +1,4 @@
 pub mod Writing
 pub mod Going
 pub mod FirstBytes
+pub mod Ending

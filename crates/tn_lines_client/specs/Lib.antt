@@ -1,3 +1,4 @@
+pub mod Ending
 pub mod Logs
 pub mod Openings
 pub mod Talking

@@ -1,7 +1,12 @@
 //! A talk with a service.
 
-ghost use Rattle.std.specs.Prelude.{◌≡◌, ℕ, List, Option, [], OnOk, length};
-ghost use Rattle.tn_lines.specs.Kinds.{Kind, LeadsTo};
+ghost use Rattle.std.specs.IoError.{error_kind};
+ghost use Rattle.std.specs.Io.KnownBytes.{IsAtEnd};
+ghost use Rattle.std.specs.Prelude.{◌≡◌, ◌≢◌, ◌⊎◌, ℕ, List, None, Option, [], false, not, true};
+ghost use Rattle.std.specs.Prelude.{IfOk, IfSome, IsFalse, IsTrue, OnOk, length};
+ghost use Rattle.tn_lines.specs.Kinds.{Kind, LeadsTo, has_left_by};
+ghost use Rattle.tn_lines_client.specs.Ending.{ClosesAt, Ends, LeavesBy, ReadsFail, WritesFail};
+ghost use Rattle.tn_lines_client.specs.Ending.{broken_unless, has_broken, has_left, is_left};
 ghost use Rattle.tn_lines_client.specs.Logs.{bytes_in};
 ghost use Rattle.tn_lines_client.specs.Openings.{Listens};
 ghost use Rattle.tn_lines_client.specs.Talking.{Begins, GoesOn, ShowsBytes, Talked, TypesKeys, streams};
@@ -130,11 +135,16 @@ impl Talk {
         service: &mut N,
         screen: &mut S,
     ) -> Result<Option<Over>, TalkFault>
-        ensures { OnOk result ((keys told : Option (List ℕ)) →
+        ensures goes_on { OnOk result ((keys told : Option (List ℕ)) →
             GoesOn (streams keys (N.remaining service.old) told (S.contents screen.old)
             (A.warned ready.old)) self.old
             (streams keys (N.remaining service.new) told (S.contents screen.new)
             (A.warned ready.new)) self.new) }
+        ensures stays { IfOk result (λ over. has_left over ≡ false) }
+        ensures closes { IfOk result (λ over. ClosesAt over (N.remaining service.new)) }
+        ensures reads { IfOk result (λ over.
+            ReadsFail (has_broken over) (N.foretold service.old) (N.foretold service.new)) }
+        ensures lines { OnOk result (self.new.lines ≡ self.old.lines) }
     {
         let mut piece = [0; PIECE_BYTES];
         match service.read_some(&mut piece) {
@@ -169,9 +179,11 @@ impl Talk {
 
     // Tells the service what waits, as far as it takes it at once. Returns whether the connection stands.
     fn tell<W: Drain>(&mut self, writer: &mut W) -> bool
-        ensures { (keys service screen : Option (List ℕ)) (warned : Option ℕ) →
+        ensures goes_on { (keys service screen : Option (List ℕ)) (warned : Option ℕ) →
             GoesOn (streams keys service (W.contents writer.old) screen warned) self.old
             (streams keys service (W.contents writer.new) screen warned) self.new }
+        ensures writes { WritesFail (not result) (W.told writer.old) (W.told writer.new) }
+        ensures lines { self.new.lines ≡ self.old.lines }
     {
         if self.unsent() == 0 {
             return true;
@@ -195,9 +207,11 @@ impl Talk {
     }
 
     fn finish<W: Finish>(&mut self, writer: &mut W)
-        ensures { (keys service screen : Option (List ℕ)) (warned : Option ℕ) →
+        ensures goes_on { (keys service screen : Option (List ℕ)) (warned : Option ℕ) →
             GoesOn (streams keys service (W.contents writer.old) screen warned) self.old
             (streams keys service (W.contents writer.new) screen warned) self.new }
+        ensures told { W.told writer.new ≡ W.told writer.old }
+        ensures lines { self.new.lines ≡ self.old.lines }
     {
         if self.is_to_finish() {
             writer.finish();
@@ -207,9 +221,12 @@ impl Talk {
 
     // Once the user has left, what waits is told as far as the service takes it at once.
     fn leave<W: Drain>(&mut self, writer: &mut W) -> Option<Over>
-        ensures { (keys service screen : Option (List ℕ)) (warned : Option ℕ) →
+        ensures goes_on { (keys service screen : Option (List ℕ)) (warned : Option ℕ) →
             GoesOn (streams keys service (W.contents writer.old) screen warned) self.old
             (streams keys service (W.contents writer.new) screen warned) self.new }
+        ensures leaves { LeavesBy result self.new.lines }
+        ensures only { IfSome result (λ over. over ≡ Over.Left) }
+        ensures writes { WritesFail false (W.told writer.old) (W.told writer.new) }
     {
         if !self.lines.has_left() {
             return None;
@@ -236,11 +253,14 @@ impl Talk {
         writer: &mut W,
         screen: &mut S,
     ) -> Result<Option<Over>, TalkFault>
-        ensures { OnOk result (GoesOn
+        ensures goes_on { OnOk result (GoesOn
             (streams (K.remaining keys.old) (N.remaining service.old) (W.contents writer.old)
             (S.contents screen.old) (A.warned ready.old)) self.old
             (streams (K.remaining keys.new) (N.remaining service.new) (W.contents writer.new)
             (S.contents screen.new) (A.warned ready.new)) self.new) }
+        ensures ends { IfOk result (λ over. Ends over self.old.lines self.new.lines
+            (N.remaining service.new) (N.foretold service.old) (N.foretold service.new)
+            (W.told writer.old) (W.told writer.new)) }
     {
         match ready.next(self.wants()) {
             Ready::Keys => {
@@ -263,8 +283,9 @@ impl Talk {
         }
     }
 
-    /// Talks until the service has closed, the connection is broken, or the user has left. The logs name the
-    /// keys that were read, and what the service said.
+    /// Talks until the service has closed, the connection is broken, or the user has left. The logs
+    /// name the keys that were read, and what the service said. A user leaves exactly if one of these
+    /// keys leaves.
     pub fn run<H: Wait, A: Await, K: Source, N: Source, W: Finish, S: Drain>(
         &mut self,
         rt: &H,
@@ -285,6 +306,13 @@ impl Talk {
             (S.contents screen.old) (A.warned ready.old))
             (streams (K.remaining keys.new) (N.remaining service.new) (W.contents writer.new)
             (S.contents screen.new) (A.warned ready.new))) }
+        ensures left { (kind : Kind) → Begins kind self.old → IfOk result (λ over.
+            is_left over ≡ has_left_by kind (bytes_in self.new.typed)) }
+        ensures closed { IfOk result (λ over. over ≡ Over.Closed →
+            IsAtEnd (N.remaining service.new)) }
+        ensures broken { IfOk result (λ over. over ≡ Over.Broken →
+            ReadsFail true (N.foretold service.old) (N.foretold service.new)
+            ⊎ WritesFail true (W.told writer.old) (W.told writer.new)) }
     {
         for _ in rt.forever() {
             if let Some(over) = self.turn(ready, keys, service, writer, screen)? {
@@ -304,11 +332,17 @@ fn listen<A: Await>(opening: &mut Opening, piece: &[u8], ready: &mut A)
     }
 }
 
-fn broken_unless(stands: bool) -> Option<Over> {
+fn broken_unless(stands: bool) -> Option<Over>
+    ensures { result ≡ broken_unless stands }
+{
     if stands { None } else { Some(Over::Broken) }
 }
 
 // The call is to be made again later.
-fn is_for_later(error: &io::Error) -> bool {
+fn is_for_later(error: &io::Error) -> bool
+    ensures again { IsTrue result → (error_kind error.now ≡ ErrorKind.Interrupted)
+        ⊎ (error_kind error.now ≡ ErrorKind.WouldBlock) }
+    ensures failed { IsFalse result → error_kind error.now ≢ ErrorKind.Interrupted }
+{
     matches!(error.kind(), ErrorKind::Interrupted | ErrorKind::WouldBlock)
 }

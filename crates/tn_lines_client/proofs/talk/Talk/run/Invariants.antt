@@ -1,7 +1,10 @@
-use Rattle.tn_lines_client.specs.Talking.{GoesOn, streams}
+use Rattle.std.proofs.Common.{None, false}
+use Rattle.tn_lines.specs.Kinds.{Kind}
+use Rattle.tn_lines_client.specs.Ending.{LeavesBy, ReadsFail, WritesFail}
+use Rattle.tn_lines_client.specs.Talking.{Begins, GoesOn, streams}
 use Rattle.tn_lines_client.proofs.talk.Talk.run.Given as goal
 
--- the talk went on from where it began
+-- the talk went on from where it began, and its user has not left
 abbrev pub invariant-loop : goal.invariant-loop
 invariant-loop g l =
     (goal.iterator-loop g).can_next l.iterator' × (goal.iterator-loop g).is_finite l.iterator'
@@ -9,3 +12,6 @@ invariant-loop g l =
     (g.A.Await.warned l.fn.ready)) l.fn.self
     (streams (g.K.Source.remaining l.keys) (g.N.Source.remaining l.service) (g.W.Drain.contents l.writer) (g.S.Drain.contents l.screen)
     (g.A.Await.warned l.ready)) l.self
+    × ((kind : Kind) → Begins kind l.fn.self → LeavesBy None l.self.lines)
+    × ReadsFail false (g.N.Source.foretold l.fn.service) (g.N.Source.foretold l.service)
+    × WritesFail false (g.W.Drain.told l.fn.writer) (g.W.Drain.told l.writer)
