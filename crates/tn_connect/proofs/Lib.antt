@@ -1,4 +1,5 @@
 mod Faults
+mod Heard
 mod Keys
 mod Put
 mod Reached

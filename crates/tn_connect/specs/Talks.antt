@@ -1,5 +1,6 @@
 -- Which talk a client has with a service that takes lines.
-use Rattle.std.specs.Prelude.{◌≡◌, ℕ, Bool, true, false, Option, Some, List, [], length, map, option_map}
+use Rattle.std.specs.Prelude.{◌≡◌, ◌≢◌, ℕ, Bool, true, false, Option, Some, IfSome, List, []}
+use Rattle.std.specs.Prelude.{length, map, option_map}
 use Rattle.std.specs.declared.net.tcp.TcpStream.{TcpStream}
 use Rattle.tn_connect.specs.declared.settings.KeySource.{KeySource}
 use Rattle.tn_connect.specs.declared.settings.KeySource.TheVariants.{Reader, Input, Terminal}
@@ -11,10 +12,12 @@ use Rattle.tn_discipline.specs.Keys.{standard_flags}
 use Rattle.tn_discipline.specs.declared.termios.Settings.{Settings}
 use Rattle.tn_sockets.specs.Mapping.{mapped, none_own}
 use Rattle.tn_sockets.specs.declared.own_characters.OwnCharacters.{OwnCharacters}
-use Rattle.tn_lines.specs.Kinds.{Kind, typed, read}
+use Rattle.tn_lines.specs.Kinds.{Kind, typed, read, has_left_by}
+use Rattle.tn_lines_client.specs.Ending.{is_left}
 use Rattle.tn_lines_client.specs.Logs.{bytes_in}
 use Rattle.tn_lines_client.specs.Openings.{negotiates, warnings_if}
 use Rattle.tn_lines_client.specs.Talking.{Talked, streams}
+use Rattle.tn_lines_client.specs.declared.talk.Over.TheVariants.{Closed, Broken}
 use Rattle.tn_sockets.specs.Logs.{logged}
 
 abbrev pub standard_settings : Settings
@@ -49,7 +52,8 @@ keys_in Input bytes = bytes
 
 -- A talk was held with these keys and this screen, before and after it: all that was typed, said and told
 -- stands in the logs, and so many bytes more were to be told. The user was warned once where what came shows
--- that the service speaks Telnet, and else not.
+-- that the service speaks Telnet, and else not. The talk ended by its user exactly if one of the keys
+-- leaves.
 pub record HoldsTalk (plain : Plain) (keys seen now : Option (List ℕ)) (report : TalkReport) : Type 0 where
   pub unsent : List ℕ
   pub keys_left : Option (List ℕ)
@@ -63,10 +67,24 @@ pub record HoldsTalk (plain : Plain) (keys seen now : Option (List ℕ)) (report
       (streams keys_left service_left (Some (logged report.told)) now warned_at_last)
   pub count : report.unsent ≡ length unsent
   pub warnings : count_in report.warned ≡ warnings_if (negotiates (bytes_in report.heard))
+  pub left : is_left report.over ≡ has_left_by (kind_of plain) (bytes_in report.typed)
 
--- the same, with the keys that the bytes of a reader are
-abbrev pub RunsTalk : Plain → Option (List ℕ) → Option (List ℕ) → Option (List ℕ) → TalkReport → Type 0
-RunsTalk plain bytes seen now report = HoldsTalk plain (keys_in plain.origin bytes) seen now report
+-- a talk was held with the keys that the bytes of a reader are
+abbrev pub HoldsTyped : Plain → Option (List ℕ) → Option (List ℕ) → Option (List ℕ) → TalkReport
+    → Type 0
+HoldsTyped plain bytes seen now report =
+    HoldsTalk plain (keys_in plain.origin bytes) seen now report
+
+-- a talk was held so, and its connection did not break
+abbrev pub RunsTalk : Plain → Option (List ℕ) → Option (List ℕ) → Option (List ℕ) → TalkReport
+    → Type 0
+RunsTalk plain bytes seen now report =
+    HoldsTyped plain bytes seen now report × (report.over ≢ Broken)
+
+-- if the talk ended since the service closed: all that the service was to give was heard
+abbrev pub HeardToTheEnd : Option (List ℕ) → TalkReport → Type 0
+HeardToTheEnd service report =
+    report.over ≡ Closed → IfSome service (λ bytes. bytes_in report.heard ≡ bytes)
 
 -- the connection that a talk was held over
 abbrev pub talked_over : TalkReport → TcpStream

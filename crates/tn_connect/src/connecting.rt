@@ -71,10 +71,12 @@ struct Wires<H, Q: Queue> {
     outgoing: Outgoing<H, Q>,
     sender: Sender<H, Q>,
     is_over: Arc<AtomicBool, Global>,
+    // The connection that was split into them, for contracts.
+    connection: Snapshot<TcpStream>,
 }
 
-// A session that is over, how its sending ended, how many bytes were not sent, the queue of what it wrote,
-// and the log of what the connection took.
+// A session that is over, how its sending ended, how many bytes were not sent, the queue of what it
+// wrote, the log of what the connection took, and that connection.
 #[derive(Drop)]
 struct Talked {
     ended: Result<(Report, ClientPorts), SessionFault>,
@@ -82,6 +84,7 @@ struct Talked {
     unsent: usize,
     queue: PiecePass,
     log: WriteLog,
+    connection: Snapshot<TcpStream>,
 }
 
 // The word that a session is over, for the one that tells it and for the one that hears it.
@@ -102,6 +105,7 @@ fn wire<H: Host, Q: Queue>(
     requires named { IsNamed Q.table Q.key (sends_on opened.queue.to) }
     ensures fault { IfErr result IsOfNetwork }
     ensures nothing_yet { IfOk result (λ wires. view wires.outgoing.pass ≡ putter []) }
+    ensures connection { IfOk result (λ wires. wires.connection.value ≡ opened.stream) }
 {
     let (is_over, seen) = flags(alloc)?;
     let (sent, trace) = opened.shared()?;
@@ -111,6 +115,7 @@ fn wire<H: Host, Q: Queue>(
         trace: written,
         queue,
     } = opened;
+    let connection = Snapshot::of(&stream);
     let (reader, writer) = split(&rt, stream, &link)?;
     let (outgoing, sending) = queue.sides(rt, alloc, Logged::new(writer), sent, written)?;
     let brought = Brought {
@@ -122,6 +127,7 @@ fn wire<H: Host, Q: Queue>(
         outgoing,
         sender: Sender { sending },
         is_over,
+        connection,
     })
 }
 
@@ -246,12 +252,14 @@ fn talk_and_send<H: Host, K: Read + Drop + Send + 'static, S: Write, Q: Queue + 
         IsSent (put_bytes (view talked.queue)) (talked.sent ≡ Ok Whole) (logged talked.log)) }
     ensures unshown { OnErr result (S.contents screen.new ≡ S.contents screen.old) }
     ensures fault { IfErr result IsOfNetwork }
+    ensures connection { IfOk result (λ talked. talked.connection.value ≡ opened.stream) }
 {
     let Wires {
         incoming,
         mut outgoing,
         sender,
         is_over,
+        connection,
     } = wire::<H, Q>(rt, alloc, opened)?;
     let Some(sending) = sender.start(rt) else {
         return Err(ConnectFault::Memory);
@@ -276,6 +284,7 @@ fn talk_and_send<H: Host, K: Read + Drop + Send + 'static, S: Write, Q: Queue + 
         unsent,
         queue,
         log,
+        connection,
     })
 }
 
@@ -327,6 +336,7 @@ fn lay_out<H: Host, K: Drop>(
 ) -> Result<Laid<H, K>, AllocError>
     ensures queue { IfOk result (λ laid. IsNew laid.opened.queue) }
     ensures keys { IfOk result (λ laid. laid.typing.keys ≡ keys) }
+    ensures stream { IfOk result (λ laid. laid.opened.stream ≡ stream) }
 {
     let Files {
         trace,
@@ -397,7 +407,6 @@ pub fn connect<H: Host + Network, K: Read + Drop + Send + 'static, S: Write, E: 
         news.trace();
     }
     let stream = reach(&rt, host, connecting.port, &mut news, causes)?;
-    let connection = Snapshot::of(&stream);
     tell_that_it_stands(&mut stands);
     news.connect(host, connecting.escape);
     let files = Files {
@@ -418,7 +427,7 @@ pub fn connect<H: Host + Network, K: Read + Drop + Send + 'static, S: Write, E: 
     }
     let is_left = link.is_left();
     // A screen that takes no more has ended the connection, and sending fails then.
-    let ended = result_of(talked, connection, is_left || link.is_dark());
+    let ended = result_of(talked, is_left || link.is_dark());
     news.close(host, is_left, ended.is_ok());
     ended
 }
@@ -436,15 +445,11 @@ fn note_talked(causes: &mut Vec<u8>, talked: &Talked, link: &Link) {
 }
 
 // The result of a session that is over. Where its sending failed it is a fault, unless its user has left.
-fn result_of(
-    talked: Talked,
-    connection: Snapshot<TcpStream>,
-    is_left: bool,
-) -> Result<Connected, ConnectFault>
+fn result_of(talked: Talked, is_left: bool) -> Result<Connected, ConnectFault>
     ensures ran { IfOk result (λ r. (talked.ended ≡ Ok (r.report, r.ports)) × (r.queue ≡ talked.queue)) }
     ensures log { IfOk result (λ r. (r.log ≡ talked.log) × (IsTrue r.all_sent → talked.sent ≡ Ok Whole)) }
     ensures whole { IfOk result (λ r. EndsWhole r.report.ended) }
-    ensures connection { IfOk result (λ r. r.connection ≡ connection) }
+    ensures connection { IfOk result (λ r. r.connection ≡ talked.connection) }
     ensures sent { IfOk result (λ _. IsFalse is_left → IsOk talked.sent) }
     ensures fault { IfErr result (λ fault. fault ≡ ConnectFault.Session) }
 {
@@ -453,6 +458,7 @@ fn result_of(
         sent,
         queue,
         log,
+        connection,
         ..
     } = talked;
     let (report, ports) = if_whole(ended)?;

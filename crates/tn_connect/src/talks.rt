@@ -1,8 +1,9 @@
 //! `tn connect --plain`: a talk with a service that takes lines and negotiates nothing.
 
-ghost use Rattle.std.specs.Prelude.{◌≡◌, [], IfOk, Ok};
+ghost use Rattle.std.specs.Prelude.{◌≡◌, ◌≢◌, [], IfOk, Ok};
 ghost use Rattle.tn_connect.specs.Clients.{ConnectsBy};
-ghost use Rattle.tn_connect.specs.Talks.{HoldsTalk, RunsTalk, is_terminal, kind_of, own_by, talked_over};
+ghost use Rattle.tn_connect.specs.Talks.{HeardToTheEnd, HoldsTalk, HoldsTyped, RunsTalk};
+ghost use Rattle.tn_connect.specs.Talks.{is_terminal, kind_of, own_by, talked_over};
 ghost use Rattle.tn_connect.specs.Warnings.{count_in};
 ghost use Rattle.tn_lines.specs.Kinds.{LeadsTo};
 ghost use Rattle.tn_network.specs.Asked.{Reaches};
@@ -82,6 +83,7 @@ fn talk<
     ensures talked { IfOk result (HoldsTalk plain (K.remaining keys) (S.contents screen.old)
         (S.contents screen.new)) }
     ensures connection { IfOk result (λ report. report.connection ≡ connection) }
+    ensures closed { IfOk result (HeardToTheEnd (N.remaining service)) }
 {
     let at_terminal = is_terminal(plain.origin);
     let mut talk = Talk::new(alloc, lines_of(alloc, plain)?, at_terminal);
@@ -162,7 +164,7 @@ fn talk_over<H: Host, K: Read + Drop, S: Write, E: Drain>(
     errors: &mut E,
 ) -> Result<Result<TalkReport, TalkFault>, ConnectFault>
     ensures talked { IfOk result (λ talked. IfOk talked
-        (RunsTalk plain (K.remaining keys) (S.contents screen.old) (S.contents screen.new))) }
+        (HoldsTyped plain (K.remaining keys) (S.contents screen.old) (S.contents screen.new))) }
     ensures connection { IfOk result (λ talked. IfOk talked (λ report. talked_over report ≡ stream)) }
 {
     let over = Snapshot::of(&stream);
@@ -189,7 +191,8 @@ fn ended_of(
     talked: Result<TalkReport, TalkFault>,
     causes: &mut Vec<u8>,
 ) -> Result<TalkReport, ConnectFault>
-    ensures { IfOk result (λ whole. talked ≡ Ok whole) }
+    ensures same { IfOk result (λ whole. talked ≡ Ok whole) }
+    ensures whole { IfOk result (λ whole. whole.over ≢ Over.Broken) }
 {
     match talked {
         Ok(report) => if_whole(report, causes),
@@ -198,7 +201,8 @@ fn ended_of(
 }
 
 fn if_whole(report: TalkReport, causes: &mut Vec<u8>) -> Result<TalkReport, ConnectFault>
-    ensures { IfOk result (λ whole. whole ≡ report) }
+    ensures same { IfOk result (λ whole. whole ≡ report) }
+    ensures whole { IfOk result (λ whole. whole.over ≢ Over.Broken) }
 {
     if report.unsent > 0 {
         note_unsent(causes, "", report.unsent);
