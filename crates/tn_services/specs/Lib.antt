@@ -1,5 +1,6 @@
 pub mod Cutting
 pub mod Dialing
+pub mod HangingUp
 pub mod Joining
 pub mod NewLines
 pub mod Sending

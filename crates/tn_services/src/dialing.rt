@@ -2,14 +2,16 @@
 
 ghost use Rattle.std.specs.Io.{ReadsAtMost, WritesAtMost};
 ghost use Rattle.std.specs.Io.KnownBytes.{ReadConsumes, WriteAppends};
-ghost use Rattle.std.specs.Prelude.{◌≡◌, ◌+◌, None, IfOk, IfSome, IsSome, OnErr, OnOk, option_map};
-ghost use Rattle.std.specs.Prelude.{string_bytes};
-ghost use Rattle.tn_services.specs.Dialing.{IsReached, bytes_left, bytes_held};
+ghost use Rattle.std.specs.Prelude.{◌≡◌, ◌+◌, None, IfOk, IfSome, IsFalse, IsSome, IsTrue, OnErr};
+ghost use Rattle.std.specs.Prelude.{OnOk, option_map, string_bytes};
+ghost use Rattle.tn_services.specs.Dialing.{HearsAsTold, IsReached, bytes_left, bytes_held};
+ghost use Rattle.tn_services.specs.HangingUp.{HangsUpAtEnd, IsLast};
 ghost use Rattle.tn_services.specs.Joining.{Connects, count};
 ghost use Rattle.tn_network.specs.Asked.{Reaches};
 ghost use Rattle.tn_sockets.specs.Passing.{HandsOn};
 
 use crate::cutting::{HearsCut, LineFormat};
+use crate::hanging_up::HangUp;
 use crate::joining::Gateway;
 use crate::makers::Gateways;
 use std::alloc::{AllocError, Global};
@@ -132,6 +134,9 @@ impl<H: Copy + Network + Wait, N: Drop> Joiner<H, N> {
         ensures reached { IfOk result (λ jobs. IfSome jobs.writer (λ told. IsReached
             (Reaches (H.finds self.now.rt (string_bytes self.now.host) self.now.port) (H.dials self.now.rt))
             told.stream)) }
+        ensures heard { IfOk result (λ jobs. IfSome jobs.reader (λ reader.
+            IfSome jobs.writer (λ writer.
+            HearsAsTold reader.stream writer.stream reader.words.now))) }
     {
         let rt = self.rt;
         let (heard, told) = match self.dial(alloc, &hook) {
@@ -210,12 +215,12 @@ impl<H: Copy + Network + Wait, N: HearsCut + Drop> Maker for Joiner<H, N> {
 /// return a read is interrupted where nothing comes soon, so that one by itself does not wait for what
 /// comes next.
 #[derive(Drop)]
-pub struct ServiceReader<H, S> {
+pub struct ServiceReader<H, S, K = Hook> {
     rt: H,
     stream: Option<S>,
     /// What is read where the service was not reached.
     words: &'static [u8],
-    hook: Hook,
+    hook: K,
     /// It has said all.
     said_all: Arc<AtomicBool, Global>,
     /// A carriage return came last.
@@ -224,10 +229,10 @@ pub struct ServiceReader<H, S> {
 
 // tools/progress: d_gateway.pml, MAKES_STEP
 // Reads what comes, until the session is over, or, behind a carriage return, for a short time.
-fn hear<H: Wait, S: Read>(
+fn hear<H: Wait, S: Read, K: HangUp>(
     rt: &H,
     stream: &mut S,
-    hook: &Hook,
+    hook: &K,
     returned: bool,
     buf: &mut [u8],
 ) -> io::Result<usize>
@@ -250,11 +255,12 @@ fn hear<H: Wait, S: Read>(
     Ok(0)
 }
 
-impl<H: Copy + Wait, S: Drop + Read + Pacing> ServiceReader<H, S> {
+impl<H: Copy + Wait, S: Drop + Read + Pacing, K: HangUp> ServiceReader<H, S, K> {
     fn hear(&mut self, buf: &mut [u8]) -> io::Result<usize>
         ensures bound { ReadsAtMost result buf.new }
         ensures hands_on { HandsOn (bytes_left S.remaining self.old.stream self.old.words.now)
             (bytes_left S.remaining self.new.stream self.new.words.now) result buf.new }
+        ensures hook { self.new.hook ≡ self.old.hook }
     {
         match &mut self.stream {
             Some(stream) => hear(&self.rt, stream, &self.hook, self.returned, buf),
@@ -266,6 +272,7 @@ impl<H: Copy + Wait, S: Drop + Read + Pacing> ServiceReader<H, S> {
     fn pace(&mut self, returned: bool)
         ensures stream { self.new.stream ≡ self.old.stream }
         ensures words { self.new.words ≡ self.old.words }
+        ensures hook { self.new.hook ≡ self.old.hook }
     {
         if returned == self.returned {
             return;
@@ -275,20 +282,31 @@ impl<H: Copy + Wait, S: Drop + Read + Pacing> ServiceReader<H, S> {
             stream.wait_at_most(if returned { SOON } else { LOOK });
         }
     }
+
+    // Hangs up after the last read.
+    fn end_after(&mut self, read: &io::Result<usize>)
+        ensures ends { HangsUpAtEnd read.now (K.hung_up self.old.hook) (K.hung_up self.new.hook) }
+        ensures stream { self.new.stream ≡ self.old.stream }
+        ensures words { self.new.words ≡ self.old.words }
+    {
+        if !is_last(read) {
+            return;
+        }
+        self.said_all.store(true, Ordering::SeqCst);
+        self.hook.hang_up();
+    }
 }
 
-impl<H: Copy + Wait, S: Drop + Read + Pacing> Read for ServiceReader<H, S> {
+impl<H: Copy + Wait, S: Drop + Read + Pacing, K: HangUp> Read for ServiceReader<H, S, K> {
     fn read(&mut self, buf: &mut [u8]) -> io::Result<usize>
         ensures bound { ReadsAtMost result buf.new }
         ensures bytes { ReadConsumes None None result buf.new }
         ensures hands_on { HandsOn (bytes_left S.remaining self.old.stream self.old.words.now)
             (bytes_left S.remaining self.new.stream self.new.words.now) result buf.new }
+        ensures ends { HangsUpAtEnd result (K.hung_up self.old.hook) (K.hung_up self.new.hook) }
     {
         let read = self.hear(buf);
-        if is_last(&read) {
-            self.said_all.store(true, Ordering::SeqCst);
-            self.hook.hang_up();
-        }
+        self.end_after(&read);
         self.pace(ends_by_return(&read, buf));
         read
     }
@@ -393,7 +411,10 @@ fn is_timeout(error: &io::Error) -> bool {
 }
 
 // The service has said all, or its connection is broken.
-fn is_last(read: &io::Result<usize>) -> bool {
+fn is_last(read: &io::Result<usize>) -> bool
+    ensures last { IsTrue result → IsLast read.now }
+    ensures other { IsFalse result → ¬ IsLast read.now }
+{
     match read {
         Ok(count) => *count == 0,
         Err(error) => error.kind() != ErrorKind::Interrupted,
