@@ -2,4 +2,3 @@ mod Faults
 mod Heard
 mod Keys
 mod Put
-mod Reached
