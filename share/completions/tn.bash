@@ -15,7 +15,7 @@ _tn() {
         --keys) mapfile -t COMPREPLY < <(compgen -W 'own standard' -- "$word"); return ;;
         --until|--trace) mapfile -t COMPREPLY < <(compgen -f -- "$word"); return ;;
         --host|--to) mapfile -t COMPREPLY < <(compgen -A hostname -- "$word"); return ;;
-        -p|--port|--limit|--per-host|--count|--ticks|--line|--idle|--longest|--width|--height|-q) return ;;
+        -p|--port|--limit|--per-host|--count|--ticks|--line|--idle|--longest|--notes|--width|--height|-q) return ;;
     esac
     if ((COMP_CWORD == 1)); then
         words='local replay decode world serve connect help -h --help -V --version'
@@ -30,7 +30,7 @@ _tn() {
             world)
                 words='-h --help' ;;
             serve)
-                words='--host -p --port --limit --per-host --count --forever --until --ticks --line --idle --longest --local --verbose --to --crlf --cr --line-cut -h --help' ;;
+                words='--host -p --port --limit --per-host --count --forever --until --ticks --line --idle --longest --local --verbose --notes --to --crlf --cr --line-cut -h --help' ;;
             connect)
                 if [[ $word != -* ]]; then mapfile -t COMPREPLY < <(compgen -A hostname -- "$word"); return; fi
                 words='-p --port --width --height --line --escape --keys --trace -q --quiet --plain --lf --cr -h --help' ;;

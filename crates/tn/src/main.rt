@@ -36,6 +36,9 @@ const STANDS: &str = "TN_STANDS";
 /// The environment variable by which the launcher tells the special characters of the terminal.
 const KEYS: &str = "TN_KEYS";
 
+/// The environment variable that systemd sets where standard error goes to its journal (systemd.exec(5)).
+const JOURNAL: &str = "JOURNAL_STREAM";
+
 /// The terminal that a process was started at (POSIX).
 const TERMINAL_PATH: &str = "/dev/tty";
 
@@ -85,6 +88,11 @@ fn stands_of<R: Env + Files<File = File>>(rt: &R) -> Option<File> {
     File::create(rt, path).ok()
 }
 
+// Whether an environment variable is set, to whatever text.
+fn is_set<R: Env>(rt: &R, name: &str) -> bool {
+    !matches!(rt.var(name, &mut []), Err(FillError::NotPresent))
+}
+
 // The terminal that keys are typed at, though standard output may be a file.
 fn terminal_of<R: Files<File = File>>(rt: &R, origin: KeySource) -> Option<File> {
     match origin {
@@ -128,6 +136,7 @@ fn main(rt: HostRuntime) -> ExitCode {
         sizes: sizes_of(&rt),
         stands: stands_of(&rt),
         terminal: terminal_of(&rt, origin),
+        is_journal: is_set(&rt, JOURNAL),
         link,
     };
     let mut screen = Outlet {

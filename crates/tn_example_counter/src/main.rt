@@ -6,6 +6,7 @@
 ghost use Rattle.std.specs.Prelude.{◌≡◌, ◌+◌, IfOk};
 ghost use Rattle.tn_example_counter.specs.Polls.{Tells};
 
+use log::sink::Discard;
 use std::alloc::{AllocError, Global};
 use std::io::{Read, Write};
 use std::net::{Ipv4Addr, SocketAddr, TcpListener, TcpStream};
@@ -26,14 +27,13 @@ fn main(rt: HostRuntime) -> io::Result<()> {
     };
     let poll = Arc::new(alloc, Mutex::new(Poll::new()))?;
     let server = thread::spawn(&rt, move || -> bool {
-        let mut errors = Vec::new(alloc);
         serve_on(
             rt,
             alloc,
             &listener,
             serving,
             Polling { rt, poll },
-            &mut errors,
+            &Discard,
         )
         .is_ok()
     })?;

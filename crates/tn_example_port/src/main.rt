@@ -6,6 +6,7 @@
 ghost use Rattle.std.specs.Prelude.{◌≡◌, IfOk};
 ghost use Rattle.tn_example_port.specs.Quoting.{quoted};
 
+use log::sink::Discard;
 use std::alloc::{AllocError, Global};
 use std::net::{Ipv4Addr, TcpListener, TcpStream};
 use std::{io, thread};
@@ -20,7 +21,7 @@ fn main(rt: HostRuntime) -> io::Result<()> {
     let mut client = TcpStream::connect(&rt, listener.local_addr()?)?;
     let serving = Serving::standard();
     let server = thread::spawn(&rt, move || -> bool {
-        serve_on(rt, alloc, &listener, serving, Quoters, &mut io::sink()).is_ok()
+        serve_on(rt, alloc, &listener, serving, Quoters, &Discard).is_ok()
     })?;
     io::copy(&mut rt.stdin(), &mut client)?;
     io::copy(&mut client, &mut rt.stdout())?;

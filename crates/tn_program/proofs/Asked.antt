@@ -47,6 +47,21 @@ joins facts left turned result rt port options options' name name' ends ends' so
     (subst (λ (n : List ℕ). Counted facts left turned result options (JoinsAsAsked rt n port ends')) named
     (subst (λ (e : LineFormat). Counted facts left turned result options (JoinsAsAsked rt name port e)) ended counted))
 
+-- a server that is joined to no service has counted sessions of its own job
+pub counted_alone : {T : Type 0} (result : Result Served ServeFault) (to : Option T) (own : Served → Type 0) (joined : T → Served → Type 0) → to ≡ None
+    → IfOk result own → IfOk result (λ served. (to ≡ None → own served) × IfSome to (λ t. joined t served))
+counted_alone (Ok served) None own joined none counted = (λ _. counted, tt)
+counted_alone (Ok served) (Some t) own joined none counted = absurd (cc)
+counted_alone (Err fault) to own joined none counted = tt
+
+-- one that is joined to a service has counted sessions that are joined to it
+pub counted_joined : {T : Type 0} (result : Result Served ServeFault) (to : Option T) (t : T) (own : Served → Type 0) (joined : T → Served → Type 0)
+    → to ≡ Some t → IfOk result (joined t) → IfOk result (λ served. (to ≡ None → own served) × IfSome to (λ t. joined t served))
+counted_joined (Ok served) None t own joined is counted = absurd (cc)
+counted_joined {T} (Ok served) (Some u) t own joined is counted =
+    (λ none. absurd (cc), let same : t ≡ u = cc in subst (λ (x : T). joined x served) same counted)
+counted_joined (Err fault) to t own joined is counted = tt
+
 -- the file that was asked for was seen, and no other
 pub seen : {H : Type 0} (sees : H → List ℕ → Type 0) (rt : H) (until : Option (AtFile H)) (path : Option (List ℕ)) → IfSome until (λ at. at.rt ≡ rt)
     → option_map (λ at. string_bytes at.path) until ≡ path

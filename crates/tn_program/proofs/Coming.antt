@@ -55,7 +55,7 @@ ran machine a origin bytes old new (outcome.Decode (Err f)) h zero = absurd (fau
 ran machine a origin bytes old new (outcome.World (Ok done)) (e, ends) zero = subst (λ a. RunsAsked machine a origin bytes old new) (sym e) ends.run.ok
 ran machine a origin bytes old new (outcome.World (Err f)) h zero = absurd (faulted f zero)
 ran machine a origin bytes old new (outcome.Served (Ok served)) (serving, e, ends) zero =
-    subst (λ a. RunsAsked machine a origin bytes old new) (sym e) (served, ends.all, ends.listened, ends.unwritten)
+    subst (λ a. RunsAsked machine a origin bytes old new) (sym e) (served, ends.all, ends.listened, ends.counted, ends.unwritten)
 ran machine a origin bytes old new (outcome.Served (Err f)) h zero = absurd (unserved f zero)
 ran machine a origin bytes old new (outcome.Connected (Ok r)) (connecting, e, ends) zero =
     subst (λ a. RunsAsked machine a origin bytes old new) (sym e) (inl (r, ends.telnet, ends.ran, ends.whole, ends.reached))

@@ -6,17 +6,21 @@ use Rattle.std.specs.declared.net.socket_addr.SocketAddr.{SocketAddr}
 use Rattle.std.specs.declared.net.tcp.TcpListener.{TcpListener}
 use Rattle.std.specs.declared.net.tcp.TcpStream.{TcpStream}
 use Rattle.tn_network.specs.Asked.{Asking, asking}
+use Rattle.tn_serve.specs.declared.served.Served.{Served}
+use Rattle.tn_words.specs.declared.settings.ServeWords.{ServeWords}
 
--- What is known of one machine: what each call of its network gives evidence of, and at which paths a file
--- was seen.
+-- What is known of one machine: what each call of its network gives evidence of, at which paths a file was
+-- seen, and what its servers may count.
 pub record Machine : Type 1 where
   pub network : Asking
   pub sees : List ℕ → Type 0
+  -- what a server may count that was asked for by these words
+  pub serves : ServeWords → Served → Type 0
 
 abbrev pub machine_of : (List ℕ → ℕ → Result TcpListener Error → Type 0)
     → (TcpListener → Result TcpListener Error → Type 0)
     → (TcpListener → ℕ → Result (TcpStream × SocketAddr) Error → Type 0)
     → (List ℕ → ℕ → Result HostAddrs Error → Type 0) → (SocketAddr → Result TcpStream Error → Type 0)
-    → (List ℕ → Type 0) → Machine
-machine_of listens shares accepts finds dials sees =
-    record { network = asking listens shares accepts finds dials; sees = sees }
+    → (List ℕ → Type 0) → (ServeWords → Served → Type 0) → Machine
+machine_of listens shares accepts finds dials sees serves =
+    record { network = asking listens shares accepts finds dials; sees = sees; serves = serves }

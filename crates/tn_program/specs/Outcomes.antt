@@ -43,6 +43,7 @@ pub record EndsServing (machine : Machine) (serving : ServeWords) (ended : Resul
       (machine.network.listens (string_bytes serving.host) serving.port)
       machine.network.shares machine.network.accepts (λ (served : Served). served.accepted)
       (λ error ended. FailsBy error ended) ended)
+  pub counted : IfOk ended (machine.serves serving)
   pub limit : IsErrOf ended serve.Limit → ¬ IsLimit serving.sessions
   pub unwritten : new ≡ old
 

@@ -36,8 +36,8 @@ abbrev talked : TalkReport → Result TalkReport ConnectFault
 talked report = Ok report
 
 -- Where the reader tells its bytes and the writer what it holds, the run has appended what was asked for.
--- Where it served, as many connections were accepted as were asked for, or the file was seen, and nothing was
--- written; where it connected, a client's session ran with these keys and this screen, and ended in no fault,
+-- Where it served, as many connections were accepted as were asked for, or the file was seen, each session
+-- that it counts is one that was asked for, and nothing was written; where it connected, a client's session ran with these keys and this screen, and ended in no fault,
 -- or a talk was held.
 abbrev pub RunsAsked : Machine → Asked → KeySource → Option (List ℕ) → Option (List ℕ) → Option (List ℕ) →
     Type 0
@@ -49,7 +49,8 @@ RunsAsked machine (Serve serving) origin bytes old new = (served : Served)
     × ServesUntil (count_as serving.count) (IfAny machine.sees (option_map string_bytes serving.until)) served
     × Listens (machine.network.listens (string_bytes serving.host) serving.port) machine.network.shares
     machine.network.accepts
-    (λ (served : Served). served.accepted) (λ error ended. FailsBy error ended) (ok served) × (new ≡ old)
+    (λ (served : Served). served.accepted) (λ error ended. FailsBy error ended) (ok served)
+    × machine.serves serving served × (new ≡ old)
 RunsAsked machine (Connect connecting) origin bytes old new =
     ((connected : Connected) × (connecting.plain ≡ None)
     × RunsClient (window_as connecting) (foreseen origin bytes) old new connected

@@ -4,13 +4,15 @@
 //! let link = Arc::new(alloc, Link::new())?;
 //! let reader = rt.stdin();
 //! let origin = KeySource::Input;
-//! let streams = Streams { origin, reader, sizes: None, stands: None, terminal: None, link };
+//! let streams = Streams { origin, reader, sizes: None, stands: None, terminal: None, is_journal: false,
+//!     link };
 //! let status = run_words(rt, alloc, Ok(words), streams, &mut rt.stdout(), &mut rt.stderr());
 //! ```
 //!
 //! It does not set a terminal to raw mode: whoever starts it does.
 #![tactic(auto)]
 
+pub use counting::Serves;
 pub use outcome::Outcome;
 pub use outlet::Outlet;
 pub use own::{OWN_LENGTH, own_characters};
@@ -22,7 +24,7 @@ pub use tn_connect::{KeySource, Link, OwnCharacters, Screen};
 pub use tn_network::Network;
 pub use watching::Lookout;
 
-mod lines;
+mod counting;
 mod outcome;
 mod outlet;
 mod own;

@@ -10,7 +10,7 @@ ghost use Rattle.tn_program.specs.Runs.{DoesAsAsked};
 ghost use Rattle.tn_program.specs.Told.{IsConnecting, IsTold, UnlessConnected, UnlessTelling};
 ghost use Rattle.tn_words.specs.Words.{AskFor, Refuses};
 
-use crate::lines::Lines;
+use crate::counting::Serves;
 use crate::outcome::Outcome;
 use crate::serving::serve_asked;
 use crate::settings::{connecting_of, plain_of};
@@ -35,7 +35,7 @@ const TRACE_MODE: u32 = 0o600;
 /// (`EndsWith`). A fault is told in one line on `errors`, and behind it what is wrong with words, or why;
 /// what cannot be written is dropped. Of a streams at standard input nothing is known beforehand.
 pub fn run_words<
-    H: Network + Host + Lookout + Files<File = File>,
+    H: Network + Host + Lookout + Eprint + Files<File = File>,
     R: Read + Drop + Send + 'static,
     W: Write,
     E: Drain,
@@ -52,11 +52,13 @@ pub fn run_words<
     ensures usage { IfErr words (λ error. error_kind error ≢ ErrorKind.OutOfMemory → result ≡ 2) }
     ensures unwritten { OnErr words (W.contents writer.new ≡ W.contents writer.old) }
     ensures done { result ≡ 0 → IfOk words (λ words. DoesAsAsked
-        (machine_of (H.listens rt) (H.shares rt) (H.accepts rt) (H.finds rt) (H.dials rt) (H.sees rt))
+        (machine_of (H.listens rt) (H.shares rt) (H.accepts rt) (H.finds rt) (H.dials rt)
+        (H.sees rt) (⟦<H as Serves>⟧.serves rt))
         (map string_bytes words.items) streams.origin (R.remaining streams.reader)
         (W.contents writer.old) (W.contents writer.new)) }
     ensures ended { IfOk words (λ words. EndsWith
-        (machine_of (H.listens rt) (H.shares rt) (H.accepts rt) (H.finds rt) (H.dials rt) (H.sees rt))
+        (machine_of (H.listens rt) (H.shares rt) (H.accepts rt) (H.finds rt) (H.dials rt)
+        (H.sees rt) (⟦<H as Serves>⟧.serves rt))
         (map string_bytes words.items) streams.origin (R.remaining streams.reader)
         (W.contents writer.old) (W.contents writer.new)
         (IsTold E.contents E.told errors.old errors.new) result) }
@@ -76,7 +78,7 @@ pub fn run_words<
 /// The same without the status and the lines: returns what comes of the words, and appends the causes of a
 /// fault, a line each.
 pub fn outcome_of_words<
-    H: Network + Host + Lookout + Files<File = File>,
+    H: Network + Host + Lookout + Eprint + Files<File = File>,
     R: Read + Drop + Send + 'static,
     W: Write,
     E: Drain,
@@ -95,7 +97,8 @@ pub fn outcome_of_words<
         result ≡ Outcome.Usage None) }
     ensures unwritten { OnErr words (W.contents writer.new ≡ W.contents writer.old) }
     ensures comes { IfOk words (λ words. ComesOf
-        (machine_of (H.listens rt) (H.shares rt) (H.accepts rt) (H.finds rt) (H.dials rt) (H.sees rt))
+        (machine_of (H.listens rt) (H.shares rt) (H.accepts rt) (H.finds rt) (H.dials rt)
+        (H.sees rt) (⟦<H as Serves>⟧.serves rt))
         (map string_bytes words.items) streams.origin (R.remaining streams.reader)
         (W.contents writer.old) (W.contents writer.new) result) }
     ensures quiet { UnlessTelling result (errors.new ≡ errors.old) }
@@ -170,7 +173,7 @@ fn write_version<W: Write>(writer: &mut W) -> Result<(), CliFault>
 }
 
 fn run_asked<
-    H: Network + Host + Lookout + Files<File = File>,
+    H: Network + Host + Lookout + Eprint + Files<File = File>,
     R: Read + Drop + Send + 'static,
     W: Write,
     E: Drain,
@@ -184,7 +187,8 @@ fn run_asked<
     causes: &mut Vec<u8>,
 ) -> Outcome
     ensures comes { ComesOfRun
-        (machine_of (H.listens rt) (H.shares rt) (H.accepts rt) (H.finds rt) (H.dials rt) (H.sees rt))
+        (machine_of (H.listens rt) (H.shares rt) (H.accepts rt) (H.finds rt) (H.dials rt)
+        (H.sees rt) (⟦<H as Serves>⟧.serves rt))
         asked streams.origin (R.remaining streams.reader)
         (W.contents writer.old) (W.contents writer.new) result }
     ensures quiet { UnlessTelling result (errors.new ≡ errors.old) }
@@ -196,7 +200,7 @@ fn run_asked<
         Asked::Decode => Outcome::Decode(run_decode(alloc, &mut streams, writer)),
         Asked::World => Outcome::World(run_world(alloc, &mut streams, writer)),
         Asked::Serve(asked) => {
-            let served = serve_asked(rt, alloc, &asked, &mut Lines(errors), causes);
+            let served = serve_asked(rt, alloc, &asked, streams.is_journal, causes);
             Outcome::Served(served)
         },
         Asked::Connect(asked) => match asked.plain {
@@ -221,7 +225,8 @@ fn run_plain<H: Network + Host + Lookout, R: Read + Drop + Send + 'static, W: Wr
 ) -> Outcome
     requires { asked.now.plain ≡ Some line_end }
     ensures comes { ComesOfRun
-        (machine_of (H.listens rt) (H.shares rt) (H.accepts rt) (H.finds rt) (H.dials rt) (H.sees rt))
+        (machine_of (H.listens rt) (H.shares rt) (H.accepts rt) (H.finds rt) (H.dials rt)
+        (H.sees rt) (⟦<H as Serves>⟧.serves rt))
         (Asked.Connect asked.now) streams.origin (R.remaining streams.reader)
         (W.contents writer.old) (W.contents writer.new) result }
     ensures connects { IsConnecting result }
@@ -234,6 +239,7 @@ fn run_plain<H: Network + Host + Lookout, R: Read + Drop + Send + 'static, W: Wr
         stands,
         terminal,
         link,
+        ..
     } = streams;
     let news = News {
         writer: errors,
@@ -271,7 +277,8 @@ fn run_connect<
 ) -> Outcome
     requires { asked.plain ≡ None }
     ensures comes { ComesOfRun
-        (machine_of (H.listens rt) (H.shares rt) (H.accepts rt) (H.finds rt) (H.dials rt) (H.sees rt))
+        (machine_of (H.listens rt) (H.shares rt) (H.accepts rt) (H.finds rt) (H.dials rt)
+        (H.sees rt) (⟦<H as Serves>⟧.serves rt))
         (Asked.Connect asked) streams.origin (R.remaining streams.reader)
         (W.contents writer.old) (W.contents writer.new) result }
     ensures connects { IsConnecting result }
@@ -287,6 +294,7 @@ fn run_connect<
         stands,
         terminal,
         link,
+        ..
     } = streams;
     let news = News {
         writer: errors,

@@ -1,40 +1,36 @@
 //! `tn serve`: its own job, or a line service that each session is joined to.
 
-ghost use Rattle.std.specs.Prelude.{◌≡◌, None, IfOk, IfSome, IsErrOf, option_map, string_bytes};
+ghost use Rattle.std.specs.Prelude.{◌≡◌, IfOk, IfSome, IsErrOf, option_map, string_bytes};
 ghost use Rattle.tn_serve.specs.Causes.{FailsBy, IsCaused};
-ghost use Rattle.tn_serve.specs.Counted.{CountsSessions, facts_of, server_of};
 ghost use Rattle.tn_serve.specs.Ends.{IfAny, ServesUntil};
-ghost use Rattle.tn_serve.specs.Services.{WasTurnedAway};
 ghost use Rattle.tn_network.specs.Asked.{Listens};
-ghost use Rattle.tn_program.specs.Settings.{AnswersAsAsked, JoinsAsAsked, UnlessMemory, count_as, lines_as};
-ghost use Rattle.tn_program.specs.Settings.{options_as};
+ghost use Rattle.tn_program.specs.Settings.{UnlessMemory, count_as};
 ghost use Rattle.tn_roster.specs.Held.{IsLimit};
 
-use crate::settings::{answering_of, lines_of, serving_of};
+use crate::counting::Serves;
+use crate::settings::{answering_of, lines_of, note_level_of, note_style_of, serving_of};
 use crate::watching::{AtFile, Lookout};
+use log::{Log, Logged};
 use std::alloc::{AllocError, Global};
-use std::io::Write;
 use std::net::TcpStream;
 use std::sync::Wait;
-use tn_jobs::Job;
 use tn_network::Network;
-use tn_serve::{At, Call, Finished, Host, Notes, ServeFault, Served, Service, serve};
+use tn_serve::{At, Call, Finished, Host, NoteWriter, Notes, ServeFault, Served, Service, serve};
 use tn_services::{
-    Answerer, Answerers, Gateway, HearsCut, Joiner, LineFormat, ServiceReader, ServiceWriter,
+    Gateway, HearsCut, Joiner, LineFormat, ServiceReader, ServiceWriter,
 };
-use tn_session::Maker;
 
-/// Serves as was asked for. Where it cannot listen, `causes` gets a line.
-pub(crate) fn serve_asked<H, E>(
+/// Serves as was asked for, and writes notes to standard error: `is_journal` says that systemd's journal reads
+/// them. If it cannot listen, `causes` gets a line.
+pub(crate) fn serve_asked<H>(
     rt: H,
     alloc: Global,
     asked: &tn_words::ServeWords,
-    errors: &mut E,
+    is_journal: bool,
     causes: &mut Vec<u8>,
 ) -> Result<Served, ServeFault>
 where
-    H: Host + Network + Lookout,
-    E: Write,
+    H: Host + Network + Lookout + Eprint,
     ensures all { IfOk result (ServesUntil (count_as asked.now.count)
         (IfAny (H.sees rt) (option_map string_bytes asked.now.until))) }
     ensures listened { UnlessMemory result (Listens
@@ -43,25 +39,39 @@ where
         (λ error ended. FailsBy error ended) result) }
     ensures caused { IsCaused (string_bytes asked.now.host) asked.now.port (H.listens rt)
         causes.old.items causes.new.items result }
+    ensures counted { IfOk result (⟦<H as Serves>⟧.serves rt asked.now) }
+    ensures limit { IsErrOf result ServeFault.Limit → ¬ IsLimit asked.now.sessions }
+{
+    let Some((sink, writer)) = NoteWriter::start(rt, alloc, note_style_of(asked, is_journal)) else {
+        return Err(ServeFault::Memory);
+    };
+    let log = Logged::new(rt, note_level_of(asked), sink);
+    let served = serve_noted(rt, alloc, asked, &log, causes);
+    drop(log);
+    writer.finish(&rt);
+    served
+}
 
-    // its own job, as often as was asked for
-    ensures answers { asked.now.to ≡ None → IfOk result (λ served. CountsSessions (server_of (facts_of
-        ⟦<Answerer as Job>⟧.fresh ⟦<Answerers as Maker>⟧.gives ⟦<Answerer as Job>⟧.reacts
-        ⟦<Answerer as Job>⟧.steps ⟦<Answerer as Job>⟧.refuses) ⟦<Answerers as Maker>⟧.left
-        (options_as asked.now)
-        (AnswersAsAsked asked.now.ticks) (WasTurnedAway (H.dismisses rt)))
-        served.whole served.faulted served.refused) }
-
-    // jobs that are joined to the service that was asked for
-    ensures joins { IfSome asked.now.to (λ to. IfOk result (λ served. CountsSessions (server_of (facts_of
-        ⟦<Gateway<ServiceReader<H, TcpStream>, ServiceWriter<H, TcpStream, Noting<H>>> as Job>⟧.fresh
-        ⟦<Joiner<H, Noting<H>> as Maker>⟧.gives
-        ⟦<Gateway<ServiceReader<H, TcpStream>, ServiceWriter<H, TcpStream, Noting<H>>> as Job>⟧.reacts
-        ⟦<Gateway<ServiceReader<H, TcpStream>, ServiceWriter<H, TcpStream, Noting<H>>> as Job>⟧.steps
-        ⟦<Gateway<ServiceReader<H, TcpStream>, ServiceWriter<H, TcpStream, Noting<H>>> as Job>⟧.refuses)
-        ⟦<Joiner<H, Noting<H>> as Maker>⟧.left
-        (options_as asked.now) (JoinsAsAsked rt (string_bytes to.host) to.port (lines_as asked.now))
-        (WasTurnedAway (H.dismisses rt))) served.whole served.faulted served.refused)) }
+// Serves as was asked for, with this log.
+fn serve_noted<H, L>(
+    rt: H,
+    alloc: Global,
+    asked: &tn_words::ServeWords,
+    log: &L,
+    causes: &mut Vec<u8>,
+) -> Result<Served, ServeFault>
+where
+    H: Host + Network + Lookout,
+    L: Log,
+    ensures all { IfOk result (ServesUntil (count_as asked.now.count)
+        (IfAny (H.sees rt) (option_map string_bytes asked.now.until))) }
+    ensures listened { UnlessMemory result (Listens
+        (H.listens rt (string_bytes asked.now.host) asked.now.port)
+        (H.shares rt) (H.accepts rt) (λ (served : Served). served.accepted)
+        (λ error ended. FailsBy error ended) result) }
+    ensures caused { IsCaused (string_bytes asked.now.host) asked.now.port (H.listens rt)
+        causes.old.items causes.new.items result }
+    ensures counted { IfOk result (⟦<H as Serves>⟧.serves rt asked.now) }
     ensures limit { IsErrOf result ServeFault.Limit → ¬ IsLimit asked.now.sessions }
 {
     let serving = serving_of(asked);
@@ -72,7 +82,7 @@ where
     };
     let Some(to) = &asked.to else {
         let service = answering_of(asked);
-        return serve(rt, alloc, at, serving, until, service, errors, causes);
+        return serve(rt, alloc, at, serving, until, service, log, causes);
     };
     let service = Joining {
         rt,
@@ -80,7 +90,7 @@ where
         port: to.port,
         lines: lines_of(asked),
     };
-    serve(rt, alloc, at, serving, until, service, errors, causes)
+    serve(rt, alloc, at, serving, until, service, log, causes)
 }
 
 // The file that ends the server, if one was named.

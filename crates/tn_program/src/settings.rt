@@ -5,9 +5,10 @@ ghost use Rattle.tn_connect.specs.Clients.{window_of};
 ghost use Rattle.tn_program.specs.Settings.{count_as, escape_as, lines_as, options_as, origin_as, plain_as};
 ghost use Rattle.tn_program.specs.Settings.{window_as};
 
+use log::Level;
 use std::alloc::{AllocError, Global};
 use tn_connect::{Connecting, KeySource, OwnCharacters, Plain};
-use tn_serve::{Call, Finished, Service, Serving, SessionOptions};
+use tn_serve::{Call, Finished, NoteFormat, NoteStyle, Service, Serving, SessionOptions};
 use tn_server::Editing;
 use tn_services::{Answerer, Answerers, LineFormat};
 use tn_words::{Characters, Escape, LineEnd, USUAL_HEIGHT, USUAL_WIDTH};
@@ -43,7 +44,6 @@ pub(crate) fn serving_of(asked: &tn_words::ServeWords) -> Serving
     ensures sessions { result.sessions ≡ asked.now.sessions }
     ensures per_host { result.per_host ≡ asked.now.per_host }
     ensures count { result.count ≡ count_as asked.now.count }
-    ensures verbose { result.verbose ≡ asked.now.verbose }
     ensures options { result.options ≡ options_as asked.now }
 {
     Serving {
@@ -51,7 +51,25 @@ pub(crate) fn serving_of(asked: &tn_words::ServeWords) -> Serving
         per_host: asked.per_host,
         count: count_of(asked.count),
         options: options_of(asked),
-        verbose: asked.verbose,
+    }
+}
+
+// How the notes look.
+pub(crate) fn note_style_of(asked: &tn_words::ServeWords, is_journal: bool) -> NoteStyle {
+    let format = if asked.logfmt {
+        NoteFormat::Logfmt
+    } else {
+        NoteFormat::Text
+    };
+    NoteStyle { format, is_journal }
+}
+
+// What is noted: with `--verbose` each event, else those that an operator has to see.
+pub(crate) fn note_level_of(asked: &tn_words::ServeWords) -> Level {
+    if asked.verbose {
+        Level::Info
+    } else {
+        Level::Warn
     }
 }
 

@@ -17,6 +17,8 @@ pub struct Streams<R> {
     pub sizes: Option<File>,
     pub stands: Option<File>,
     pub terminal: Option<File>,
+    /// Standard error goes to systemd's journal.
+    pub is_journal: bool,
     pub link: Arc<Link, Global>,
 }
 

@@ -3,12 +3,15 @@
 use crate::RosterFault;
 use log::{Log, info};
 
+/// The target of these notes.
+const EVENT: &str = "roster";
+
 /// Notes, at level info, what became of a session that was to enter the roster: `accepted` and its
 /// number, `full`, `no memory` or `bad limit`. A note that can't be made or written is dropped.
 pub fn note<L: Log>(rt: &L, entered: &Result<usize, RosterFault>) {
     match entered {
-        Ok(number) => info!(rt; "accepted {}", number),
-        Err(fault) => info!(rt; "{}", refusal(*fault)),
+        Ok(number) => info!(rt; target: EVENT, "accepted {}", number),
+        Err(fault) => info!(rt; target: EVENT, "{}", refusal(*fault)),
     }
 }
 

@@ -7,4 +7,3 @@ pub mod Servers
 pub mod Turns
 pub mod Counted
 pub mod Times
-pub mod Notes

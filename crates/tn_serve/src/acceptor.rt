@@ -33,7 +33,6 @@ pub(crate) struct Acceptor<H, U> {
     pub(crate) events: Sender<Event, Global>,
     pub(crate) count: u64,
     pub(crate) until: U,
-    pub(crate) verbose: bool,
 }
 
 /// How many connections were accepted.
@@ -173,7 +172,7 @@ impl<H: Host + Network, U: Until + Drop + Send + 'static> Acceptor<H, U> {
 
     // Waits for a while, since the machine can give no connection. That is told where it was not told before.
     fn starve(&self, error: io::Error, is_told: bool) {
-        if self.verbose && !is_told {
+        if !is_told {
             let _ = self.events.send(&self.rt, Event::Starved(error));
         }
         thread::sleep(&self.rt, Duration::from_millis(PAUSE));

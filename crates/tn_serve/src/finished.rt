@@ -2,7 +2,6 @@
 
 ghost use Rattle.std.specs.Prelude.{◌≡◌, IsTrue, false, IsFalse};
 ghost use Rattle.tn_serve.specs.Ends.{IsWhole, not_started};
-ghost use Rattle.tn_serve.specs.Notes.{entries_of};
 
 use tn_session::{Report, SessionFault};
 
@@ -41,9 +40,7 @@ impl Finished {
     }
 
     /// The entries that went to its job.
-    pub(crate) fn entries(&self) -> u64
-        ensures { result ≡ entries_of self.now }
-    {
+    pub(crate) fn entries(&self) -> u64 {
         match &self.report {
             Ok(report) => report.entries,
             Err(_) => 0,

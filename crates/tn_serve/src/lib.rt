@@ -2,7 +2,7 @@
 //!
 //! ```
 //! let at = At { host: "127.0.0.1", port: 2323 };
-//! serve(rt, alloc, at, serving, Never, service, &mut errors, &mut causes)?;
+//! serve(rt, alloc, at, serving, Never, service, &log, &mut causes)?;
 //! ```
 //!
 //! Nothing is proved about what a connection carries: the sessions are proved for whatever their readers
@@ -15,6 +15,7 @@ pub use conversed::Conversed;
 pub use fault::ServeFault;
 pub use finished::Finished;
 pub use listening::At;
+pub use notes::{NoteFormat, NoteSink, NoteStyle, NoteWriter};
 pub use served::Served;
 pub use service::Service;
 pub use serving::{serve, serve_on};
@@ -33,6 +34,7 @@ mod events;
 mod fault;
 mod finished;
 mod listening;
+mod logfmt;
 mod note_texts;
 mod notes;
 mod running;

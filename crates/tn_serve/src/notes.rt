@@ -1,38 +1,257 @@
-//! What a server notes: one line an event, which begins with the time. A note that cannot be made or written
-//! is dropped.
+//! Where a server's notes go: a queue of lines, which a thread of its own writes to standard error. So no
+//! session waits for whoever reads the notes.
 
-ghost use Rattle.std.specs.Prelude.{OnOk};
-ghost use Rattle.tn_serve.specs.Notes.{IsNoted};
-
+use crate::logfmt::push_pairs;
 use crate::times::stamp;
+use crossbeam_channel::{Receiver, Sender};
+use log::kv::Source;
+use log::span::Spans;
+use log::{Level, Log, Metadata, Record};
 use std::alloc::{AllocError, Global};
-use std::io;
-use std::io::Write;
-use std::time::Clock;
+use std::fmt::Display;
+use std::sync::atomic::{AtomicU64, Ordering};
+use std::sync::{Arc, Wait};
+use std::time::{Clock, Duration};
+use std::{fmt, str, thread};
+use tn_sockets::Host;
 
-/// Writes a note.
-pub(crate) fn note<C: Clock, E: Write>(
-    clock: &C,
+/// The target of the program's own lines about faults, such as `tn: session`, which are printed as they are.
+pub(crate) const FAULT: &str = "tn";
+
+/// How many lines wait to be written. While they are as many, a note is dropped.
+const LINES: usize = 256;
+
+/// For how many seconds the lines that wait at the end are written.
+const LAST: u64 = 1;
+
+/// The form of a note's line.
+#[derive(Clone, Copy, Debug, PartialEq, Eq)]
+pub enum NoteFormat {
+    /// The time in UTC to the millisecond, and a sentence.
+    Text,
+    /// Pairs such as `session=0`, the first of which are the time, the level and the event.
+    Logfmt,
+}
+
+/// How the lines of notes look.
+#[derive(Clone, Copy, Debug, PartialEq, Eq)]
+pub struct NoteStyle {
+    pub format: NoteFormat,
+    /// The reader is systemd's journal: each line begins with its priority, such as `<6>`, and has no time.
+    pub is_journal: bool,
+}
+
+/// A log whose records become lines of notes. It never waits: a record for which there is no room or no
+/// memory is dropped, and the number of those dropped is written before the next line.
+#[derive(Drop)]
+pub struct NoteSink<H> {
+    rt: H,
     alloc: Global,
-    text: Result<Vec<u8>, AllocError>,
-    errors: &mut E,
-) {
-    if let Ok(text) = text {
-        let _ = write_note(clock, alloc, &text, errors);
+    style: NoteStyle,
+    lines: Sender<String, Global>,
+    dropped: Arc<AtomicU64, Global>,
+}
+
+impl<H: Clock + Wait> Log for NoteSink<H> {
+    fn enabled(&self, _metadata: &Metadata<'_>) -> bool {
+        true
+    }
+
+    fn log<D: Display, K: Source, S: Spans>(&self, record: &Record<'_, D, K, S>) {
+        let is_queued = match line_of(&self.rt, self.alloc, self.style, record) {
+            Ok(line) => self.lines.try_send(&self.rt, line).is_ok(),
+            Err(_) => false,
+        };
+        if !is_queued {
+            let _ = self.dropped.fetch_add(1, Ordering::SeqCst);
+        }
+    }
+
+    fn flush(&self) {}
+
+    fn target(&self) -> &str {
+        ""
     }
 }
 
-// Writes a line: the time, and this.
-fn write_note<C: Clock, E: Write>(
-    clock: &C,
+/// The thread that writes the lines of a `NoteSink`.
+#[derive(Drop)]
+pub struct NoteWriter {
+    /// It is disconnected once the thread has ended.
+    ended: Receiver<(), Global>,
+}
+
+impl NoteWriter {
+    /// Starts the thread that writes to standard error. `None` if there is no memory or no thread.
+    pub fn start<H: Host + Eprint>(
+        rt: H,
+        alloc: Global,
+        style: NoteStyle,
+    ) -> Option<(NoteSink<H>, NoteWriter)> {
+        let (lines, queue) = crossbeam_channel::bounded(alloc, LINES).ok()?;
+        let (end, ended) = crossbeam_channel::bounded::<(), Global>(alloc, 1).ok()?;
+        let dropped = Arc::new(alloc, AtomicU64::new(0)).ok()?;
+        let writing = Writing {
+            rt,
+            alloc,
+            style,
+            queue,
+            dropped: Arc::try_clone(&dropped).ok()?,
+            _end: end,
+        };
+        let work = move || { writing.run() };
+        let _thread = thread::spawn(&rt, work).ok()?;
+        let sink = NoteSink {
+            rt,
+            alloc,
+            style,
+            lines,
+            dropped,
+        };
+        Some((sink, NoteWriter { ended }))
+    }
+
+    /// Waits until the lines that the sink was given are written, for one second at most. The sink has to be
+    /// dropped before, since the thread ends only once no more can come.
+    pub fn finish<H: Clock + Wait>(self, rt: &H) {
+        let _ = self.ended.recv_timeout(rt, Duration::from_secs(LAST));
+    }
+}
+
+// What the thread that writes has.
+#[derive(Drop)]
+struct Writing<H> {
+    rt: H,
     alloc: Global,
-    text: &[u8],
-    errors: &mut E,
-) -> io::Result<()>
-    ensures { OnOk result (IsNoted (E.contents errors.old) (E.contents errors.new) text.now) }
-{
-    let mut line = stamp(clock, alloc)?;
-    line.extend_from_slice(text)?;
-    line.push(b'\n')?;
-    errors.write_all(&line)
+    style: NoteStyle,
+    queue: Receiver<String, Global>,
+    dropped: Arc<AtomicU64, Global>,
+    // Dropped at the thread's end, which whoever waits for it sees.
+    _end: Sender<(), Global>,
+}
+
+impl<H: Clock + Wait + Eprint + Drop> Writing<H> {
+    fn run(self) {
+        for _ in self.rt.forever() {
+            let Ok(line) = self.queue.recv(&self.rt) else {
+                break;
+            };
+            self.tell_dropped();
+            let _ = self.rt.eprint(line.as_str());
+        }
+        self.tell_dropped();
+    }
+
+    // Writes how many notes were dropped since it was last written, if there are such.
+    fn tell_dropped(&self) {
+        let count = self.dropped.swap(0, Ordering::SeqCst);
+        if count == 0 {
+            return;
+        }
+        let record = Record::new(
+            Metadata::new(Level::Warn, "dropped"),
+            Dropped(count),
+            ("notes", count),
+            (),
+        );
+        if let Ok(line) = line_of(&self.rt, self.alloc, self.style, &record) {
+            let _ = self.rt.eprint(line.as_str());
+        }
+    }
+}
+
+// How many notes were dropped.
+#[derive(Drop)]
+struct Dropped(u64);
+
+impl Display for Dropped {
+    fn fmt<W: fmt::Write>(&self, f: &mut fmt::Formatter<W>) -> fmt::Result {
+        write!(f, "{} notes were dropped", self.0)
+    }
+}
+
+// The line of a record, with its end.
+fn line_of<H: Clock, D: Display, K: Source, S: Spans>(
+    clock: &H,
+    alloc: Global,
+    style: NoteStyle,
+    record: &Record<'_, D, K, S>,
+) -> Result<String, AllocError> {
+    let mut line = String::new(alloc);
+    if style.is_journal {
+        line.push_str(priority(record.level()))?;
+    }
+    if record.target() == FAULT {
+        line.write(record.args())?;
+    } else {
+        match style.format {
+            NoteFormat::Text => push_text(clock, alloc, style, &mut line, record)?,
+            NoteFormat::Logfmt => push_logfmt(clock, alloc, style, &mut line, record)?,
+        }
+    }
+    line.push('\n')?;
+    Ok(line)
+}
+
+// Appends the time, unless the journal has its own, and the sentence.
+fn push_text<H: Clock, D: Display, K: Source, S: Spans>(
+    clock: &H,
+    alloc: Global,
+    style: NoteStyle,
+    line: &mut String,
+    record: &Record<'_, D, K, S>,
+) -> Result<(), AllocError> {
+    if !style.is_journal {
+        push_time(clock, alloc, line)?;
+    }
+    line.write(record.args())
+}
+
+// Appends the time, the level and the event, and the record's pairs, or its sentence if it has none.
+fn push_logfmt<H: Clock, D: Display, K: Source, S: Spans>(
+    clock: &H,
+    alloc: Global,
+    style: NoteStyle,
+    line: &mut String,
+    record: &Record<'_, D, K, S>,
+) -> Result<(), AllocError> {
+    if !style.is_journal {
+        line.push_str("time=")?;
+        push_time(clock, alloc, line)?;
+    }
+    line.push_str("level=")?;
+    line.push_str(name_of(record.level()))?;
+    line.push_str(" event=")?;
+    line.push_str(record.target())?;
+    if record.key_values().count() > 0 {
+        push_pairs(alloc, line, record.key_values())
+    } else {
+        let text = String::format(alloc, record.args())?;
+        push_pairs(alloc, line, &("text", text.as_str()))
+    }
+}
+
+// Appends the time and a space.
+fn push_time<C: Clock>(clock: &C, alloc: Global, line: &mut String) -> Result<(), AllocError> {
+    let time = stamp(clock, alloc)?;
+    line.push_str(str::from_utf8(&time).unwrap_or(""))
+}
+
+// The priority of a line as syslog counts them (RFC 5424, 6.2.1), as systemd's journal reads it.
+fn priority(level: Level) -> &'static str {
+    match level {
+        Level::Error => "<3>",
+        Level::Warn => "<4>",
+        Level::Info => "<6>",
+        Level::Debug | Level::Trace => "<7>",
+    }
+}
+
+fn name_of(level: Level) -> &'static str {
+    match level {
+        Level::Error => "error",
+        Level::Warn => "warn",
+        Level::Info => "info",
+        Level::Debug | Level::Trace => "debug",
+    }
 }

@@ -2,7 +2,7 @@
 
 ghost use Rattle.std.specs.Net.Socket.{socket_ip};
 ghost use Rattle.std.specs.Prelude.{◌≡◌, ◌<◌, ◌≤◌, ◌+◌, ◌-◌, ◌^◌, ◌++◌, ◌∷◌, [], IsTrue, IsFalse, IfSome};
-ghost use Rattle.std.specs.Prelude.{IfNone, vec_items, vec_len, vec_capacity};
+ghost use Rattle.std.specs.Prelude.{◌≢◌, All, IfNone, vec_items, vec_len, vec_capacity};
 ghost use Rattle.tn_serve.specs.Counted.{HasEnded, StillCounts, facts_of, server_of};
 ghost use Rattle.tn_serve.specs.Places.{HasNoPlace, count_at, count_from, is_same};
 ghost use Rattle.tn_serve.specs.Turns.{IsOneEnd, IsOneMore, live_of};
@@ -15,8 +15,8 @@ use crate::finished::Finished;
 use crate::served::Served;
 use crate::session::SessionSays;
 use crate::traffic::Noted;
+use log::Log;
 use std::alloc::Global;
-use std::io::Write;
 use std::marker::PhantomData;
 use std::net::{IpAddr, SocketAddr, TcpStream};
 use std::thread::{PromisedHandle, Threads};
@@ -128,14 +128,12 @@ impl<J: Job, M: Maker<Job = J>, O: Asked<M>> Running<J, M, O> {
 
     /// Where the session with this number is, if there is one.
     pub(crate) fn place_of(&self, number: usize) -> Option<usize>
-        ensures { IfSome result (λ place. place < vec_len self.now.started) }
+        ensures place { IfSome result (λ place. place < vec_len self.now.started) }
+        ensures none { IfNone result (All (λ s. s.caller.number ≢ number) (vec_items self.now.started)) }
     {
-        for (place, started) in self.started.iter().enumerate() {
-            if started.caller.number == number {
-                return Some(place);
-            }
-        }
-        None
+        self.started
+            .iter()
+            .position(|started| started.caller.number == number)
     }
 
     /// Who the session with this number is with, if there is one.
@@ -152,12 +150,14 @@ impl<J: Job, M: Maker<Job = J>, O: Asked<M>> Running<J, M, O> {
         count_of(&self.started, &peer.ip())
     }
 
-    /// Takes in a session with this peer, and gives its number, where there is a place for it.
-    pub(crate) fn enter(
+    /// Takes in a session with this peer, and gives its number, if there is a place for it. What the roster
+    /// answers is noted.
+    pub(crate) fn enter<L: Log>(
         &self,
         roster: &mut Roster,
         per_host: u16,
         peer: &SocketAddr,
+        log: &L,
     ) -> Option<usize>
         ensures enters { IfSome result (Enters roster.old roster.new) }
         ensures place { IfSome result (λ _. count_from (λ s. s.caller.peer) peer.now
@@ -169,7 +169,9 @@ impl<J: Job, M: Maker<Job = J>, O: Asked<M>> Running<J, M, O> {
         if self.count_from(peer) >= usize::from(per_host) {
             return None;
         }
-        match roster.enter() {
+        let entered = roster.enter();
+        tn_roster::note(log, &entered);
+        match entered {
             Ok(number) => Some(number),
             Err(_) => None,
         }
@@ -283,9 +285,4 @@ impl<J: Job, M: Maker<Job = J>, O: Asked<M>> Running<J, M, O> {
             refused: self.refused,
         }
     }
-}
-
-/// Reports that a session ended in a fault.
-pub(crate) fn tell_fault<E: Write>(errors: &mut E) {
-    let _ = errors.write_all(b"tn: session\n");
 }

@@ -22,8 +22,8 @@ use crate::fault::ServeFault;
 use crate::finished::Finished;
 use crate::listening::{At, listen_at};
 use crate::note_texts;
-use crate::notes::note;
-use crate::running::{Left, Running, Started, tell_fault};
+use crate::note_texts::SessionEnd;
+use crate::running::{Left, Running, Started};
 use crate::served::Served;
 use crate::service::Service;
 use crate::session::Session;
@@ -32,8 +32,8 @@ use crate::traffic::{Noted, Passed, Traffic};
 use crate::turned::TurnedAway;
 use crate::until::{Never, Until};
 use crossbeam_channel::{Receiver, RecvTimeoutError, Sender};
-use std::alloc::{AllocError, Global};
-use std::io::Write;
+use log::Log;
+use std::alloc::Global;
 use std::marker::Brand;
 use std::net::{SocketAddr, TcpListener, TcpStream};
 use std::sync::Arc;
@@ -49,26 +49,26 @@ const EVENTS: usize = 16;
 /// Serves an address, or a name that has one, until so many connections were accepted, or `until` tells that
 /// no more are to come, and all their sessions have ended. Each connection has a session in threads of its
 /// own, with the jobs that the service makes for it, as long as there are no more of them, and no more from
-/// its address, than there may be; one more is told `full` and closed. One that ends in a fault is reported
-/// in two lines on `errors`, the second a note of how it ended, and changes nothing else. Where it cannot
-/// listen, `causes` gets a line. Each session is a call of `serve_connection`; the clauses below count them,
+/// its address, than there may be; one more is told `full` and closed. `log` gets a record of each event: a
+/// warning for a session that ends in a fault, after an error `tn: session`. If it cannot listen, `causes` gets
+/// a line. Each session runs as `serve_connection` runs one; the clauses below count them,
 /// and say what the network was asked for. None makes it ask `until`. It takes eight, since what is lent and
 /// what is given here go together nowhere else.
-pub fn serve<H, U, V, E>(
+pub fn serve<H, U, V, L>(
     rt: H,
     alloc: Global,
     at: At<'_>,
     serving: Serving,
     until: U,
     service: V,
-    errors: &mut E,
+    log: &L,
     causes: &mut Vec<u8>,
 ) -> Result<Served, ServeFault>
 where
     H: Host + Network,
     U: Until + Drop + Send + 'static,
     V: Service + Drop,
-    E: Write,
+    L: Log,
     ensures all { IfOk result (ServesUntil serving.count (U.ends until)) }
     ensures each { IfOk result (λ served. CountsSessions (server_of
         (facts_of V.Job.fresh V.Jobs.gives V.Job.reacts V.Job.steps V.Job.refuses) V.Jobs.left serving.options
@@ -83,17 +83,17 @@ where
     ensures limit { IsErrOf result ServeFault.Limit → ¬ IsLimit serving.sessions }
 {
     let listener = listen_at(&rt, alloc, at, causes)?;
-    serve_as::<H, U, V, E, Brand>(rt, alloc, &listener, serving, until, service, errors)
+    serve_as::<H, U, V, L, Brand>(rt, alloc, &listener, serving, until, service, log)
 }
 
 /// The same, over an existing listener, where nothing ends it before its count.
-pub fn serve_on<H: Host + Network, V: Service + Drop, E: Write>(
+pub fn serve_on<H: Host + Network, V: Service + Drop, L: Log>(
     rt: H,
     alloc: Global,
     listener: &TcpListener,
     serving: Serving,
     service: V,
-    errors: &mut E,
+    log: &L,
 ) -> Result<Served, ServeFault>
     ensures all { IfOk result (ServesAll serving.count) }
     ensures each { IfOk result (λ served. CountsSessions (server_of
@@ -107,7 +107,7 @@ pub fn serve_on<H: Host + Network, V: Service + Drop, E: Write>(
     ensures limit { IsErrOf result ServeFault.Limit → ¬ IsLimit serving.sessions }
     ensures bad_limit { (¬ IsLimit serving.sessions) → IsErrOf result ServeFault.Limit }
 {
-    serve_as::<H, Never, V, E, Brand>(rt, alloc, listener, serving, Never, service, errors)
+    serve_as::<H, Never, V, L, Brand>(rt, alloc, listener, serving, Never, service, log)
 }
 
 // The same, for contracts that know the options of its sessions.
@@ -115,7 +115,7 @@ fn serve_as<
     H: Host + Network,
     U: Until + Drop + Send + 'static,
     V: Service + Drop,
-    E: Write,
+    L: Log,
     O: Asked<V::Jobs>,
 >(
     rt: H,
@@ -124,7 +124,7 @@ fn serve_as<
     serving: Serving,
     until: U,
     service: V,
-    errors: &mut E,
+    log: &L,
 ) -> Result<Served, ServeFault>
     requires asked { serving.options ≡ O.options }
     requires makes { MakesOnly V.makes service O.made }
@@ -146,10 +146,10 @@ fn serve_as<
     let count = serving.count;
     let roster = Roster::new(alloc, usize::from(serving.sessions))?;
     let (sender, receiver) = crossbeam_channel::bounded(alloc, EVENTS)?;
-    if serving.verbose {
-        tell_listening(&rt, alloc, listener, errors);
+    if let Ok(address) = listener.local_addr() {
+        note_texts::listening(log, &address);
     }
-    let acceptor = accepting(rt, listener, &sender, until, count, serving.verbose)?;
+    let acceptor = accepting(rt, listener, &sender, until, count)?;
     let mut open: Open<H, V, O> = Open {
         rt,
         alloc,
@@ -161,23 +161,11 @@ fn serve_as<
         events: sender,
         turned_away: TurnedAway::new(alloc),
     };
-    let served = open.run(&receiver, errors);
+    let served = open.run(&receiver, log);
     drop(open);
     drop(receiver);
     let accepted = acceptor.join(&rt);
     agreed(served, accepted, count)
-}
-
-// Notes where connections are accepted.
-fn tell_listening<H: Host, E: Write>(
-    rt: &H,
-    alloc: Global,
-    listener: &TcpListener,
-    errors: &mut E,
-) {
-    if let Ok(address) = listener.local_addr() {
-        note(rt, alloc, note_texts::listening(alloc, &address), errors);
-    }
 }
 
 // Accepts connections in a thread of their own.
@@ -187,7 +175,6 @@ fn accepting<H: Host + Network, U: Until + Drop + Send + 'static>(
     events: &Sender<Event, Global>,
     until: U,
     count: u64,
-    verbose: bool,
 ) -> Result<PromisedHandle<Accepted, AcceptorSays<H, U>>, ServeFault>
     ensures rt { IfOk result (λ handle. handle.promise.rt.value ≡ rt) }
     ensures shares { IfOk result (λ handle. H.shares rt listener.now (Ok handle.promise.listener.value)) }
@@ -200,7 +187,6 @@ fn accepting<H: Host + Network, U: Until + Drop + Send + 'static>(
         events: events.clone()?,
         count,
         until,
-        verbose,
     };
     match acceptor.start() {
         Some(handle) => Ok(handle),
@@ -255,7 +241,7 @@ struct Open<H, V: Service, O: Asked<V::Jobs>> {
 
 impl<H: Host + Network, V: Service, O: Asked<V::Jobs>> Open<H, V, O> {
     // Serves until no more connections are to come and each session has ended.
-    fn run<E: Write>(&mut self, events: &Receiver<Event, Global>, errors: &mut E) -> Served
+    fn run<L: Log>(&mut self, events: &Receiver<Event, Global>, log: &L) -> Served
         requires makes { MakesOnly V.makes self.old.service O.made }
         requires turns { TurnsAway (H.dismisses self.old.rt) O.turned }
         requires empty { self.old.roster.numbers ≡ [] }
@@ -271,12 +257,12 @@ impl<H: Host + Network, V: Service, O: Asked<V::Jobs>> Open<H, V, O> {
             O.made O.turned))
             self.old.service result.whole result.faulted }
     {
-        self.serve_all(events, errors);
-        self.join_all(errors);
+        self.serve_all(events, log);
+        self.join_all(log);
         self.running.served()
     }
 
-    fn serve_all<E: Write>(&mut self, events: &Receiver<Event, Global>, errors: &mut E)
+    fn serve_all<L: Log>(&mut self, events: &Receiver<Event, Global>, log: &L)
         requires makes { MakesOnly V.makes self.old.service O.made }
         requires turns { TurnsAway (H.dismisses self.old.rt) O.turned }
         ensures each { StillCounts (server_of
@@ -302,7 +288,7 @@ impl<H: Host + Network, V: Service, O: Asked<V::Jobs>> Open<H, V, O> {
             let Some(event) = next_event(&rt, events, time) else {
                 return;
             };
-            self.handle(event, errors);
+            self.handle(event, log);
         }
     }
 
@@ -313,7 +299,7 @@ impl<H: Host + Network, V: Service, O: Asked<V::Jobs>> Open<H, V, O> {
         (self.is_closed || self.running.accepted >= self.serving.count) && self.running.is_empty()
     }
 
-    fn handle<E: Write>(&mut self, event: Event, errors: &mut E)
+    fn handle<L: Log>(&mut self, event: Event, log: &L)
         requires makes { MakesOnly V.makes self.old.service O.made }
         requires turns { TurnsAway (H.dismisses self.old.rt) O.turned }
         ensures each { StillCounts (server_of
@@ -335,22 +321,19 @@ impl<H: Host + Network, V: Service, O: Asked<V::Jobs>> Open<H, V, O> {
         ensures rt { self.new.rt ≡ self.old.rt }
     {
         match event {
-            Event::Came(stream, peer) => return self.admit(stream, &peer, errors),
-            Event::Ended(number) => return self.end(number, errors),
-            Event::Starved(error) => return self.note(
-                note_texts::starved(self.alloc, &error),
-                errors,
-            ),
-            Event::Cut(number, bytes) => return self.tell_cut(number, bytes, errors),
+            Event::Came(stream, peer) => return self.admit(stream, &peer, log),
+            Event::Ended(number) => return self.end(number, log),
+            Event::Starved(error) => return note_texts::starved(log, &error),
+            Event::Cut(number, bytes) => return self.tell_cut(number, bytes, log),
             Event::Quiet => return,
             Event::Closed => {},
         }
         self.is_closed = true;
-        self.tell_closed(errors);
+        note_texts::closed(log);
     }
 
     // Starts a session over a connection that came, or turns it away where the session limit is reached.
-    fn admit<E: Write>(&mut self, stream: TcpStream, peer: &SocketAddr, errors: &mut E)
+    fn admit<L: Log>(&mut self, stream: TcpStream, peer: &SocketAddr, log: &L)
         requires makes { MakesOnly V.makes self.old.service O.made }
         requires turns { TurnsAway (H.dismisses self.old.rt) O.turned }
         ensures each { StillCounts (server_of
@@ -383,8 +366,8 @@ impl<H: Host + Network, V: Service, O: Asked<V::Jobs>> Open<H, V, O> {
         }
         let serial = self.running.accepted + 1;
         let per_host = self.serving.per_host;
-        let Some(number) = self.running.enter(&mut self.roster, per_host, peer) else {
-            self.tell_full(serial, peer, errors);
+        let Some(number) = self.running.enter(&mut self.roster, per_host, peer, log) else {
+            note_texts::full(log, serial, peer);
             return self.turn_away(stream, peer);
         };
         let caller = Caller {
@@ -393,40 +376,14 @@ impl<H: Host + Network, V: Service, O: Asked<V::Jobs>> Open<H, V, O> {
             peer: *peer,
             since: Instant::now(&self.rt).ok(),
         };
-        self.tell_began(&caller, errors);
-        self.take_in(stream, caller, errors);
+        note_texts::began(log, &caller);
+        self.take_in(stream, caller, log);
     }
 
-    // Writes a note.
-    fn note<E: Write>(&self, text: Result<Vec<u8>, AllocError>, errors: &mut E) {
-        note(&self.rt, self.alloc, text, errors);
-    }
-
-    // Notes that a session begins, where that is wanted.
-    fn tell_began<E: Write>(&self, caller: &Caller, errors: &mut E) {
-        if self.serving.verbose {
-            self.note(note_texts::began(self.alloc, caller), errors);
-        }
-    }
-
-    // Notes that there was no room for a connection, where that is wanted.
-    fn tell_full<E: Write>(&self, serial: u64, peer: &SocketAddr, errors: &mut E) {
-        if self.serving.verbose {
-            self.note(note_texts::full(self.alloc, serial, peer), errors);
-        }
-    }
-
-    // Notes that no connection is accepted any more, where that is wanted.
-    fn tell_closed<E: Write>(&self, errors: &mut E) {
-        if self.serving.verbose {
-            self.note(note_texts::closed(self.alloc), errors);
-        }
-    }
-
-    // Notes that a line of a session may have been cut, where that is wanted.
-    fn tell_cut<E: Write>(&self, number: usize, bytes: usize, errors: &mut E) {
-        if let (true, Some(caller)) = (self.serving.verbose, self.running.caller_of(number)) {
-            self.note(note_texts::cut(self.alloc, &caller, bytes), errors);
+    // Notes that a line of a session may have been cut.
+    fn tell_cut<L: Log>(&self, number: usize, bytes: usize, log: &L) {
+        if let Some(caller) = self.running.caller_of(number) {
+            note_texts::cut(log, &caller, bytes);
         }
     }
 
@@ -456,7 +413,7 @@ impl<H: Host + Network, V: Service, O: Asked<V::Jobs>> Open<H, V, O> {
     }
 
     // Starts the session with this number, which is held for it.
-    fn take_in<E: Write>(&mut self, stream: TcpStream, caller: Caller, errors: &mut E)
+    fn take_in<L: Log>(&mut self, stream: TcpStream, caller: Caller, log: &L)
         requires makes { MakesOnly V.makes self.old.service O.made }
         requires held { vec_len self.old.running.started < held_count self.old.roster }
         requires place { count_from (λ s. s.caller.peer) caller.peer
@@ -487,16 +444,16 @@ impl<H: Host + Network, V: Service, O: Asked<V::Jobs>> Open<H, V, O> {
         ensures refused { self.new.running.refused ≡ self.old.running.refused }
     {
         if !self.running.has_room() {
-            return self.give_up(&caller, errors);
+            return self.give_up(&caller, log);
         }
         let Some(session) = self.start(stream, caller) else {
-            return self.give_up(&caller, errors);
+            return self.give_up(&caller, log);
         };
         self.running.keep(session);
     }
 
     // The session with this number could not be started, and its number is free.
-    fn give_up<E: Write>(&mut self, caller: &Caller, errors: &mut E)
+    fn give_up<L: Log>(&mut self, caller: &Caller, log: &L)
         requires held { vec_len self.old.running.started < held_count self.old.roster }
         requires more { self.old.running.accepted < 2 ^ 64 - 1 }
         ensures each { StillCounts (server_of
@@ -516,12 +473,15 @@ impl<H: Host + Network, V: Service, O: Asked<V::Jobs>> Open<H, V, O> {
     {
         self.roster.leave(caller.number);
         self.running.fail();
-        self.tell_end(
-            caller,
-            &Finished::unstarted(),
-            Passed::nothing(),
-            None,
-            errors,
+        tell_end(
+            log,
+            &SessionEnd {
+                caller,
+                finished: &Finished::unstarted(),
+                causes: b"",
+                lasted: caller.lasted(&self.rt),
+                passed: Passed::nothing(),
+            },
         );
     }
 
@@ -573,7 +533,7 @@ impl<H: Host + Network, V: Service, O: Asked<V::Jobs>> Open<H, V, O> {
     }
 
     // The session with this number has ended.
-    fn end<E: Write>(&mut self, number: usize, errors: &mut E)
+    fn end<L: Log>(&mut self, number: usize, log: &L)
         ensures each { StillCounts (server_of
             (facts_of V.Job.fresh V.Jobs.gives V.Job.reacts V.Job.steps V.Job.refuses) V.Jobs.left O.options
             O.made O.turned)
@@ -594,11 +554,11 @@ impl<H: Host + Network, V: Service, O: Asked<V::Jobs>> Open<H, V, O> {
         let Some(place) = self.running.place_of(number) else {
             return;
         };
-        self.end_at(place, errors);
+        self.end_at(place, log);
     }
 
     // The session at this place has ended, and its number is free.
-    fn end_at<E: Write>(&mut self, place: usize, errors: &mut E)
+    fn end_at<L: Log>(&mut self, place: usize, log: &L)
         requires { place < vec_len self.old.running.started }
         ensures each { StillCounts (server_of
             (facts_of V.Job.fresh V.Jobs.gives V.Job.reacts V.Job.steps V.Job.refuses) V.Jobs.left O.options
@@ -622,47 +582,26 @@ impl<H: Host + Network, V: Service, O: Asked<V::Jobs>> Open<H, V, O> {
         let left = self.running.join_at(&self.rt, place);
         self.service.ended(left.caller.number, &left.finished);
         self.roster.leave(left.caller.number);
-        self.tell_left(&left, errors);
+        self.tell_left(&left, log);
     }
 
-    // Reports a session that was joined, where that is to be.
-    fn tell_left<E: Write>(&self, left: &Left, errors: &mut E) {
+    // Notes how a session ended that was joined.
+    fn tell_left<L: Log>(&self, left: &Left, log: &L) {
         let Noted { traffic, standing } = &left.noted;
-        self.tell_end(
-            &left.caller,
-            &left.finished,
-            traffic.passed(),
-            standing.unreached(),
-            errors,
+        tell_end(
+            log,
+            &SessionEnd {
+                caller: &left.caller,
+                finished: &left.finished,
+                causes: standing.unreached().unwrap_or(b""),
+                lasted: left.caller.lasted(&self.rt),
+                passed: traffic.passed(),
+            },
         );
     }
 
-    // Reports a session that ended in a fault. Its end is noted, as that of one whose service was not reached
-    // for these causes, and of any other where that is wanted.
-    fn tell_end<E: Write>(
-        &self,
-        caller: &Caller,
-        finished: &Finished,
-        passed: Passed,
-        unreached: Option<&[u8]>,
-        errors: &mut E,
-    ) {
-        let is_whole = finished.is_whole();
-        if !is_whole {
-            tell_fault(errors);
-        }
-        if self.serving.verbose || !is_whole || unreached.is_some() {
-            let causes = unreached.unwrap_or(b"");
-            let lasted = caller.lasted(&self.rt);
-            self.note(
-                note_texts::ended(self.alloc, caller, causes, finished, lasted, passed),
-                errors,
-            );
-        }
-    }
-
     // Joins all sessions that still run.
-    fn join_all<E: Write>(&mut self, errors: &mut E)
+    fn join_all<L: Log>(&mut self, log: &L)
         ensures each { StillCounts (server_of
             (facts_of V.Job.fresh V.Jobs.gives V.Job.reacts V.Job.steps V.Job.refuses) V.Jobs.left O.options
             O.made O.turned)
@@ -679,9 +618,17 @@ impl<H: Host + Network, V: Service, O: Asked<V::Jobs>> Open<H, V, O> {
         ensures accepted { self.new.running.accepted ≡ self.old.running.accepted }
     {
         while !self.running.is_empty() {
-            self.end_at(0, errors);
+            self.end_at(0, log);
         }
     }
+}
+
+// Notes how a session ended. One that ended in a fault is also told in a line of the program's own.
+fn tell_end<L: Log>(log: &L, end: &SessionEnd<'_>) {
+    if !end.finished.is_whole() {
+        note_texts::fault(log);
+    }
+    note_texts::ended(log, end);
 }
 
 // What a session that is to start needs beside its jobs.

@@ -1,6 +1,6 @@
 //! How to serve.
 
-ghost use Rattle.std.specs.Prelude.{◌≡◌, false, IsFalse};
+ghost use Rattle.std.specs.Prelude.{◌≡◌};
 ghost use Rattle.tn_discipline.specs.Limits.{standard_limit};
 
 use tn_discipline::Limit;
@@ -47,8 +47,6 @@ pub struct Serving {
     /// After how many accepted connections to end.
     pub count: u64,
     pub options: SessionOptions,
-    /// Whether it is noted which connections come and how their sessions end.
-    pub verbose: bool,
 }
 
 /// How many sessions there may be at once where nothing else is asked for, and how many from one address: as
@@ -58,7 +56,7 @@ const SESSIONS: u16 = 8;
 const PER_HOST: u16 = 64;
 
 impl Serving {
-    /// One connection alone, with the standard options, of which nothing is noted.
+    /// One connection, with the standard options.
     pub fn standard() -> Serving
         ensures sessions { result.sessions ≡ 8 }
         ensures per_host { result.per_host ≡ 64 }
@@ -67,14 +65,12 @@ impl Serving {
         ensures editing { result.options.editing ≡ Editing.Remote }
         ensures idle { result.options.idle ≡ 0 }
         ensures longest { result.options.longest ≡ 0 }
-        ensures verbose { IsFalse result.verbose }
     {
         Serving {
             sessions: SESSIONS,
             per_host: PER_HOST,
             count: 1,
             options: SessionOptions::standard(),
-            verbose: false,
         }
     }
 }

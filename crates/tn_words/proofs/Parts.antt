@@ -37,10 +37,20 @@ serve_numbers_asked rows asked asks = record {
 }
 
 abbrev pub choices_of : ServeWords → ServeChoices
-choices_of asked = record { line_end = asked.line_end; ends_cut = asked.ends_cut; count = asked.count }
+choices_of asked = record {
+  line_end = asked.line_end;
+  ends_cut = asked.ends_cut;
+  logfmt = asked.logfmt;
+  count = asked.count;
+}
 
 pub choices_asked : (rows : List Row) (asked : ServeWords) → AsksServe rows asked → AsksServeChoices rows (choices_of asked)
-choices_asked rows asked asks = record { line_end = asks.line_end; ends_cut = asks.ends_cut; count = asks.count }
+choices_asked rows asked asks = record {
+  line_end = asks.line_end;
+  ends_cut = asks.ends_cut;
+  logfmt = asks.logfmt;
+  count = asks.count;
+}
 
 abbrev pub connect_numbers_of : ConnectWords → ConnectNumbers
 connect_numbers_of asked = record {

@@ -87,6 +87,7 @@ serve = with_rules (codes "serve") (
     ∷ with_default (whole_rule (codes "longest") 0 86400) (codes "0")
     ∷ flag_rule (codes "local")
     ∷ flag_rule (codes "verbose")
+    ∷ text_rule (codes "notes")
     ∷ text_rule (codes "to")
     ∷ flag_rule (codes "crlf")
     ∷ flag_rule (codes "cr")

@@ -2,7 +2,7 @@
 use Rattle.std.specs.Prelude.{◌≡◌, Some, List, codes}
 use Rattle.clap.specs.Words.{Row}
 use Rattle.tn_words.specs.Words.{AsksCount, HasFlag, HasNumber, MayHaveNumber}
-use Rattle.tn_words.specs.Words.{ends_cut_in, service_line_end_in}
+use Rattle.tn_words.specs.Words.{ends_cut_in, logfmt_in, service_line_end_in}
 use Rattle.tn_words.specs.declared.words.ConnectNumbers.{ConnectNumbers}
 use Rattle.tn_words.specs.declared.words.ServeChoices.{ServeChoices}
 use Rattle.tn_words.specs.declared.words.ServeNumbers.{ServeNumbers}
@@ -21,6 +21,7 @@ pub record AsksServeNumbers (rows : List Row) (asked : ServeNumbers) : Type 0 wh
 pub record AsksServeChoices (rows : List Row) (asked : ServeChoices) : Type 0 where
   pub line_end : service_line_end_in rows ≡ Some asked.line_end
   pub ends_cut : ends_cut_in rows ≡ Some asked.ends_cut
+  pub logfmt : logfmt_in rows ≡ Some asked.logfmt
   pub count : AsksCount rows asked.count
 
 pub record AsksConnectNumbers (rows : List Row) (asked : ConnectNumbers) : Type 0 where

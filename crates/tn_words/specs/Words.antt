@@ -109,6 +109,17 @@ chosen_cut false (Some text) = None
 abbrev pub ends_cut_in : List Row → Option Bool
 ends_cut_in rows = chosen_cut (is_given (codes "to") rows) (first_of (codes "line-cut") rows)
 
+-- whether notes are written in pairs: with `logfmt` they are, with `text` or without the option they are not;
+-- no other word is accepted
+abbrev pub chosen_logfmt : Option Text → Option Bool
+chosen_logfmt None = Some false
+chosen_logfmt (Some text) =
+    if bytes_eq text (codes "logfmt") then Some true
+    else (if bytes_eq text (codes "text") then Some false else None)
+
+abbrev pub logfmt_in : List Row → Option Bool
+logfmt_in rows = chosen_logfmt (first_of (codes "notes") rows)
+
 -- a path has 1 to 4,095 bytes
 pub record IsPath (text : Text) : Type 0 where
   pub some : 0 < length text
@@ -132,6 +143,7 @@ pub record AsksServe (rows : List Row) (asked : ServeWords) : Type 0 where
   pub longest : HasNumber rows (codes "longest") 0 86400 asked.longest
   pub edited : HasFlag rows (codes "local") asked.local
   pub verbose : HasFlag rows (codes "verbose") asked.verbose
+  pub logfmt : logfmt_in rows ≡ Some asked.logfmt
   pub to : MayHaveAddress rows asked.to
   pub line_end : service_line_end_in rows ≡ Some asked.line_end
   pub ends_cut : ends_cut_in rows ≡ Some asked.ends_cut

@@ -123,6 +123,8 @@ pub(crate) const LOCALLY: &str = "local";
 
 pub(crate) const VERBOSE: &str = "verbose";
 
+pub(crate) const NOTES: &str = "notes";
+
 pub(crate) const QUIET: &str = "quiet";
 
 pub(crate) const PLAIN: &str = "plain";
@@ -222,6 +224,11 @@ const SERVE_CHOICES: &[Choice] = &[
     Choice::Flag(
         VERBOSE,
         "Notes on standard error who connects and how each session ends",
+    ),
+    Choice::Text(
+        NOTES,
+        "FORM",
+        "Writes notes as `text`, which is the default, or as `logfmt`, in pairs such as session=0",
     ),
     Choice::Text(
         TO,
@@ -467,7 +474,7 @@ fn serve_command<C: Grow>(alloc: Global) -> Result<C, AllocError>
     let command = C::described(
         alloc,
         SERVE,
-        "Serves Telnet with LINEMODE to this machine, and writes each line back",
+        "Serves Telnet with LINEMODE, and writes each line back",
         "Listens on a port of 127.0.0.1, or of the address of `--host`, and gives each connection a \
          terminal with standard settings. Its job writes each line back; the line `exit` and the end of \
          file (^D on an empty line) end the session with `bye`, an interrupt (^C) writes `int`, a quit \
@@ -495,7 +502,7 @@ fn connect_command<C: Grow>(alloc: Global) -> Result<C, AllocError>
          standard output the screen. Where the server asks for it, lines are edited here and sent whole. \
          At the end of its input it sends what is left, tells the server that no more comes, and ends once \
          the server has closed.\n\n\
-         At a terminal, start it with `./tn connect`, which sets the terminal so that each key is sent at \
+         At a terminal, start it by its launcher (`tn connect` once installed, `./tn connect` in the sources), which sets the terminal so that each key is sent at \
          once, and sets it back at the end. With `tn serve` at the other end, the line `exit` ends the \
          session, and so does ^D on an empty line.",
         "Example, where `tn serve --port 2323` runs in another terminal:\n  \

@@ -141,8 +141,10 @@ pub struct ServeWords {
     pub longest: u32,
     /// Whether the client is asked to edit the lines.
     pub local: bool,
-    /// Whether connections and the ends of their sessions are logged.
+    /// Whether connections and the ends of their sessions are noted.
     pub verbose: bool,
+    /// Whether notes are written in pairs (logfmt), and not as sentences.
+    pub logfmt: bool,
     /// The line service that each session is joined to.
     pub to: Option<Address>,
     /// What ends each line for that service.

@@ -9,7 +9,7 @@ ghost use Rattle.tn_words.specs.Words.{AsksPort, AsksServe};
 ghost use Rattle.tn_words.specs.Words.{HasEscape, HasNumber, HasPlace, IsPath, Lacks};
 ghost use Rattle.tn_words.specs.Words.{MayHaveAddress, MayHaveNumber};
 ghost use Rattle.tn_words.specs.Words.{MayHavePath, MissesNumber, Refuses, TellsKind, chosen_count};
-ghost use Rattle.tn_words.specs.Words.{chosen_cut};
+ghost use Rattle.tn_words.specs.Words.{chosen_cut, chosen_logfmt, logfmt_in};
 ghost use Rattle.tn_words.specs.Words.{characters_in, chosen_line_end, detail_of, ends_cut_in};
 ghost use Rattle.tn_words.specs.Words.{has_telnet_option};
 ghost use Rattle.tn_words.specs.Words.{is_flagged, is_given, line_end_in, one_port, service_line_end};
@@ -17,8 +17,9 @@ ghost use Rattle.tn_words.specs.Words.{service_line_end_in};
 
 use crate::commands::{
     AT, CONNECT, COUNT, CR, CRLF, DECODE, ESCAPE, FOREVER, HEIGHT, HOST, IDLE, KEYS, LF, LIMIT,
-    LINE, LINE_CUT, LOCAL, LOCALLY, LONGEST, MOST_PATH, PER_HOST, PLAIN, PORT, QUIET, REPLAY,
-    SERVE, TICKS, TO, TRACE, UNTIL, VERBOSE, VERSION_LINE, WAIT, WIDTH, WORLD, Whole, tn_command,
+    LINE, LINE_CUT, LOCAL, LOCALLY, LONGEST, MOST_PATH, NOTES, PER_HOST, PLAIN, PORT, QUIET,
+    REPLAY, SERVE, TICKS, TO, TRACE, UNTIL, VERBOSE, VERSION_LINE, WAIT, WIDTH, WORLD, Whole,
+    tn_command,
 };
 use crate::settings::{Address, Characters, ConnectWords, Escape, ServeWords, place_in};
 use clap::error::ErrorKind;
@@ -123,6 +124,8 @@ const NO_SERVICE: &str = "'--line-cut' needs '--to'";
 
 const NO_CUT: &str = "'--line-cut <WHAT>': it is neither `send` nor `end`";
 
+const NO_FORM: &str = "'--notes <FORM>': it is neither `text` nor `logfmt`";
+
 const NO_PATH: &str = "'--until <FILE>' needs a path of 1 to 4095 bytes";
 
 const TWO_COUNTS: &str = "'--count' and '--forever' exclude each other";
@@ -196,6 +199,7 @@ fn serving(alloc: Global, words: &ArgMatches<'_>) -> Result<ServeWords, WordsFau
         longest: numbers.longest,
         local: numbers.local,
         verbose: numbers.verbose,
+        logfmt: choices.logfmt,
         to,
         line_end: choices.line_end,
         ends_cut: choices.ends_cut,
@@ -240,6 +244,7 @@ fn serve_numbers(words: &ArgMatches<'_>) -> Option<ServeNumbers>
 struct ServeChoices {
     line_end: LineEnd,
     ends_cut: bool,
+    logfmt: bool,
     count: Option<u32>,
 }
 
@@ -254,12 +259,16 @@ fn serve_choices(alloc: Global, words: &ArgMatches<'_>) -> Result<ServeChoices, 
     let Some(ends_cut) = ends_cut_in(words) else {
         return Err(lacking(alloc, &cut_lack(words)));
     };
+    let Some(logfmt) = logfmt_in(words) else {
+        return Err(lacking(alloc, &notes_lack(words)));
+    };
     let Some(count) = count_in(words) else {
         return Err(lacking(alloc, &Lack::Words(TWO_COUNTS)));
     };
     Ok(ServeChoices {
         line_end,
         ends_cut,
+        logfmt,
         count,
     })
 }
@@ -335,6 +344,36 @@ fn cut_lack<'a>(words: &ArgMatches<'a>) -> Lack<'a> {
     match words.get_str(LINE_CUT) {
         Some(text) if is_given(words, TO) => Lack::Value(text, NO_CUT),
         _ => Lack::Words(NO_SERVICE),
+    }
+}
+
+// Whether notes are written in pairs; `None` if the option names no form.
+fn logfmt_in(words: &ArgMatches<'_>) -> Option<bool>
+    ensures { result ≡ logfmt_in (rows_of (found_of words.now)) }
+{
+    chosen_logfmt(words.get_str(NOTES))
+}
+
+fn chosen_logfmt(given: Option<&str>) -> Option<bool>
+    ensures { result ≡ chosen_logfmt (option_map (λ text. text.now) given.entry) }
+{
+    let Some(text) = given else {
+        return Some(false);
+    };
+    if text == "logfmt" {
+        return Some(true);
+    }
+    if text == "text" {
+        return Some(false);
+    }
+    None
+}
+
+// What is wrong if the words choose no form of notes.
+fn notes_lack<'a>(words: &ArgMatches<'a>) -> Lack<'a> {
+    match words.get_str(NOTES) {
+        Some(text) => Lack::Value(text, NO_FORM),
+        None => Lack::Words(NO_VALUE),
     }
 }
 

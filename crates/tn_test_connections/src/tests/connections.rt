@@ -1,7 +1,7 @@
 //! Sessions over connections of this machine, the roster, and what is noted.
 
 use super::clients::{connect_here, link};
-use log::sink::Memory;
+use log::sink::{Discard, Memory};
 use log::{Level, Logged};
 use std::alloc::Global;
 use std::io::{Read, Write};
@@ -73,7 +73,6 @@ fn serving(sessions: u16, count: u64) -> Serving {
         per_host: 64,
         count,
         options: options(0),
-        verbose: false,
     }
 }
 
@@ -199,10 +198,11 @@ fn connections_more_than_the_limit_are_told_so(rt: HostRuntime) -> Result<(), Fa
     let listener = TcpListener::bind(&rt, (Ipv4Addr::LOCALHOST, 0))?;
     let port = listener.local_addr()?.port();
     let server = thread::spawn(&rt, move || -> bool {
-        let mut errors = Vec::new(alloc);
+        let log = Logged::new(rt, Level::Warn, Memory::new(alloc));
         let service = Answering { ticks: 0 };
-        let served = serve_on(rt, alloc, &listener, serving(1, 21), service, &mut errors);
-        served.is_ok() && errors.is_empty()
+        let served = serve_on(rt, alloc, &listener, serving(1, 21), service, &log);
+        let (_, memory) = log.into_parts();
+        served.is_ok() && memory.into_lines().is_empty()
     })?;
     let mut first = TcpStream::connect(&rt, (Ipv4Addr::LOCALHOST, port))?;
     let mut opening = [0; 15];
@@ -243,7 +243,6 @@ fn a_server_that_is_told_to_end_accepts_nobody(rt: HostRuntime) {
         host: "127.0.0.1",
         port: 0,
     };
-    let mut errors: Vec<u8> = Vec::new(alloc);
     let mut causes = Vec::new(alloc);
     let service = Answering { ticks: 0 };
     let served = serve(
@@ -253,7 +252,7 @@ fn a_server_that_is_told_to_end_accepts_nobody(rt: HostRuntime) {
         serving(1, 3),
         Over,
         service,
-        &mut errors,
+        &Discard,
         &mut causes,
     );
     let is_so = match served {

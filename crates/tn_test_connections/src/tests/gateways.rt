@@ -1,5 +1,7 @@
 //! Sessions that are joined to a line service, over connections of this machine.
 
+use log::sink::Memory;
+use log::{Level, Logged};
 use std::alloc::Global;
 use std::io::{Read, Write};
 use std::net::{Ipv4Addr, Net, Shutdown, TcpListener, TcpStream};
@@ -32,9 +34,10 @@ where
     };
     let serving = Serving::standard();
     let server = thread::spawn(&rt, move || -> bool {
-        let mut errors = Vec::new(alloc);
-        let served = serve_on(rt, alloc, &listener, serving, service, &mut errors);
-        served.is_ok() && errors.is_empty()
+        let log = Logged::new(rt, Level::Warn, Memory::new(alloc));
+        let served = serve_on(rt, alloc, &listener, serving, service, &log);
+        let (_, memory) = log.into_parts();
+        served.is_ok() && memory.into_lines().is_empty()
     })?;
     Ok((server, client))
 }

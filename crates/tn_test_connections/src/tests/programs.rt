@@ -57,6 +57,7 @@ where
         sizes: None,
         stands: None,
         terminal: None,
+        is_journal: false,
         link: Arc::new(alloc, Link::new()).ok()?,
     };
     let mut errors = Vec::new(alloc);

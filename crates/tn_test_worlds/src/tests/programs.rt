@@ -46,22 +46,22 @@ const ASKED: &[(&str, &str)] = &[
         "tn serve --port 2323",
         "Serve(ServeWords { host: \"127.0.0.1\", port: 2323, sessions: 8, per_host: 64, count: Some(1), \
          until: None, ticks: 0, line_limit: Limit { bytes: 255 }, idle: 0, longest: 0, local: false, \
-         verbose: false, to: None, line_end: Lf, ends_cut: false })",
+         verbose: false, logfmt: false, to: None, line_end: Lf, ends_cut: false })",
     ),
     (
         "tn serve --limit=64 --count 1000000 --ticks=1000 --host ::1 --line 4095 --idle 86400 \
-         --until /run/end --per-host 2 --longest=3600 --local --verbose --port=2323 --to [::1]:7 --crlf \
+         --until /run/end --per-host 2 --longest=3600 --local --verbose --notes logfmt --port=2323 --to [::1]:7 --crlf \
          --line-cut end",
         "Serve(ServeWords { host: \"::1\", port: 2323, sessions: 64, per_host: 2, count: Some(1000000), \
          until: Some(\"/run/end\"), ticks: 1000, line_limit: Limit { bytes: 4095 }, idle: 86400, \
-         longest: 3600, local: true, verbose: true, to: Some(Address { host: \"::1\", port: 7 }), \
+         longest: 3600, local: true, verbose: true, logfmt: true, to: Some(Address { host: \"::1\", port: 7 }), \
          line_end: CrLf, ends_cut: true })",
     ),
     (
         "tn serve --forever -p 7 --cr --to h:7 --line-cut=send",
         "Serve(ServeWords { host: \"127.0.0.1\", port: 7, sessions: 8, per_host: 64, count: None, \
          until: None, ticks: 0, line_limit: Limit { bytes: 255 }, idle: 0, longest: 0, local: false, \
-         verbose: false, to: Some(Address { host: \"h\", port: 7 }), line_end: Cr, ends_cut: false })",
+         verbose: false, logfmt: false, to: Some(Address { host: \"h\", port: 7 }), line_end: Cr, ends_cut: false })",
     ),
     (
         "tn connect -p7 --width 65535 --height 0 --escape ^a -q 86400 --quiet --keys standard",

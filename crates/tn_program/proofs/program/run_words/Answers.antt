@@ -1,6 +1,5 @@
 use Rattle.std.proofs.Common.{◌≡◌, List, ℕ, ap, map, string_bytes, subst, sym, ◌∙◌}
 use Rattle.std.proofs.lemmas.Result.{IfErr-weaker}
-use Rattle.tn_program.specs.Machine.{machine_of}
 use Rattle.tn_program.proofs.Coming.{if_ok, does, refused}
 use Rattle.tn_program.specs.Statuses.{status_of}
 use Rattle.tn_program.specs.Told.{TellsAll, UnlessConnected}
@@ -9,10 +8,8 @@ use Rattle.tn_program.proofs.program.run_words.Goals as goal
 
 pub returns-clause-done : goal.returns-clause-done
 returns-clause-done g c zero =
-    let machine = machine_of (g.H.Network.listens c.args.rt) (g.H.Network.shares c.args.rt) (g.H.Network.accepts c.args.rt) (g.H.Network.finds c.args.rt)
-    (g.H.Network.dials c.args.rt) (g.H.Lookout.sees c.args.rt) in
     let run = c.outcome_of_words-outcome in
-    if_ok c.args.words _ _ (λ words. does machine (map string_bytes words.items) c.args.streams.origin (g.R.Read.remaining c.args.streams.reader)
+    if_ok c.args.words _ _ (λ words. does _ (map string_bytes words.items) c.args.streams.origin (g.R.Read.remaining c.args.streams.reader)
     (g.W.Write.contents c.args.writer.now) (g.W.Write.contents run.new.writer) run.result (sym c.status-status.ensures ∙ zero)) run.ensures.comes
 
 pub returns-clause-ended : goal.returns-clause-ended
@@ -26,10 +23,8 @@ returns-clause-ended g c =
 
 pub returns-clause-refused : goal.returns-clause-refused
 returns-clause-refused g c =
-    let machine = machine_of (g.H.Network.listens c.args.rt) (g.H.Network.shares c.args.rt) (g.H.Network.accepts c.args.rt) (g.H.Network.finds c.args.rt)
-    (g.H.Network.dials c.args.rt) (g.H.Lookout.sees c.args.rt) in
     let run = c.outcome_of_words-outcome in
-    if_ok c.args.words _ _ (λ words. refused machine (map string_bytes words.items) c.args.streams.origin (g.R.Read.remaining c.args.streams.reader)
+    if_ok c.args.words _ _ (λ words. refused _ (map string_bytes words.items) c.args.streams.origin (g.R.Read.remaining c.args.streams.reader)
     (g.W.Write.contents c.args.writer.now) (g.W.Write.contents run.new.writer) run.result c.status-status.result c.status-status.ensures) run.ensures.comes
 
 pub returns-clause-memory : goal.returns-clause-memory

@@ -1,4 +1,4 @@
-use Rattle.std.proofs.Common.{rules, ◌≡◌, ◌++◌, ◌∷◌, [], ℕ, ◌+◌, ◌-◌, ◌%◌, List, drop, take, arith}
+use Rattle.std.proofs.Common.{rules, ◌≡◌, ◌+◌, ◌-◌, ◌%◌, drop, take, arith}
 use Rattle.httpdate.specs.Calendar.{days_from_civil}
 use Rattle.tn_serve.specs.Times.{hyphenated}
 use Rattle.tn_serve.proofs.times.time_text.Goals as goal

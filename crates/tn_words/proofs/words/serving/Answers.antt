@@ -54,4 +54,5 @@ returns-clause-asked c =
       to = c.in_ok-to.ensures.asked;
       line_end = choices.line_end;
       ends_cut = choices.ends_cut;
+      logfmt = choices.logfmt;
     }

@@ -1,18 +1,20 @@
 use Rattle.std.proofs.Common.{inl, refl, subst, ◌∙◌, List, ℕ}
 use Rattle.tn_serve.specs.Causes.{IsCaused}
-use Rattle.tn_program.proofs.Asked.{answers, joins, unless}
-use Rattle.tn_program.proofs.serving.serve_asked.Goals as goal
+use Rattle.tn_program.proofs.Asked.{answers, counted_alone, counted_joined, joins, unless}
+use Rattle.tn_program.proofs.serving.serve_noted.Goals as goal
 
-pub returns-in_default-clause-answers : goal.returns-in_default-clause-answers
-returns-in_default-clause-answers g c none =
-    answers _ _ _ _ _ _ c.answering_of-service.result.ticks _ c.serving_of-serving.ensures.options c.answering_of-service.ensures c.serve.ensures.each
+pub returns-in_default-clause-counted : goal.returns-in_default-clause-counted
+returns-in_default-clause-counted g c =
+    counted_alone c.serve.result c.args.asked.now.to _ _ c.in_default.is
+    (answers _ _ _ _ _ _ c.answering_of-service.result.ticks _ c.serving_of-serving.ensures.options c.answering_of-service.ensures c.serve.ensures.each)
 
 pub returns-in_err-from_str-clause-listened : goal.returns-in_err-from_str-clause-listened
 returns-in_err-from_str-clause-listened g c = unless _ _ c.from_residual-in_err-from_str.ensures.1
 
-pub returns-clause-joins : goal.returns-clause-joins
-returns-clause-joins g c =
-    rw c.in-Some.is (joins _ _ _ _ c.args.rt c.in-Some.to.port _ _ _ _ _ _ c.serving_of-serving.ensures.options
+pub returns-clause-counted : goal.returns-clause-counted
+returns-clause-counted g c =
+    counted_joined c.serve-2.result c.args.asked.now.to c.in-Some.to _ _ c.in-Some.is
+    (joins _ _ _ _ c.args.rt c.in-Some.to.port _ _ _ _ _ _ c.serving_of-serving.ensures.options
     (c.in_ok-from_str.ensures.ok ∙ c.as_str-2.ensures.value) c.lines_of.ensures c.serve-2.ensures.each)
 
 pub returns-in_err-from_str-clause-caused : goal.returns-in_err-from_str-clause-caused

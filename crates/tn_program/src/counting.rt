@@ -1,0 +1,44 @@
+//! What the servers of a machine may count.
+
+use crate::serving::Noting;
+use std::net::TcpStream;
+use tn_jobs::Job;
+use tn_network::Network;
+use tn_serve::Host;
+use tn_services::{Answerer, Answerers, Gateway, Joiner, ServiceReader, ServiceWriter};
+use tn_session::Maker;
+
+/// A machine at which `tn serve` runs. The relation holds of what a server counts that was asked for by these
+/// words.
+pub trait Serves {
+    ghost use Rattle.tn_serve.specs.declared.served.Served.{Served};
+    ghost use Rattle.tn_words.specs.declared.settings.ServeWords.{ServeWords};
+
+    // each session that it counts is one that the words ask for
+    ghost serves: { Self → ServeWords → Served → Type 0 };
+}
+
+impl<H: Host + Network> Serves for H {
+    ghost use Rattle.std.specs.Prelude.{◌≡◌, None, IfSome, string_bytes};
+    ghost use Rattle.tn_program.specs.Settings.{AnswersAsAsked, JoinsAsAsked, lines_as, options_as};
+    ghost use Rattle.tn_serve.specs.Counted.{CountsSessions, facts_of, server_of};
+    ghost use Rattle.tn_serve.specs.Services.{WasTurnedAway};
+
+    // sessions of its own job, which ticks as often as was asked for, or jobs that are joined to the service
+    // that was asked for
+    ghost serves = { λ rt asked served.
+        (asked.to ≡ None → CountsSessions (server_of (facts_of
+        ⟦<Answerer as Job>⟧.fresh ⟦<Answerers as Maker>⟧.gives ⟦<Answerer as Job>⟧.reacts
+        ⟦<Answerer as Job>⟧.steps ⟦<Answerer as Job>⟧.refuses) ⟦<Answerers as Maker>⟧.left
+        (options_as asked) (AnswersAsAsked asked.ticks) (WasTurnedAway (H.dismisses rt)))
+        served.whole served.faulted served.refused)
+        × IfSome asked.to (λ to. CountsSessions (server_of (facts_of
+        ⟦<Gateway<ServiceReader<H, TcpStream>, ServiceWriter<H, TcpStream, Noting<H>>> as Job>⟧.fresh
+        ⟦<Joiner<H, Noting<H>> as Maker>⟧.gives
+        ⟦<Gateway<ServiceReader<H, TcpStream>, ServiceWriter<H, TcpStream, Noting<H>>> as Job>⟧.reacts
+        ⟦<Gateway<ServiceReader<H, TcpStream>, ServiceWriter<H, TcpStream, Noting<H>>> as Job>⟧.steps
+        ⟦<Gateway<ServiceReader<H, TcpStream>, ServiceWriter<H, TcpStream, Noting<H>>> as Job>⟧.refuses)
+        ⟦<Joiner<H, Noting<H>> as Maker>⟧.left
+        (options_as asked) (JoinsAsAsked rt (string_bytes to.host) to.port (lines_as asked))
+        (WasTurnedAway (H.dismisses rt))) served.whole served.faulted served.refused) };
+}
