@@ -1,0 +1,227 @@
+"""The ends that a case puts together: servers and clients of ours, and peers and services that do as the case likes."""
+import datetime
+import os
+import re
+import select
+import socket
+import struct
+import subprocess
+
+import basics
+from world import PATIENCE, Collected, expect, expect_same, free_port, shortened, status_of, wait_until
+
+IAC, DONT, DO, WONT, WILL, SB, SE = 255, 254, 253, 252, 251, 250, 240
+NAWS, LINEMODE, BRK, IP, AYT = 31, 34, 243, 244, 246
+
+# What a client says that agrees on nothing but to get no GA.
+NO_GO_AHEAD = bytes([IAC, DO, 3])
+
+TIME = re.compile(r"(\d{4}-\d\d-\d\dT\d\d:\d\d:\d\d\.\d{3})Z ")
+NEEDLESS = re.compile(rb"\xff(?:[\xfb-\xfe].|\xf9)", re.DOTALL)
+
+
+class Serving:
+    """`tn serve` at a free port."""
+
+    def __init__(self, world, *words, under=(), port=None, stderr=subprocess.PIPE, **settings):
+        self.port = port or free_port()
+        self.process = world.start(*under, world.program, "serve", "--port", self.port, *words, stderr=stderr, **settings)
+        self.told = Collected(self.process.stderr.fileno()) if self.process.stderr else None
+        world.keep(f"tn serve {' '.join(map(str, words))}", lambda: (self.process.poll(), bytes(self.told.bytes) if self.told else None))
+        wait_until(lambda: basics.is_listened_to(self.port) or self.process.poll() is not None, "tn serve listens")
+
+    def runs(self):
+        return self.process.poll() is None
+
+    def end(self, told=b"", status=0):
+        """It ends by itself, with this status, and has told this; returns what it told."""
+        expect_same(status, status_of(self.process, "tn serve"), "the status of tn serve")
+        all_told = self.told.all() if self.told else b""
+        if told is not None:
+            expect_same(told, all_told, "what tn serve told")
+        return all_told
+
+    def notes(self, *plain):
+        """The lines that it told, each but the plain ones without its time, which is checked."""
+        return [line if line in plain else without_time(line) for line in self.end(None).decode().splitlines()]
+
+    def files(self):
+        return os.listdir(f"/proc/{self.process.pid}/fd")
+
+    def memory(self):
+        """The memory that it holds, in kB."""
+        with open(f"/proc/{self.process.pid}/status", encoding="ascii") as status:
+            return int(re.search(r"VmRSS:\s+(\d+) kB", status.read())[1])
+
+
+def without_time(line):
+    found = TIME.match(line)
+    expect(found, f"wanted a time before {line!r}")
+    noted = datetime.datetime.fromisoformat(found[1] + "+00:00")
+    late = (datetime.datetime.now(datetime.timezone.utc) - noted).total_seconds()
+    expect(-1 < late < 600, f"{line!r} was noted {late} s ago")
+    return line[found.end():]
+
+
+class Bytes:
+    """Bytes that come over a connection, read as they are wanted."""
+
+    def __init__(self, connection):
+        self.connection = connection
+        self.got = b""
+
+    def read_more(self, seconds):
+        """Whether more came in time; false at the end too."""
+        if not select.select([self.connection], [], [], max(0, seconds))[0]:
+            return False
+        try:
+            piece = self.connection.recv(65_536)
+        except ConnectionError:
+            return False
+        self.got += piece
+        return bool(piece)
+
+    def read_while(self, wants_more, seconds=PATIENCE):
+        """Reads while this holds; false if the bytes end before, or none come in time."""
+        while wants_more():
+            if not self.read_more(seconds):
+                return False
+        return True
+
+    def read_until(self, *texts, after=0):
+        for text in texts:
+            expect(self.read_while(lambda: self.got.find(text, after) < 0), f"wanted {text!r} to come, got {shortened(self.got)}")
+
+    def read_rest(self):
+        """All that comes before the end."""
+        self.read_while(lambda: True)
+        return self.got
+
+    def send(self, piece):
+        self.connection.sendall(piece)
+
+    def reset(self):
+        self.connection.setsockopt(socket.SOL_SOCKET, socket.SO_LINGER, struct.pack("ii", 1, 0))
+        self.connection.close()
+
+
+class Peer(Bytes):
+    """A client that agrees on nothing."""
+
+    def __init__(self, world, port, host="127.0.0.1", opening=b"", name="a peer got"):
+        super().__init__(socket.create_connection(("127.0.0.1", port), timeout=PATIENCE, source_address=(host, 0)))
+        world.keep(name, lambda: self.got)
+        self.address = "%s:%d" % self.connection.getsockname()
+        self.sent = 0
+        self.send(opening)
+
+    def send(self, piece):
+        super().send(piece)
+        self.sent += len(piece)
+
+    def is_served(self):
+        """Reads until the session says its first words."""
+        self.read_until(bytes([IAC, WILL, 1]))
+        return self
+
+    def read_to_end(self):
+        """All that came, without words of options and GA, once the connection was closed in order."""
+        try:
+            while True:
+                piece = self.connection.recv(65_536)
+                if not piece:
+                    break
+                self.got += piece
+        except TimeoutError:
+            expect(False, f"wanted the session to end, and it goes on; got {shortened(self.got)}")
+        return self.text()
+
+    def text(self):
+        return NEEDLESS.sub(b"", self.got)
+
+    def leave(self):
+        """Says that no more comes, and reads to the end."""
+        self.connection.shutdown(socket.SHUT_WR)
+        self.read_to_end()
+        self.connection.close()
+        return self.text()
+
+
+class Listener(Bytes):
+    """A server that takes one connection, and does with it as the case likes."""
+
+    def __init__(self, world, backlog=1, buffer=None):
+        self.listener = socket.socket()
+        if buffer is not None:
+            self.listener.setsockopt(socket.SOL_SOCKET, socket.SO_RCVBUF, buffer)
+        self.listener.bind(("127.0.0.1", 0))
+        self.listener.listen(backlog)
+        self.port = self.listener.getsockname()[1]
+        super().__init__(None)
+        world.keep("the server got", lambda: self.got)
+
+    def accept(self):
+        self.listener.settimeout(PATIENCE)
+        self.connection = self.listener.accept()[0]
+
+    def settle(self):
+        """The client has handled all that was sent before: it has answered two options since, which nobody knows."""
+        for option in (98, 99):
+            after = len(self.got)
+            self.send(bytes([IAC, DO, option]))
+            self.read_until(bytes([IAC, WONT, option]), after=after)
+
+    def close(self):
+        if self.connection is not None:
+            self.connection.close()
+        self.listener.close()
+
+
+class User:
+    """A user at `tn connect`, whose keys are a pipe; what both ends agree on is seen in a trace."""
+
+    def __init__(self, world, port, *words, edits=None):
+        """If it is said who edits, "client" or "server", this returns once both ends have agreed on that."""
+        trace = world.path(f"trace-{free_port()}")
+        traced = ["--trace", trace] if edits else []
+        self.process = world.start(world.program, "connect", "--port", port, *traced, *words, bufsize=0,
+                                   stdin=subprocess.PIPE, stdout=subprocess.PIPE, stderr=subprocess.PIPE)
+        self.screen = Collected(self.process.stdout.fileno())
+        self.told = Collected(self.process.stderr.fileno())
+        world.keep("a screen", lambda: bytes(self.screen.bytes))
+        world.keep("tn connect told", lambda: (self.process.poll(), bytes(self.told.bytes)))
+        if edits:
+            agreed = {"client": "> IAC DONT ECHO\n", "server": "< IAC SB LINEMODE SLC"}[edits]
+            wait_until(lambda: agreed in read_text(trace), f"the {edits} edits")
+
+    def type(self, keys, *texts):
+        """Types keys, and waits until these texts are shown."""
+        after = len(self.screen.bytes)
+        self.process.stdin.write(keys)
+        self.screen.wait_for(*texts, after=after)
+
+    def end(self, status=0, told=b""):
+        """The screen, once it has ended after its keys have; it has told this."""
+        self.process.stdin.close()
+        screen = self.screen.all()
+        expect_same(status, status_of(self.process, "tn connect"), "the status of tn connect")
+        expect_same(told, self.told.all(), "what tn connect told")
+        return screen
+
+
+def read_text(path):
+    try:
+        with open(path, encoding="utf-8") as file:
+            return file.read()
+    except FileNotFoundError:
+        return ""
+
+
+def size(columns, rows):
+    """What says a window of this size (RFC 1073)."""
+    return bytes([IAC, SB, NAWS, 0, columns, 0, rows, IAC, SE])
+
+
+def mode(mask):
+    """What sets LINEMODE's mask (RFC 1184)."""
+    return bytes([IAC, SB, LINEMODE, 1, mask, IAC, SE])

@@ -1,0 +1,229 @@
+"""`tn connect --plain` with services that take lines, from pipes and at a pseudoterminal."""
+import socket
+import struct
+import subprocess
+import tempfile
+import termios
+import time
+
+import services
+from services import Service, answering, instrument, listening, strict_mail
+from terminal import Terminal
+from world import PATIENCE, case, expect, expect_in_order, expect_same
+
+MANY = 1_000_000
+
+
+def telnet(service, connection):
+    """A server of Telnet, whose first two bytes come apart."""
+    connection.setsockopt(socket.IPPROTO_TCP, socket.TCP_NODELAY, 1)
+    connection.sendall(b"\xff")
+    time.sleep(0.3)
+    connection.sendall(b"\xfd\x18\xff\xfd\x1f")
+    service.read_all(connection)
+
+
+def doubles(service, connection):
+    """A service whose first byte is 255 twice, which is none of Telnet."""
+    connection.sendall(b"\xff\xff\xfd")
+    service.read_all(connection)
+
+
+def resets(service, connection):
+    """Reads a line, and resets the connection."""
+    service.read(connection)
+    connection.setsockopt(socket.SOL_SOCKET, socket.SO_LINGER, struct.pack("ii", 1, 0))
+
+
+def from_pipe(world, talk, data, *options):
+    """What the service got, what was printed, and the status and the errors of a run with these bytes as its input."""
+    service = Service(world, talk)
+    run = world.run("connect", "--plain", *options, f"127.0.0.1:{service.port}", data=data)
+    return service.end(), run.stdout, run.returncode, run.stderr
+
+
+@case(each={
+    "all line ends": (b"a\nb\rc\r\nd\xff\n\nhalf", b"a\r\nb\r\nc\r\nd\xff\r\n\r\nhalf"),
+    "--lf": (b"a\r\nb\r", b"a\nb\n", "--lf"),
+    "--cr": (b"a\r\nb\n", b"a\rb\r", "--cr"),
+    "all bytes": (bytes(set(range(256)) - {10, 13}) + b"\n", bytes(set(range(256)) - {10, 13}) + b"\r\n"),
+    "a long line": (b"x" * 100_000 + b"\n", b"x" * 100_000 + b"\r\n")})
+def lines_from_a_pipe_go_with_their_ends(world, data, wanted, *options):
+    expect_same((wanted, b"bye\n", 0, b""), from_pipe(world, listening, data, *options), "the run")
+
+
+@case
+def mail_is_handed_over(world):
+    got, *run = from_pipe(world, strict_mail, b"HELO me\nNOOP\nQUIT\n")
+    expect_same([b"220 here\r\n250 ok\r\n250 ok\r\n221 bye\r\n", 0, b""], run, "the run")
+    expect(got.endswith(b"QUIT\r\n"), "the last line is lost")
+
+
+@case
+def an_instrument_answers(world):
+    expect_same(b"MAKER,MODEL,1,2\n", from_pipe(world, instrument, b"*IDN?\n", "--lf")[1], "what was shown")
+
+
+@case
+def a_server_that_speaks_telnet_is_told_of(world):
+    service = Service(world, telnet)
+    run = world.start(world.program, "connect", "--plain", f"127.0.0.1:{service.port}",
+                      stdin=subprocess.PIPE, stdout=subprocess.PIPE, stderr=subprocess.PIPE)
+    expect_same(b"tn: the other end speaks Telnet: leave out --plain\n", run.stderr.readline(), "what is told at once")
+    expect_same((b"\xff\xfd\x18\xff\xfd\x1f", b""), run.communicate(b"x\n", PATIENCE), "what is shown, and what is told after that")
+    expect_same(0, run.returncode, "the status")
+    expect_same((b"\xff\xff\xfd", b""), from_pipe(world, doubles, b"x\n")[1::2], "what is shown and told of a byte 255")
+
+
+@case
+def a_server_that_speaks_telnet_is_told_of_once_at_a_terminal(world):
+    service = Service(world, telnet)
+    terminal = Terminal(world, "--plain", f"127.0.0.1:{service.port}")
+    terminal.see(b"leave out --plain\r\n")
+    terminal.type(b"\x04")
+    terminal.end()
+    expect_same(1, terminal.shown.count(b"speaks Telnet"), "how often it was told")
+
+
+@case
+def the_end_is_told_late(world):
+    def answers_late(service, connection):
+        service.read(connection)
+        connection.sendall(b"late\n")
+        service.read_all(connection)
+        service.ended = time.monotonic()
+    service = Service(world, answers_late)
+    begun = time.monotonic()
+    run = world.run("connect", "--plain", "-q", 2, f"127.0.0.1:{service.port}", data=b"a\n")
+    service.end()
+    expect(service.ended - begun >= 2, "with -q 2 the service hears the end before that")
+    expect_same((b"late\n", 0), (run.stdout, run.returncode), "what was shown, and the status")
+    run = from_pipe(world, strict_mail, b"QUIT\n", "-q", 10 * PATIENCE)  # It does not wait once the service has closed.
+    expect_same(0, run[2], "the status")
+
+
+@case
+def faults_are_told(world):
+    expect_same((3, b"tn: session\ntn: the connection broke\n"), from_pipe(world, resets, b"a\n")[2:], "what is told of a connection that broke")
+    service = Service(world, answering)
+    with open("/dev/full", "wb") as full:
+        run = world.run("connect", "--plain", f"127.0.0.1:{service.port}", data=b"a\n", capture_output=False, stdout=full, stderr=subprocess.PIPE)
+    expect_same((3, b"tn: session\ntn: the screen takes no more\n"), (run.returncode, run.stderr), "what is told of a full disk")
+
+
+@case
+def options_of_telnet_are_not_for_plain(world):
+    for word in ("--trace=f", "--escape=^]", "--escape=none", "--width=80", "--height=24"):
+        run = world.run("connect", "--plain", word, "127.0.0.1:1")
+        expect_same((2, True), (run.returncode, b"--plain" in run.stderr), f"the status of {word}, and that it is told")
+
+
+def plain_terminal(world, talk, *options, **settings):
+    """A service, and a terminal that has connected to it."""
+    service = Service(world, talk)
+    terminal = Terminal(world, "--plain", *options, f"127.0.0.1:{service.port}", **settings)
+    terminal.see(b"Connected to")
+    return service, terminal
+
+
+@case
+def it_is_raw_once_the_connection_is_told(world):
+    for _ in range(5):
+        service, terminal = plain_terminal(world, listening)
+        flags = termios.tcgetattr(terminal.slave)[3]
+        expect_same(0, flags & (termios.ICANON | termios.ECHO), "how the terminal is set once the connection is told")
+        terminal.type(b"ab\x7f\r\x04")
+        terminal.end()
+        expect_same(b"a\r\n", service.end(), "what went")
+
+
+@case
+def lines_are_edited_at_a_terminal(world):
+    service, terminal = plain_terminal(world, answering)
+    terminal.type(b"helo\x7flo\r", b"got hello\r\n")
+    expect_same(b"hello\r\n", bytes(service.got), "what went")
+    terminal.type(b"half\x03", b"half^C\r\n")
+    terminal.type(b"b\r", b"b\r\ngot b\r\n")
+    terminal.type(b"\x04")
+    terminal.end()
+    expect_same(b"hello\r\nb\r\n", service.end(), "what went in all")
+    expect_in_order(terminal.shown, b"helo\x08 \x08lo\r\n", b"got hello\r\n", b"half^C\r\n", b"b\r\ngot b\r\n")
+
+
+OWN = {termios.VERASE: b"\x08", termios.VINTR: b"\x18", termios.VKILL: b"\x03"}
+
+
+@case
+def the_terminals_own_characters_are_taken_for_plain(world):
+    service, terminal = plain_terminal(world, answering, characters=OWN)
+    terminal.type(b"helo\x08lo\r", b"got hello")
+    terminal.type(b"gone\x03b\x7fc\r", b"got c")
+    terminal.type(b"half\x18", b"half^X\r\n")
+    terminal.type(b"\x18")
+    terminal.end(130)
+    expect_same(b"hello\r\nc\r\n", service.end(), "what went")
+
+
+@case
+def standard_characters_are_taken_for_plain(world):
+    service, terminal = plain_terminal(world, answering, "--keys=standard", characters=OWN)
+    terminal.type(b"a\x08b\r", b"got a\x08b")
+    terminal.type(b"\x04")
+    terminal.end()
+    expect_same(b"a\x08b\r\n", service.end(), "what went")
+
+
+@case
+def an_interrupt_on_an_empty_line_leaves(world):
+    service, terminal = plain_terminal(world, answering)
+    terminal.type(b"a\r", b"got a")
+    terminal.type(b"\x03")
+    terminal.end(130)
+    expect_same(b"a\r\n", service.end(), "what went")
+
+
+@case
+def a_stop_stops_it_and_is_not_sent(world):
+    service, terminal = plain_terminal(world, answering, shell=True)
+    terminal.type(b"ab", b"ab")
+    terminal.type(b"\x1a", b"stopped")
+    terminal.type(b"\n")
+    terminal.gets_raw()
+    terminal.type(b"c\r")
+    service.wait_for(b"c\r\n")
+    terminal.type(b"\x04", b"ended with 0")
+    expect(b"\x1a" not in service.end(), "^Z went to the service")
+
+
+@case(wants=["redis-server"])
+def redis_answers_a_line_from_a_pipe(world):
+    run = world.run("connect", "--plain", "127.0.0.1", services.start_redis(world), data=b"PING\n")
+    expect_same(b"+PONG\r\n", run.stdout, "what was shown")
+
+
+@case(each={"of 20,000": (20_000,)})
+def each_of_many_lines_is_answered(world, count):
+    data = b"".join(b"line %d\n" % n for n in range(count))
+    got, shown, *_ = from_pipe(world, answering, data)
+    expect_same(data.replace(b"\n", b"\r\n"), got, "what went")
+    expect_same(b"".join(b"got line %d\n" % n for n in range(count)) + b"farewell\n", shown, "what was shown")
+
+
+@case(long=True, seconds=1_200)
+def each_of_a_million_lines_is_answered(world):
+    each_of_many_lines_is_answered(world, MANY)
+
+
+@case(long=True, alone=True, seconds=1_200, wants=["nc.openbsd"])
+def a_file_goes_to_a_service_as_by_nc(world):
+    def seconds_of(*words):
+        file.seek(0)
+        service = Service(world, listening)
+        begun = time.monotonic()
+        run = subprocess.run([*words, "127.0.0.1", str(service.port)], stdin=file, capture_output=True, timeout=600, check=False)
+        expect_same((b"bye\n", MANY), (run.stdout, service.end().count(b"\n")), "what was shown, and the lines that went")
+        return time.monotonic() - begun
+    with tempfile.TemporaryFile() as file:
+        file.write(b"".join(b"line %d\n" % n for n in range(MANY)))
+        file.flush()
+        return f"  {MANY} lines in {seconds_of(world.program, 'connect', '--plain'):.1f} s, and by nc in {seconds_of('nc.openbsd', '-N'):.3f} s"

@@ -1,0 +1,48 @@
+"""The sockets of a process, as the system knows them."""
+import ctypes
+import os
+import socket
+
+KEEPALIVE = "02"
+
+# The system call that shares a descriptor of another process (Linux 5.6).
+PIDFD_GETFD = 438
+
+
+def shared(process, descriptor):
+    """A copy of this descriptor of another process."""
+    copied = ctypes.CDLL(None, use_errno=True).syscall(PIDFD_GETFD, process, descriptor, 0)
+    if copied < 0:
+        raise OSError(ctypes.get_errno(), f"descriptor {descriptor} cannot be shared")
+    return copied
+
+
+def sockets_of(number):
+    """The sockets of the process with this number, which are shared with it."""
+    process = os.pidfd_open(number)
+    names = [name for name in os.listdir(f"/proc/{number}/fd") if os.readlink(f"/proc/{number}/fd/{name}").startswith("socket:")]
+    sockets = [socket.socket(fileno=shared(process, int(name))) for name in names]
+    os.close(process)
+    return sockets
+
+
+def row_of(here, there):
+    """What the system says of the connection from this port of the machine to that one."""
+    with open("/proc/net/tcp", encoding="ascii") as file:
+        for fields in map(str.split, file):
+            if fields[1].endswith(f":{here:04X}") and fields[2].endswith(f":{there:04X}"):
+                return fields
+    return None
+
+
+def probed_in(here, there):
+    """In how many seconds keepalive probes the peer of this connection; None if it does not."""
+    row = row_of(here, there)
+    timer, ticks = row[5].split(":") if row else ("", "")
+    return int(ticks, 16) / os.sysconf("SC_CLK_TCK") if timer == KEEPALIVE else None
+
+
+def unread(here, there):
+    """How many bytes have come at this end of a connection that nobody has read."""
+    row = row_of(here, there)
+    return int(row[4].split(":")[1], 16) if row else 0
