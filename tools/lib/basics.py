@@ -1,6 +1,5 @@
 """What the tools in Python share."""
 import argparse
-import ctypes
 import os
 import re
 import socket
@@ -11,10 +10,6 @@ import time
 TOP = os.path.dirname(os.path.dirname(os.path.dirname(os.path.realpath(__file__))))
 PROGRAM = os.path.join(TOP, "crates", "tn", "out", "tn")
 LISTENS = "0A"
-KEEPALIVE = "02"
-
-# The system call that shares a descriptor of another process (Linux 5.6).
-PIDFD_GETFD = 438
 
 
 def give_up(text):
@@ -81,36 +76,9 @@ def wait_for_port(port, process=None, seconds=60):
         time.sleep(0.02)
 
 
-def shared(process, descriptor):
-    """A copy of this descriptor of another process."""
-    copied = ctypes.CDLL(None, use_errno=True).syscall(PIDFD_GETFD, process, descriptor, 0)
-    if copied < 0:
-        raise OSError(ctypes.get_errno(), f"descriptor {descriptor} cannot be shared")
-    return copied
-
-
-def sockets_of(number):
-    """The sockets of the process with this number, which are shared with it."""
-    process = os.pidfd_open(number)
-    names = [name for name in os.listdir(f"/proc/{number}/fd") if os.readlink(f"/proc/{number}/fd/{name}").startswith("socket:")]
-    sockets = [socket.socket(fileno=shared(process, int(name))) for name in names]
-    os.close(process)
-    return sockets
-
-
 def timed_runs():
     """The first line of docs/first-run.txt, and the run of each crate: its name, when it began and ended, in minutes, and its processors."""
     with open(os.path.join(TOP, "docs", "first-run.txt"), encoding="utf-8") as file:
         head = file.readline().strip()
         rows = re.findall(r"^(\w+): ([0-9.]+) to ([0-9.]+) minutes, by (\d+)$", file.read(), re.M)
     return head, [(name, float(began), float(ended), int(jobs)) for name, began, ended, jobs in rows]
-
-
-def probed_in(here, there):
-    """In how many seconds keepalive probes the peer of a connection from this port of the machine to that one; None where it does not."""
-    with open("/proc/net/tcp", encoding="ascii") as file:
-        for fields in (line.split() for line in file):
-            if fields[1].endswith(f":{here:04X}") and fields[2].endswith(f":{there:04X}"):
-                timer, ticks = fields[5].split(":")
-                return int(ticks, 16) / os.sysconf("SC_CLK_TCK") if timer == KEEPALIVE else None
-    return None

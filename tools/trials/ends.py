@@ -6,6 +6,7 @@ import select
 import socket
 import struct
 import subprocess
+import time
 
 import basics
 from world import PATIENCE, Collected, expect, expect_same, free_port, shortened, status_of, wait_until
@@ -47,6 +48,11 @@ class Serving:
 
     def files(self):
         return os.listdir(f"/proc/{self.process.pid}/fd")
+
+    def has_sanitizer(self):
+        """Whether it was built to find faults of memory, as one without proofs is."""
+        with open(f"/proc/{self.process.pid}/maps", encoding="ascii") as maps:
+            return "asan" in maps.read()
 
     def memory(self):
         """The memory that it holds, in kB."""
@@ -101,6 +107,7 @@ class Bytes:
         self.connection.sendall(piece)
 
     def reset(self):
+        self.left = time.monotonic()
         self.connection.setsockopt(socket.SOL_SOCKET, socket.SO_LINGER, struct.pack("ii", 1, 0))
         self.connection.close()
 
@@ -109,6 +116,7 @@ class Peer(Bytes):
     """A client that agrees on nothing."""
 
     def __init__(self, world, port, host="127.0.0.1", opening=b"", name="a peer got"):
+        self.began, self.served, self.left = time.monotonic(), None, None
         super().__init__(socket.create_connection(("127.0.0.1", port), timeout=PATIENCE, source_address=(host, 0)))
         world.keep(name, lambda: self.got)
         self.address = "%s:%d" % self.connection.getsockname()
@@ -122,10 +130,11 @@ class Peer(Bytes):
     def is_served(self):
         """Reads until the session says its first words."""
         self.read_until(bytes([IAC, WILL, 1]))
+        self.served = time.monotonic()
         return self
 
     def read_to_end(self):
-        """All that came, without words of options and GA, once the connection was closed in order."""
+        """All that came, without words of options and GA, once the connection was closed in order; then it is closed here too."""
         try:
             while True:
                 piece = self.connection.recv(65_536)
@@ -134,6 +143,7 @@ class Peer(Bytes):
                 self.got += piece
         except TimeoutError:
             expect(False, f"wanted the session to end, and it goes on; got {shortened(self.got)}")
+        self.connection.close()
         return self.text()
 
     def text(self):
@@ -141,10 +151,9 @@ class Peer(Bytes):
 
     def leave(self):
         """Says that no more comes, and reads to the end."""
+        self.left = time.monotonic()
         self.connection.shutdown(socket.SHUT_WR)
-        self.read_to_end()
-        self.connection.close()
-        return self.text()
+        return self.read_to_end()
 
 
 class Listener(Bytes):

@@ -158,7 +158,7 @@ def the_terminals_own_characters_are_taken_for_plain(world):
     service, terminal = plain_terminal(world, answering, characters=OWN)
     terminal.type(b"helo\x08lo\r", b"got hello")
     terminal.type(b"gone\x03b\x7fc\r", b"got c")
-    terminal.type(b"half\x18", b"half^X\r\n")
+    terminal.type(b"half\x18", b"half^C\r\n")
     terminal.type(b"\x18")
     terminal.end(130)
     expect_same(b"hello\r\nc\r\n", service.end(), "what went")

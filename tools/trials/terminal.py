@@ -127,7 +127,7 @@ class Terminal:
         return termios.tcgetattr(self.slave) == self.before
 
     def is_raw(self):
-        return not termios.tcgetattr(self.slave)[3] & (termios.ICANON | termios.ISIG | termios.ECHO)
+        return not termios.tcgetattr(self.slave)[3] & (termios.ICANON | termios.ECHO)
 
     def gets_raw(self):
         wait_until(self.is_raw, "the terminal is raw")

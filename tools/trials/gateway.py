@@ -1,0 +1,357 @@
+"""Sessions of `tn serve --to` that are joined to line services: what goes to them, what comes back, and how a session ends."""
+import contextlib
+import re
+import socket
+import threading
+import time
+
+import services
+from ends import NO_GO_AHEAD, Peer, Serving, User
+from services import Service, answering, answering_returns
+from sockets import sockets_of, unread
+from world import NotTried, case, expect, expect_in_order, expect_same, free_port, status_of, wait_until, within
+
+
+def joined(world, talk, *words, **settings):
+    """A service, and a server whose sessions are joined to it."""
+    service = Service(world, talk, **settings)
+    return service, Serving(world, "--to", f"127.0.0.1:{service.port}", *words)
+
+
+def peer_of(world, serving):
+    return Peer(world, serving.port, opening=NO_GO_AHEAD)
+
+
+def editing(words):
+    return "client" if "--local" in words else "server"
+
+
+@case(each={" ".join(words) or "as they are": words for words in
+            ((), ("--crlf",), ("--cr",), ("--local",), ("--crlf", "--local"), ("--cr", "--local"))})
+def lines_go_to_a_service_with_their_ends(world, *words):
+    service, serving = joined(world, answering_returns if "--cr" in words else answering, *words)
+    user = User(world, serving.port, edits=editing(words))
+    user.type(b"helo\x7flo\r", b"got hello\r\n")
+    user.type(b"wrong\x15a\x1ab\r", b"got ab\r\n")
+    user.type(b"half\x04 whole\r", b"got half whole\r\n")
+    user.type(b"\x04", b"farewell\r\n")
+    user.end()
+    end = b"\r\n" if "--crlf" in words else b"\r" if "--cr" in words else b"\n"
+    expect_same(b"hello" + end + b"ab" + end + b"half whole" + end, service.end(), "what the service got")
+    serving.end()
+
+
+def answering_the_second(service, _):
+    """Says nothing to the first session, and answers the lines of the second."""
+    other, _ = service.listener.accept()
+    with other:
+        answering(service, other)
+
+
+@case(each={f"{cut} {editor}": (cut, *words) for cut in ("send", "end") for editor, words in (("at the server", ()), ("at the client", ("--local",)))})
+def a_line_that_is_too_long_is_noted(world, ending, *words):
+    service, serving = joined(world, answering_the_second, "--verbose", "--line-cut", ending, "--count", "2", *words)
+    first = peer_of(world, serving).is_served()
+    user = User(world, serving.port, edits=editing(words))
+    user.type(b"y" * 253 + b"\r", b"got " + b"y" * 253 + b"\r\n")
+    whole, cut = b"y" * 253 + b"\n", b"x" * 254 + b"\n"
+    if ending == "end":
+        user.type(b"x" * 300 + b"\r", b"line cut\r\n")
+        user.end()
+        expect_same(whole, service.end(), "what the service got")
+    else:
+        user.type(b"x" * 300 + b"\r", b"got " + b"x" * 254 + b"\r\n")
+        user.type(b"\x04", b"farewell\r\n")
+        user.end()
+        expect_same(whole + cut, service.end(), "what the service got")
+    first.connection.close()
+    notes = re.findall(rb"Z session 1 \(serial 2\) from 127\.0\.0\.1:\d+: a line of ([\d,]+) bytes may have been cut\n", serving.end(None))
+    expect_same([b"255"], notes, "the lengths of the lines that are noted")
+
+
+@case
+def new_lines_of_a_service_are_shown_as_such(world):
+    def talk(_, connection):
+        connection.setsockopt(socket.IPPROTO_TCP, socket.TCP_NODELAY, 1)
+        for piece in (b"one\r\ntwo\r", b"\n", b"three\r\r\nfour\rfive\n\r"):
+            connection.sendall(piece)
+
+    _, serving = joined(world, talk)
+    screen = peer_of(world, serving).read_to_end()
+    expect_same(b"one\r\ntwo\r\nthree\r\0\r\nfour\r\0five\r\n\r\0", screen, "what is shown")
+    serving.end()
+
+
+@case
+def a_return_is_shown_before_the_service_says_more(world):
+    def talk(service, connection):
+        connection.sendall(b"ready\r")
+        service.hold()
+        connection.sendall(b"\ndone\n")
+
+    service, serving = joined(world, talk)
+    peer = peer_of(world, serving)
+    expect(peer.read_while(lambda: b"ready\r\0" not in peer.text()), "its CR is not shown before it says more")
+    service.go_on.set()
+    expect_in_order(peer.read_to_end(), b"ready\r\0\r\ndone\r\n")
+    serving.end()
+
+
+def fill(service, serving, peer):
+    """Types until the server reads no more, since a service that reads nothing has taken all that it can."""
+    def ours():
+        return [found for found in sockets_of(serving.process.pid) if is_joined(found, service.port)]
+    for found in wait_until(ours, "the session is joined"):
+        found.setsockopt(socket.SOL_SOCKET, socket.SO_SNDBUF, 4_096)
+    waiting = 0
+    while waiting < 20:
+        if unread(serving.port, peer.connection.getsockname()[1]):
+            waiting += 1
+        else:
+            waiting = 0
+            peer.send((b"y" * 200 + b"\r\0") * 10)
+        time.sleep(0.1 if waiting else 0.002)
+
+
+def is_joined(found, port):
+    with contextlib.suppress(OSError):
+        return found.getpeername()[1] == port
+    return False
+
+
+@case(each={"ends what it says": (True,), "is left by its user": (False,)})
+def a_service_that_reads_nothing_is_given_up_if_it(world, is_service):
+    def talk(service, connection):
+        service.hold()
+        connection.shutdown(socket.SHUT_WR)
+        service.go_on.clear()
+        service.hold()
+
+    service, serving = joined(world, talk, buffer=4_096)
+    peer = peer_of(world, serving)
+    fill(service, serving, peer)
+    if is_service:
+        service.go_on.set()
+    else:
+        peer.connection.shutdown(socket.SHUT_WR)
+    with contextlib.suppress(ConnectionError):
+        peer.read_to_end()
+    serving.end()
+
+
+@case
+def a_line_after_the_end_of_file_is_not_taken(world):
+    def talk(service, connection):
+        service.read_all(connection)
+        service.hold()
+
+    service, serving = joined(world, talk)
+    peer = peer_of(world, serving)
+    peer.send(b"one\r\0\x04")
+    wait_until(lambda: service.has_ended, "the service hears the end of file")
+    peer.send(b"two\r\0")
+    peer.read_until(b"closed\r\n")
+    service.go_on.set()
+    peer.read_to_end()
+    expect_same(b"one\n", service.end(), "what the service got")
+    serving.end()
+
+
+@case(each={"^C": (b"\x03",), "^backslash": (b"\x1c",)})
+def an_interrupt_ends_a_session_whose_service_goes_on(world, key):
+    def talk(service, connection):
+        service.read_all(connection)
+        service.hold()
+
+    service, serving = joined(world, talk)
+    peer = peer_of(world, serving)
+    peer.send(b"one\r\0")
+    service.wait_for(b"one\n")
+    peer.send(b"two" + key)
+    peer.read_to_end()
+    wait_until(lambda: service.has_ended, "the service's connection is closed")
+    expect_same(b"one\n", bytes(service.got), "what the service got")
+    serving.end()
+
+
+@case
+def a_service_that_cannot_be_reached_is_told(world):
+    serving = Serving(world, "--to", f"127.0.0.1:{free_port()}")
+    expect_in_order(peer_of(world, serving).read_to_end(), b"the service cannot be reached\r\n")
+    lines = serving.end(None).splitlines()
+    expect(len(lines) == 1 and re.search(rb" ended: service not reached: 127\.0\.0\.1:\d+: Connection refused", lines[0]), f"told is {lines}")
+
+
+@case(each={"nothing": (b"",), "a line": (b"so long\n",), "20,000 lines": (b"".join(b"line %d\n" % n for n in range(20_000)),)})
+def a_session_ends_with_its_service_that_says(world, said):
+    _, serving = joined(world, lambda _, connection: connection.sendall(said))
+    peer = peer_of(world, serving)
+    expect_same(said.replace(b"\n", b"\r\n"), peer.read_to_end(), "what is shown")
+    serving.end()
+
+
+@case(alone=True)
+def a_session_ends_at_once_with_its_service(world):
+    def seconds_of(serving, listener, number):
+        peer = peer_of(world, serving)
+        service, _ = listener.accept()
+        peer.send(b"half a line")
+        time.sleep(0.05 + 0.01 * number)  # So that it ends at any moment of a wait.
+        service.sendall(b"so long\n")
+        closed = time.monotonic()
+        service.close()
+        expect_in_order(peer.read_to_end(), b"so long\r\n")
+        return time.monotonic() - closed
+
+    def usual():
+        with socket.create_server(("127.0.0.1", 0)) as listener:
+            serving = Serving(world, "--to", f"127.0.0.1:{listener.getsockname()[1]}", "--count", "21")
+            taken = sorted(seconds_of(serving, listener, number) for number in range(21))
+            serving.end()
+            return taken[10]
+    expect(any(usual() < 0.05 for _ in range(4)), "it takes more than 50 ms as a rule")
+
+
+@case
+def a_service_may_close_while_a_user_types(world):
+    def talk(service, connection):
+        service.hold()
+        connection.sendall(b"enough\n")
+
+    def type_on():
+        with contextlib.suppress(OSError):
+            while not stop.is_set():
+                peer.connection.sendall(b"x")
+                time.sleep(0.01)
+
+    service, serving = joined(world, talk)
+    peer, stop = peer_of(world, serving).is_served(), threading.Event()
+    typing = threading.Thread(target=type_on)
+    typing.start()
+    wait_until(lambda: not within(0.2, lambda: unread(serving.port, peer.connection.getsockname()[1])), "the server reads")
+    service.go_on.set()
+    expect_in_order(peer.read_to_end(), b"enough\r\n")
+    stop.set()
+    typing.join()
+    serving.end()
+
+
+@case
+def what_is_typed_last_is_answered(world):
+    _, serving = joined(world, answering)
+    user = User(world, serving.port, edits="server")
+    user.type(b"last\r")
+    expect_in_order(user.end(), b"got last\r\n")
+    serving.end()
+
+
+@case
+def a_service_may_answer_after_its_user_has_left(world):
+    def talk(service, connection):
+        service.read(connection)
+        time.sleep(0.5)
+        connection.sendall(b"late\n")
+
+    _, serving = joined(world, talk)
+    peer = peer_of(world, serving)
+    peer.send(b"last\r\0")
+    expect_in_order(peer.leave(), b"late\r\n")
+    serving.end()
+
+
+@case(each={"edited at the server": (8_000,), "edited at the client": (8_000, "--local")})
+def each_line_of_a_paste_goes_to_a_service_that_reads_late(world, count, *words):
+    def talk(service, connection):
+        service.hold()
+        services.listening(service, connection)
+
+    service, serving = joined(world, talk, *words)
+    user = User(world, serving.port, edits=editing(words))
+    text = b"".join(b"line %07d\r" % n for n in range(count))
+    typing = threading.Thread(target=user.type, args=(text + b"\x04",))
+    typing.start()
+    within(2, lambda: not typing.is_alive())
+    service.go_on.set()
+    typing.join()
+    user.screen.wait_for(b"bye\r\n")
+    user.end()
+    expect_same(text.replace(b"\r", b"\n"), service.end(), "what the service got")
+    serving.end()
+
+
+@case(long=True, seconds=1_200, each={"edited at the server": (), "edited at the client": ("--local",)})
+def each_of_60_000_lines_goes_to_a_service_that_reads_late(world, *words):
+    each_line_of_a_paste_goes_to_a_service_that_reads_late(world, 60_000, *words)
+
+
+@case(each={"3": (3,)})
+def megabytes_that_a_user_does_not_read_take_no_memory(world, megabytes):
+    line = b"x" * 98 + b"\n"
+    count = megabytes * 10_000
+
+    def talk(service, connection):
+        service.hold()
+        for _ in range(count // 100):
+            connection.sendall(line * 100)
+
+    service, serving = joined(world, talk)
+    if serving.has_sanitizer():
+        raise NotTried("this program keeps the memory that it has freed")
+    peer = peer_of(world, serving).is_served()
+    before, most, done = serving.memory(), 0, threading.Event()
+    service.go_on.set()
+    time.sleep(3)  # So long nobody reads.
+
+    def watch():
+        nonlocal most
+        with contextlib.suppress(OSError, TypeError):
+            while not done.wait(0.05):
+                most = max(most, serving.memory())
+
+    watcher = threading.Thread(target=watch)
+    watcher.start()
+    screen = peer.read_to_end()
+    done.set()
+    watcher.join()
+    expect_same(line.replace(b"\n", b"\r\n") * count, screen, "what is shown")
+    expect(most - before < 1_024, f"the memory of tn serve grew from {before} kB to {most} kB")
+    serving.end()
+
+
+@case(long=True, seconds=1_200)
+def fifty_megabytes_that_a_user_does_not_read_take_no_memory(world):
+    megabytes_that_a_user_does_not_read_take_no_memory(world, 50)
+
+
+@case(wants=["socat"])
+def socat_answers(world):
+    port = free_port()
+    service = world.start("socat", f"TCP-LISTEN:{port},bind=127.0.0.1", "EXEC:cat")
+    serving = Serving(world, "--to", f"127.0.0.1:{services.listened(port)}")
+    user = User(world, serving.port, edits="server")
+    user.type(b"helo\x7flo\r", b"lo\r\nhello\r\n")
+    user.type(b"\x04")
+    user.end()
+    serving.end()
+    status_of(service, "socat")
+
+
+@case(wants=["redis-server"], each={"edited at the server": (), "edited at the client": ("--crlf", "--local")})
+def redis_answers(world, *words):
+    serving = Serving(world, "--to", f"127.0.0.1:{services.start_redis(world)}", *words)
+    user = User(world, serving.port, edits=editing(words))
+    for keys, answer in ((b"PINNG\x7f\x7fG\r", b"+PONG\r\n"), (b"SET key value\r", b"+OK\r\n"), (b"GET key\r", b"$5\r\nvalue\r\n"), (b"QUIT\r", b"+OK\r\n")):
+        user.type(keys, answer)
+    user.end()
+    serving.end()
+
+
+@case(wants=["smtpd"])
+def smtpd_answers(world):
+    serving = Serving(world, "--to", f"127.0.0.1:{services.start_smtpd(world)}", "--crlf", "--local")
+    user = User(world, serving.port, edits="client")
+    user.screen.wait_for(b"220 ")
+    for keys, answer in ((b"HELLO\x7f\x7f\x7fLO example.org\r", b"Hello example.org"), (b"NOOPX\x7f\r", b"250 "), (b"QUIT\r", b"221 ")):
+        user.type(keys, answer)
+    user.end()
+    serving.end()

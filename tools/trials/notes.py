@@ -1,0 +1,318 @@
+"""What `tn serve` notes of its sessions and tells its peers, how it ends them and itself, and what it tells if it cannot listen."""
+import itertools
+import os
+import re
+import resource
+import socket
+import subprocess
+import time
+
+import basics
+from ends import IAC, NAWS, SB, SE, WILL, Peer, Serving
+from sockets import probed_in, sockets_of, unread
+from world import NotTried, case, expect, expect_same, free_port, wait_until
+
+BEGAN = re.compile(r"session (\d+) \(serial (\d+)\) from (\S+) began")
+STARVED = re.compile(r"no connection can be accepted now: (.+)")
+FULL = re.compile(r"no session \(serial (\d+)\) from (\S+): full")
+ENDED = re.compile(r"session (\d+) \(serial (\d+)\) from (\S+) ended: (.+), (\d+\.\d) s, in ([\d,]+) bytes, out ([\d,]+) bytes, "
+                   r"([\d,]+) entries")
+
+
+def number_of(text):
+    expect(re.fullmatch(r"\d{1,3}(,\d{3})*", text), f"{text!r} is not in groups of three digits")
+    return int(text.replace(",", ""))
+
+
+def noted(lines, kind, peer):
+    """What the one note of this kind says of this peer."""
+    found = [match for match in map(kind.fullmatch, lines) if match and peer.address in match.groups()]
+    expect(len(found) == 1, f"wanted one note of {peer.address}, got {len(found)}: {lines}")
+    return found[0]
+
+
+def expect_session(lines, serial, peer, cause, entries):
+    """What is noted of this peer is what it saw; returns its number."""
+    began = noted(lines, BEGAN, peer)
+    expect_same(str(serial), began[2], "the serial number")
+    expect_end(lines, began[1], serial, peer, cause, entries)
+    expect(lines.index(began[0]) < lines.index(noted(lines, ENDED, peer)[0]), f"an end before its beginning: {lines}")
+    return int(began[1])
+
+
+def expect_end(lines, number, serial, peer, cause, entries):
+    found = noted(lines, ENDED, peer)
+    seen = (found[1], int(found[2]), found[4], number_of(found[6]), number_of(found[7]), number_of(found[8]))
+    expect_same((number, serial, cause, peer.sent, len(peer.got), entries), seen, "what is noted")
+    least, most = peer.left - (peer.served or peer.left), time.monotonic() - peer.began
+    expect(least - 0.1 <= float(found[5]) <= most + 0.1, f"{found[0]!r}, and it lasted {least:.1f} to {most:.1f} s")
+
+
+def wait_for_end(serving, peer):
+    serving.told.wait_for(f"from {peer.address} ended".encode())
+
+
+def answers(peer):
+    """A session goes on: it answers a line, and says GA."""
+    peer.send(b"hello\r\n")
+    peer.read_until(b"hello\r\n\xff\xf9")
+
+
+@case
+def each_session_is_noted(world):
+    serving = Serving(world, "--verbose", "--limit", "2", "--count", "5")
+    first, second = Peer(world, serving.port).is_served(), Peer(world, serving.port).is_served()
+    third = Peer(world, serving.port)
+    expect_same(b"full\r\n", third.leave(), "what one more is told")
+    probed = probed_in(serving.port, second.connection.getsockname()[1])
+    expect(probed and 10 < probed <= 60, f"wanted a silent peer to be probed within a minute, got {probed}")
+    first.send(b"hello\r\n" * 200)
+    first.leave()
+    wait_for_end(serving, first)
+    fourth = Peer(world, serving.port).is_served()
+    fourth.send(b"a" * 77)
+    wait_until(lambda: not unread(serving.port, fourth.connection.getsockname()[1]), "tn serve reads what is typed")
+    fourth.reset()
+    wait_for_end(serving, fourth)
+    second.leave()
+    fifth = Peer(world, serving.port).is_served()
+    fifth.send(b"\x04")
+    fifth.leave()
+    lines = serving.notes("tn: session")
+    expect_same((11, f"listening on 127.0.0.1:{serving.port}"), (len(lines), lines[0]), "how many notes there are, and the first")
+    expect_same("3", noted(lines, FULL, third)[1], "the serial number of one more")
+    numbers = [expect_session(lines, 1, first, "hang-up", 200), expect_session(lines, 2, second, "hang-up", 0)]
+    expect_same([0, 1], sorted(numbers), "the numbers of the two first")
+    expect_same(numbers[0], expect_session(lines, 4, fourth, "connection reset", 0), "a number that is free again")
+    expect_session(lines, 5, fifth, "done", 1)
+    expect_same(noted(lines, ENDED, fourth)[0], lines[lines.index("tn: session") + 1], "the line after `tn: session`")
+
+
+@case
+def who_is_told_full_may_send_for_a_second(world):
+    serving = Serving(world, "--limit", "1", "--count", "7")
+    first = Peer(world, serving.port).is_served()
+
+    def may_send(peer):
+        peer.read_rest()
+        try:
+            for _ in range(2):  # If it is closed at once, the second of these fails.
+                peer.send(b"x")
+                time.sleep(0.05)
+        except ConnectionError:
+            return False
+        return True
+    sent = [may_send(Peer(world, serving.port)) for _ in range(6)]
+    expect(any(sent), "nobody who is told full may send a byte")
+    first.leave()
+    serving.end()
+
+
+@case(each={
+    "idle": ("idle", 1, "--idle", "1"), "idle before the longest": ("idle", 1, "--idle", "1", "--longest", "60"),
+    "too long": ("too long", 2, "--longest", "2"), "too long before idle": ("too long", 1, "--longest", "1", "--idle", "60")})
+def a_peer_is_told_why_it_is_ended(world, cause, seconds, *words):
+    serving = Serving(world, "--verbose", *words)
+    peer = Peer(world, serving.port).is_served()
+    peer.read_until(cause.encode() + b"\r\n")
+    lasted = time.monotonic() - peer.began
+    expect(lasted >= seconds, f"wanted an end after {seconds} s, got one after {lasted:.1f}")
+    if cause != "idle":  # It has five seconds to close, and what it sends is read meanwhile: else the second of these fails.
+        for _ in range(2):
+            peer.connection.sendall(b"x")
+            time.sleep(0.1)
+    peer.leave()
+    expect(peer.got.endswith(cause.encode() + b"\r\n"), "more comes after why it is ended")
+    expect_session(serving.notes(), 1, peer, cause, 0)
+
+
+@case(each={"a line": (b"a\r\n",), "an interrupt": (b"\xff\xf4",)})
+def who_types_is_not_idle_and_may_stay_too_long(world, piece):
+    serving = Serving(world, "--verbose", "--idle", "5", "--longest", "8")
+    peer = Peer(world, serving.port).is_served()
+    while b"too long\r\n" not in peer.got and b"idle\r\n" not in peer.got:
+        peer.send(piece)
+        peer.read_more(0.3)
+    peer.leave()
+    expect_same("too long", noted(serving.notes(), ENDED, peer)[4], "why it was ended")
+
+
+@case(each={"NOP": (b"\xff\xf1",), "AYT": (b"\xff\xf6",), "an option": (bytes([IAC, WILL, 99]),),
+            "a size": (bytes([IAC, SB, NAWS, 0, 80, 0, 24, IAC, SE]),)})
+def who_types_nothing_is_idle(world, piece):
+    serving = Serving(world, "--verbose", "--idle", "1")
+    peer = Peer(world, serving.port).is_served()
+    end = time.monotonic() + 30
+    while not peer.got.endswith(b"idle\r\n"):
+        expect(time.monotonic() < end, f"{piece!r} keeps a session")
+        peer.send(piece)
+        peer.read_more(0.2)
+    peer.leave()
+    expect_same("idle", noted(serving.notes(), ENDED, peer)[4], "why it was ended")
+
+
+@case(each={"--forever": (["--forever"],), "--count": (["--count", "3"],)})
+def once_a_file_is_there_sessions_go_on_and_none_begins(world, words):
+    marker = world.path("end")
+    serving = Serving(world, "--verbose", "--until", marker, *words)
+    first, second = Peer(world, serving.port).is_served(), Peer(world, serving.port).is_served()
+    open(marker, "w", encoding="ascii").close()
+    serving.told.wait_for(b"no more connections are accepted\n")
+    wait_until(lambda: not basics.is_listened_to(serving.port), "no connection is taken once the file is there")
+    answers(first)
+    for peer in (first, second):
+        expect(serving.runs(), "it ended while a session ran")
+        peer.leave()
+    lines = serving.notes()
+    expect_same(1, lines.count("no more connections are accepted"), "how often that is noted")
+    expect_session(lines, 1, first, "hang-up", 1)
+    expect_session(lines, 2, second, "hang-up", 0)
+
+
+@case
+def a_file_that_cannot_be_looked_for_is_none(world):
+    serving = Serving(world, "--count", "1", "--until", "/dev/null/end")
+    time.sleep(1.2)  # It looks twice, and nothing is to happen.
+    expect(serving.runs(), "it ended without its file")
+    Peer(world, serving.port).leave()
+    serving.end()
+
+
+@case
+def a_file_ends_a_server_without_sessions(world):
+    marker = world.path("end")
+    serving = Serving(world, "--forever", "--until", marker)
+    time.sleep(1.2)  # It looks twice, and nothing is to happen.
+    expect(serving.runs(), "it ended without its file")
+    open(marker, "w", encoding="ascii").close()
+    serving.end()
+    run = world.run("serve", "--port", serving.port, "--forever", "--until", marker)
+    expect_same((0, b"", b""), (run.returncode, run.stdout, run.stderr), "a server whose file is there before it starts")
+
+
+@case
+def who_is_turned_away_is_closed(world):
+    serving = Serving(world, "--limit", "1", "--count", "32")
+    first = Peer(world, serving.port).is_served()
+    before = len(serving.files())
+    others = [Peer(world, serving.port) for _ in range(30)]
+    for peer in others:
+        peer.read_until(b"full\r\n")
+    wait_until(lambda: len(serving.files()) == before, "those are closed who neither close nor send")
+    first.leave()
+    Peer(world, serving.port).leave()
+    serving.end()
+
+
+@case
+def one_address_has_as_many_sessions_as_it_may(world):
+    serving = Serving(world, "--verbose", "--host", "0.0.0.0", "--per-host", "2", "--count", "6")
+    first, second = Peer(world, serving.port).is_served(), Peer(world, serving.port).is_served()
+    third = Peer(world, serving.port)
+    expect_same(b"full\r\n", third.leave(), "what the third of an address is told")
+    other = Peer(world, serving.port, "127.0.0.2").is_served()
+    first.leave()
+    wait_for_end(serving, first)
+    fourth, fifth = Peer(world, serving.port).is_served(), Peer(world, serving.port)
+    expect_same(b"full\r\n", fifth.leave(), "what one more is told")
+    for peer in (second, other, fourth):
+        peer.leave()
+    lines = serving.notes()
+    expect_same(["3", "6"], [noted(lines, FULL, peer)[1] for peer in (third, fifth)], "the serial numbers of who is told full")
+    for serial, peer in ((1, first), (2, second), (4, other), (5, fourth)):
+        expect_session(lines, serial, peer, "hang-up", 0)
+
+
+@case
+def a_peer_waits_until_there_is_a_descriptor_for_it(world):
+    serving = Serving(world, "--verbose", "--count", "2")
+    first = Peer(world, serving.port).is_served()
+    number = serving.process.pid
+    taken = {int(name) for name in serving.files()}
+    allowed = resource.prlimit(number, resource.RLIMIT_NOFILE)
+    resource.prlimit(number, resource.RLIMIT_NOFILE, (next(free for free in itertools.count() if free not in taken), allowed[1]))
+    second = Peer(world, serving.port)
+    serving.told.wait_for(b"no connection can be accepted now")
+    expect(not second.read_more(1), "a peer is told something though no descriptor is left")
+    answers(first)
+    resource.prlimit(number, resource.RLIMIT_NOFILE, allowed)
+    second.is_served()
+    first.leave()
+    second.leave()
+    lines = serving.notes()
+    expect_same(1, len([line for line in lines if STARVED.fullmatch(line) and "open files" in line]), "how often that is noted")
+    expect_session(lines, 1, first, "hang-up", 1)
+    expect_same("hang-up", noted(lines, ENDED, second)[4], "how the other session ended")
+
+
+@case(wants=["strace"])
+def a_connection_that_was_aborted_is_skipped(world):
+    serving = Serving(world, "--verbose", under=("strace", "-f", "-qq", "-o", os.devnull, "-e", "trace=accept4", "-e",
+                                                 "inject=accept4:error=ECONNABORTED:when=1"))
+    peer = Peer(world, serving.port).is_served()
+    peer.leave()
+    lines = serving.notes()
+    expect(not any(map(STARVED.fullmatch, lines)), f"it is noted: {lines}")
+    expect_session(lines, 1, peer, "hang-up", 0)
+
+
+@case
+def a_listener_that_breaks_ends_a_server_after_its_sessions(world):
+    serving = Serving(world, "--forever")
+    peer = Peer(world, serving.port).is_served()
+    listeners = [found for found in sockets_of(serving.process.pid) if found.getsockopt(socket.SOL_SOCKET, socket.SO_ACCEPTCONN)]
+    listeners[0].shutdown(socket.SHUT_RDWR)
+    wait_until(lambda: not basics.is_listened_to(serving.port), "the listener is shut down")
+    answers(peer)
+    time.sleep(0.5)  # Nothing is to happen while a session runs.
+    expect(serving.runs(), "it ended while a session ran")
+    peer.leave()
+    serving.end(b"tn: network\n", 1)
+
+
+@case
+def only_a_session_that_failed_is_told_of(world):
+    serving = Serving(world, "--count", "2")
+    Peer(world, serving.port).is_served().leave()
+    bad = Peer(world, serving.port).is_served()
+    bad.reset()
+    lines = serving.notes("tn: session")
+    expect_same((2, "tn: session"), (len(lines), lines[0]), "how many lines are told, and the first")
+    expect_end(lines, noted(lines, ENDED, bad)[1], 2, bad, "connection reset", 0)
+
+
+def expect_not_listening(world, port, host, cause, **settings):
+    """It cannot listen there, and says why in a second line."""
+    run = world.run("serve", "--port", port, "--host", host, **settings)
+    shown = f"[{host}]" if ":" in host and not host.startswith("[") else host
+    lines = run.stderr.decode().splitlines()
+    expect_same((1, b"", 2, "tn: network"), (run.returncode, run.stdout, len(lines), lines[0]), "how it ends")
+    expect(lines[1].startswith(f"tn: cannot listen on {shown}:{port}: ") and re.search(cause, lines[1], re.I),
+           f"wanted the cause {cause}, got {lines[1]!r}")
+
+
+@case
+def a_port_in_use_is_told(world):
+    with socket.socket() as taken:
+        taken.bind(("127.0.0.1", 0))
+        taken.listen()
+        expect_not_listening(world, taken.getsockname()[1], "127.0.0.1", "in use")
+
+
+@case(each={
+    "that nobody knows": ("nobody.invalid", "address information|name"), "in brackets": ("[::1]", "address information|name"),
+    "that is another's": ("192.0.2.7", "assign requested address"),
+    "that is another's of IPv6": ("2001:db8::7", "assign requested address|not supported")})
+def a_host_is_told(world, host, cause):
+    expect_not_listening(world, free_port(), host, cause)
+
+
+@case
+def a_port_of_the_systems_own_is_told(world):
+    with open("/proc/sys/net/ipv4/ip_unprivileged_port_start", encoding="ascii") as start:
+        if int(start.read()) <= 80:
+            raise NotTried("every port is free to all here")
+    others = {"user": 65_534, "group": 65_534, "extra_groups": []} if os.geteuid() == 0 else {}
+    if subprocess.run(["test", "-x", world.program], check=False, **others).returncode or world.run("--version", **others).returncode:
+        raise NotTried("nobody else may run this program here")
+    expect_not_listening(world, 80, "127.0.0.1", "permission denied", **others)
