@@ -7,7 +7,7 @@ import subprocess
 import threading
 
 import basics
-from world import PATIENCE, NotTried, expect, free_port, wait_until
+from world import PATIENCE, NotTried, expect, free_port, wait_until, wait_while_more
 
 
 class Service:
@@ -61,7 +61,7 @@ class Service:
 
     def end(self):
         """All that came, once the service has closed."""
-        self.thread.join(PATIENCE)
+        wait_while_more(lambda: len(self.got), lambda: not self.thread.is_alive())
         expect(not self.thread.is_alive(), "wanted the service to end, and its connection goes on")
         return bytes(self.got)
 

@@ -41,45 +41,27 @@ def words_of(number):
         return []
 
 
-class Terminal:
-    """The launcher at a pseudoterminal, as the leader of a session or as a job of a shell."""
+class Console:
+    """A program at a pseudoterminal, as the leader of a session."""
 
-    def __init__(self, world, *words, rows=40, columns=100, screen=None, errors=None, shell=False, folder=None, characters=None):
-        self.launcher_path = world.launcher
+    def __init__(self, world, *words, rows=40, columns=100, screen=None, errors=None, characters=None, **variables):
         self.master, self.slave = pty.openpty()
         self.resize(rows, columns)
         self.set_characters(characters or {})
         self.before = termios.tcgetattr(self.slave)
-        self.has_shell = shell
 
         def lead():
             os.setsid()
             fcntl.ioctl(0, termios.TIOCSCTTY, 0)
 
-        self.process = world.start(
-            *(SHELL if shell else []), world.launcher, world.program, "connect", *words, env={**os.environ, "TMPDIR": folder or world.folder},
-            stdin=self.slave, stdout=screen or self.slave, stderr=errors or self.slave, preexec_fn=lead)
+        self.process = world.start(*words, env={**os.environ, "TERM": "xterm", **variables}, stdin=self.slave, stdout=screen or self.slave,
+                                   stderr=errors or self.slave, preexec_fn=lead)
         self.collected = Collected(self.master)
         world.keep("a terminal showed", lambda: (self.process.poll(), bytes(self.shown)))
 
     @property
     def shown(self):
         return self.collected.bytes
-
-    def below(self, parent, is_launcher):
-        """A process that this one started, which runs the launcher or does not."""
-        for number, above in parents().items():
-            if above == parent and (self.launcher_path.encode() in words_of(number)) == is_launcher:
-                return number
-        return None
-
-    def program(self):
-        """The number of the program, which the launcher started."""
-        return wait_until(lambda: self.below(self.launcher(), False), "the launcher has started a program")
-
-    def launcher(self):
-        """The number of the launcher, or None if a shell started it and it has ended."""
-        return self.below(self.process.pid, True) if self.has_shell else self.process.pid
 
     def resize(self, rows, columns):
         fcntl.ioctl(self.slave, termios.TIOCSWINSZ, struct.pack("HHHH", rows, columns, 0, 0))
@@ -110,19 +92,6 @@ class Terminal:
     def see(self, *texts):
         self.collected.wait_for(*texts)
 
-    def see_state(self, *texts):
-        """Asks for the state by `^]` `s`, until it has all of these texts."""
-        def has_all():
-            after = len(self.shown)
-            self.type(b"\x1ds", b" went\r\n")
-            return all(text in self.shown[after:] for text in texts)
-        wait_until(has_all, f"the state has {texts!r}")
-
-    def end(self, status=0):
-        """It has ended with this status, and has set the terminal back."""
-        expect_same(status, status_of(self.process, "the launcher"), "the status of the launcher")
-        expect(self.is_set_back(), "the terminal is not set back")
-
     def is_set_back(self):
         return termios.tcgetattr(self.slave) == self.before
 
@@ -136,6 +105,43 @@ class Terminal:
         """Takes the terminal away."""
         self.collected.stop()
         os.close(self.master)
+
+
+class Terminal(Console):
+    """The launcher with `tn connect` at a pseudoterminal, as the leader of a session or as a job of a shell."""
+
+    def __init__(self, world, *words, shell=False, folder=None, **settings):
+        self.launcher_path, self.has_shell = world.launcher, shell
+        super().__init__(world, *(SHELL if shell else []), world.launcher, world.program, "connect", *words,
+                         TMPDIR=folder or world.folder, **settings)
+
+    def below(self, parent, is_launcher):
+        """A process that this one started, which runs the launcher or does not."""
+        for number, above in parents().items():
+            if above == parent and (self.launcher_path.encode() in words_of(number)) == is_launcher:
+                return number
+        return None
+
+    def program(self):
+        """The number of the program, which the launcher started."""
+        return wait_until(lambda: self.below(self.launcher(), False), "the launcher has started a program")
+
+    def launcher(self):
+        """The number of the launcher, or None if a shell started it and it has ended."""
+        return self.below(self.process.pid, True) if self.has_shell else self.process.pid
+
+    def see_state(self, *texts):
+        """Asks for the state by `^]` `s`, until it has all of these texts."""
+        def has_all():
+            after = len(self.shown)
+            self.type(b"\x1ds", b" went\r\n")
+            return all(text in self.shown[after:] for text in texts)
+        wait_until(has_all, f"the state has {texts!r}")
+
+    def end(self, status=0):
+        """It has ended with this status, and has set the terminal back."""
+        expect_same(status, status_of(self.process, "the launcher"), "the status of the launcher")
+        expect(self.is_set_back(), "the terminal is not set back")
 
     def leave(self):
         """The user leaves, and all is as it was before."""

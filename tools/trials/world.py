@@ -111,6 +111,14 @@ def wait_until(holds, what, seconds=PATIENCE):
     return found
 
 
+def wait_while_more(count, is_done):
+    """Waits until this is done, or the count has stayed for long."""
+    before = None
+    while before != count() and not is_done():
+        before = count()
+        within(PATIENCE, lambda: is_done() or count() != before)
+
+
 def free_port():
     for port in random.sample(OWN_PORTS, 100):
         with socket.socket() as probe:
@@ -200,10 +208,18 @@ class Collected:
             wait_until(lambda: self.bytes.find(text, after) >= 0, f"{text!r} in {shortened(bytes(self.bytes[after:]))}, and it does not come")
 
     def all(self):
-        """All that came, once its end has."""
-        self.thread.join(PATIENCE)
+        """All that came, once its end has; it goes on waiting as long as more comes."""
+        wait_while_more(lambda: len(self.bytes), lambda: self.has_ended)
         expect(self.has_ended, f"wanted an end, got {shortened(bytes(self.bytes))} and no end")
         return bytes(self.bytes)
+
+    def wait_quiet(self, seconds=1):
+        """Waits until something has come, and then nothing for so long."""
+        wait_until(lambda: self.bytes or self.has_ended, "something comes")
+        before = None
+        while before != len(self.bytes):
+            before = len(self.bytes)
+            time.sleep(seconds)
 
 
 class World:
@@ -228,10 +244,9 @@ class World:
     def start(self, *words, **settings):
         return subprocess.Popen([str(word) for word in words], **settings)
 
-    def run(self, *words, data=b"", seconds=SECONDS, **settings):
+    def run(self, *words, data=b"", **settings):
         """Runs `tn` with these words and this input to its end."""
-        settings = {"capture_output": True, **settings}
-        return subprocess.run([self.program, *map(str, words)], input=data, timeout=seconds, check=False, **settings)
+        return subprocess.run([self.program, *map(str, words)], input=data, check=False, **{"capture_output": True, **settings})
 
 
 def status_of(process, what="tn"):

@@ -1,42 +1,33 @@
-#!/usr/bin/env python3
-"""Types random keys over a connection, and compares what the job answers with what one local terminal makes of them.
+"""Random keys that are typed over a connection: what the job answers is what one local terminal makes of them.
 
-    tools/same-lines [-p PROGRAM] [-s SEED] [N]
-
-N sessions, 1,000 where it is not given: each is a `tn connect`, whose keys come from a pipe in random pieces with random
-pauses, over `tn serve`, every second one with `--local`. Each has a seed of its own, SEED and those after it. Without -p
-it takes what ./tn runs, which is built and proved on first use; PROGRAM may be one that was built without a proof.
-
-The screen of `tn connect` has the echo of the keys and what the job writes, one among the other. What the job has to write
-is a function of the entries that `tn local` prints of the same keys: a line comes back, a signal is named, `exit` and the end
-of file are answered by `bye` and end the session. So a screen is as it should be if it is these answers, whole, in their
-order, each after the key that closes its entry was typed, and between them the echo of the keys, in their order:
+The screen of `tn connect` has the echo of the keys and what the job writes, one among the other. What the job has to write is a function of
+the entries that `tn local` prints of the same keys: a line comes back, a signal is named, `exit` and the end of file are answered by `bye`
+and end the session. So a screen is as it should be if it is these answers, whole, in their order, each after the key that closes its entry
+was typed, and between them the echo of the keys, in their order:
 
     as they are         while the client has not heard yet that the server echoes
     as a terminal's     while the server echoes
     none                with --local, once the server has stopped and the client has not heard of it yet
     as a terminal's     with --local, while the client edits and echoes
 
-After the key that ends a session some more keys may be echoed. One line at the end says how many sessions there were. A
-session that differs is printed with its seed, its keys in hexadecimal, the entries and the screen. Status 0 if none differs,
-1 if one does, 2 if nothing could be run.
+After the key that ends a session some more keys may be echoed. The client may tell that some of those were not sent, or, if it edits, some
+of a line that no key has closed. Each session has a seed of
+its own; one that differs is printed with its seed, its keys in hexadecimal, the entries and the screen.
 """
-import atexit
 import bisect
 import concurrent.futures
-import os
 import random
+import re
 import subprocess
-import sys
 import threading
 import time
 
-sys.path.insert(0, os.path.join(os.path.dirname(os.path.realpath(__file__)), "lib"))
-from basics import PROGRAM, TOP, Words, checked_program, free_port, give_up, wait_for_port
+from ends import Serving
+from world import Failed, case, expect
 
 # How many sessions run at once, and how many seconds one may take.
 AT_ONCE = 8
-MAX_SECONDS = 60
+MAX_SECONDS = 180
 
 # A line holds so many bytes before the one that closes it.
 MAX_HELD = 254
@@ -47,7 +38,7 @@ EOF, ERASE, KILL, LF, CR = 4, 127, 21, 10, 13
 # Who echoes, one after another; a server without --local has the first two. Before the last some keys may have no echo.
 AS_THEY_ARE, BY_SERVER, BY_CLIENT = range(3)
 
-
+NOT_SENT = re.compile(rb"tn: closed by the other end; (\d+) bytes typed were not sent\n")
 def some_keys(chance):
     """Keys of all kinds; but what ends a session, `exit` and an end of file on an empty line, is typed near the end alone."""
     keys = bytearray()
@@ -75,7 +66,7 @@ def some_keys(chance):
 
 
 def echo_and_closing(keys):
-    """The echo of each key at a terminal with standard settings, and the places of the keys that give an entry."""
+    """The echo of each key at a terminal with standard settings, the places of the keys that give an entry, and how much is left of a line."""
     held, echo, closing = 0, [], []
     for place, key in enumerate(keys):
         shown = b""
@@ -97,7 +88,7 @@ def echo_and_closing(keys):
         else:
             held, shown = held + 1, bytes([key])
         echo.append(shown)
-    return echo, closing
+    return echo, closing, held
 
 
 def answers_to(lines):
@@ -120,7 +111,7 @@ class Screen:
 
     def __init__(self, keys, entries, local):
         self.raw = [b"\r\n" if key in (LF, CR) else bytes([key]) for key in keys]
-        self.echo, closing = echo_and_closing(keys)
+        self.echo, closing, held = echo_and_closing(keys)
         self.last = BY_CLIENT if local else BY_SERVER
         answers, ends = answers_to(entries)
         self.fits = len(closing) == len(entries)
@@ -131,6 +122,8 @@ class Screen:
             self.ends += [len(self.ends) + len(answer)] * len(answer)
         # The session may end at any key behind this one.
         self.needed = closing[len(answers) - 1] + 1 if ends and self.fits else len(keys)
+        # So many bytes at most may be told as not sent.
+        self.unsent = len(keys) - self.needed if ends else held if local else 0
         # So much of the answers may have come once so many keys were typed.
         self.ready = [0] * (len(keys) + 1)
         for place, answer in zip(closing, answers):
@@ -200,9 +193,8 @@ class Screen:
 
 
 def entries_of(program, keys):
-    run = subprocess.run([program, "local"], input=keys, capture_output=True, timeout=MAX_SECONDS)
-    if run.returncode:
-        give_up(f"tn local ended with status {run.returncode}: {run.stderr!r}")
+    run = subprocess.run([program, "local"], input=keys, capture_output=True, timeout=MAX_SECONDS, check=False)
+    expect(run.returncode == 0, f"tn local ended with status {run.returncode}: {run.stderr!r}")
     return run.stdout.decode().splitlines()
 
 
@@ -214,85 +206,60 @@ def type_keys(chance, keys, pipe):
     time.sleep(chance.choice([0, 0, 0.03, 0.1]))
     try:
         while keys:
-            size = chance.randint(1, longest)
-            pipe.write(keys[:size])
+            count = chance.randint(1, longest)
+            pipe.write(keys[:count])
             pipe.flush()
-            keys = keys[size:]
+            keys = keys[count:]
             time.sleep(chance.choice(pauses))
         pipe.close()
     except BrokenPipeError:
         pass
 
 
-def run_session(program, ports, seed):
-    """Runs the session of a seed: what differs in it, or None, and how many keys it has."""
+def may_be_told(told, wanted):
+    found = NOT_SENT.fullmatch(told)
+    return not told or found and 0 < int(found[1]) <= wanted.unsent
+
+
+def difference(world, port, seed):
+    """Runs the session of a seed: how many keys it has, and what differs in it."""
     chance = random.Random(seed)
-    local = seed % 2 == 1
     keys = some_keys(chance)
-    entries = entries_of(program, keys)
-    client = subprocess.Popen([program, "connect", "--port", str(ports[local])], stdin=subprocess.PIPE,
-                              stdout=subprocess.PIPE, stderr=subprocess.PIPE)
+    entries = entries_of(world.program, keys)
+    client = world.start(world.program, "connect", "--port", port, stdin=subprocess.PIPE, stdout=subprocess.PIPE, stderr=subprocess.PIPE)
     late = threading.Timer(MAX_SECONDS, client.kill)
     late.start()
     typist = threading.Thread(target=type_keys, args=(chance, keys, client.stdin))
     typist.start()
-    screen = client.stdout.read()
-    errors = client.stderr.read()
-    status = client.wait()
+    screen, told, status = client.stdout.read(), client.stderr.read(), client.wait()
     typist.join()
     late.cancel()
-    wanted = Screen(keys, entries, local)
-    if wanted.is_made_of_these(screen) and not status and not errors:
-        return None, len(keys)
-    told = [f"seed {seed}{' with --local' if local else ''} differs; status {status}, errors {errors!r}",
-            f"keys {keys.hex()}", "entries of tn local:", *entries, f"answers {wanted.answers.hex()}",
-            f"screen {screen.hex()}"]
-    return "\n".join(told), len(keys)
+    wanted = Screen(keys, entries, seed % 2 == 1)
+    if wanted.is_made_of_these(screen) and not status and may_be_told(told, wanted):
+        return len(keys), ""
+    return len(keys), "\n".join([
+        f"  seed {seed} differs; status {status}, told {told!r}, which may say {wanted.unsent}", f"  keys {keys.hex()}",
+        "  entries of tn local:", *entries, f"  answers {wanted.answers.hex()}", f"  screen {screen.hex()}"])
 
 
-def start_server(program, count, local):
-    port = free_port()
-    words = ["serve", "--port", str(port), "--limit", "64", "--count", str(max(count, 1))]
-    server = subprocess.Popen([program, *words, *(["--local"] if local else [])], stderr=subprocess.PIPE)
-    atexit.register(server.kill)
-    wait_for_port(port, server)
-    return server, port
-
-
-def built_program():
-    """What ./tn runs; ./tn builds and proves it first, where that is to be done."""
-    if subprocess.run([os.path.join(TOP, "tn"), "local"], stdin=subprocess.DEVNULL, stdout=subprocess.DEVNULL).returncode:
-        give_up("./tn does not run")
-    return PROGRAM
-
-
-def main():
-    words = Words(__doc__)
-    words.add_argument("-p", dest="program", metavar="PROGRAM")
-    words.add_argument("-s", dest="seed", metavar="SEED", type=int, default=1)
-    words.add_argument("sessions", metavar="N", type=int, nargs="?", default=1000)
-    asked = words.parse_args()
-    program = checked_program(asked.program or built_program())
-    seeds = range(asked.seed, asked.seed + asked.sessions)
-    counts = [sum(seed % 2 == side for seed in seeds) for side in (0, 1)]
-    servers = [start_server(program, counts[side], side == 1) for side in (0, 1)]
-    ports = [port for _, port in servers]
-    keys, different = 0, 0
+def run_seeds(world, seeds):
+    """Sessions of these seeds; those of odd ones at a server with --local."""
+    servings = [Serving(world, "--limit", "64", "--count", sum(seed % 2 == side for seed in seeds), *["--local"] * side) for side in (0, 1)]
     with concurrent.futures.ThreadPoolExecutor(AT_ONCE) as pool:
-        for told, typed in pool.map(lambda seed: run_session(program, ports, seed), seeds):
-            keys += typed
-            if told:
-                different += 1
-                print(told)
-    for count, (server, _) in zip(counts, servers):
-        if count:
-            errors = server.communicate(timeout=MAX_SECONDS)[1]
-            if server.returncode or errors:
-                different += 1
-                print(f"tn serve ended with status {server.returncode}: {errors.decode()}")
-    print(f"same-lines: {asked.sessions} sessions with {keys} keys, {different} that differ")
-    sys.exit(1 if different else 0)
+        done = list(pool.map(lambda seed: difference(world, servings[seed % 2].port, seed), seeds))
+    different = [text for _, text in done if text]
+    if different:
+        raise Failed("\n".join([f"{len(different)} of {len(done)} sessions differ", *different]))
+    for serving in servings:
+        serving.end()
+    return f"  {len(done)} sessions with {sum(keys for keys, _ in done)} keys"
 
 
-if __name__ == "__main__":
-    main()
+@case(seconds=600)
+def lines_of_50_sessions_are_those_of_one_terminal(world):
+    return run_seeds(world, range(1, 51))
+
+
+@case(long=True, seconds=3_600)
+def lines_of_1000_sessions_are_those_of_one_terminal(world):
+    return run_seeds(world, range(51, 1_051))
