@@ -1,4 +1,4 @@
-// A Telnet server in C of the form that `tn serve` has, which tools/soak measures beside it. The stream is libtelnet's
+// A Telnet server in C of the form that `tn serve` has, which tools/trials/speed.py measures next to it. The stream is libtelnet's
 // (Debian: libtelnet-dev); lines are edited here, with bytes, ERASE, KILL, return and ^D alone, and are echoed alike.
 // Each line is written back; `exit`, and ^D on an empty line, end the session with `bye`.
 //

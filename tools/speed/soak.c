@@ -1,4 +1,4 @@
-// Sessions that each type a line, wait for its echo and its answer, and then type the next one, as tools/soak has it.
+// Sessions that each type a line, wait for its echo and its answer, and then type the next one, as tools/trials/speed.py has it.
 //
 //   cc -O2 -o soak tools/speed/soak.c && ./soak PORT PID SESSIONS TIMES [keys]
 //

@@ -1,8 +1,5 @@
 """Much that is pasted into sessions: every line is answered, once and in order."""
-import socket
-import threading
-
-from ends import NO_GO_AHEAD, Peer, Serving, User
+from ends import NO_GO_AHEAD, Peer, Relay, Serving, User
 from world import case, expect, expect_same
 
 LONG = {"long": True, "seconds": 3_600}
@@ -80,37 +77,10 @@ def each_line_of_a_paste_is_answered_if_the_client_edits(world, count=2_000):
     serving.end()
 
 
-def narrow(connection):
-    for option in (socket.SO_RCVBUF, socket.SO_SNDBUF):
-        connection.setsockopt(socket.SOL_SOCKET, option, 4_096)
-    return connection
-
-
-def relay(port):
-    """A port of which one connection goes on to another port, through small buffers."""
-    front = narrow(socket.socket())
-    front.bind(("127.0.0.1", 0))
-    front.listen(1)
-
-    def carry(source, target):
-        while piece := source.recv(4_096):
-            target.sendall(piece)
-        target.shutdown(socket.SHUT_WR)
-
-    def serve():
-        client, _ = front.accept()
-        back = narrow(socket.socket())
-        back.connect(("127.0.0.1", port))
-        for ends in ((client, back), (back, client)):
-            threading.Thread(target=carry, args=ends, daemon=True).start()
-    threading.Thread(target=serve, daemon=True).start()
-    return front.getsockname()[1]
-
-
 @case
 def each_line_is_answered_through_small_buffers(world, count=2_000):
     serving = Serving(world)
-    expect_whole_answers(pasted(world, relay(serving.port), count, "server"), count)
+    expect_whole_answers(pasted(world, Relay(serving.port, buffers=4_096).port, count, "server"), count)
     serving.end()
 
 

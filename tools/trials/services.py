@@ -1,7 +1,7 @@
 """Services that take lines, which a case connects to."""
 import contextlib
+import fcntl
 import os
-import shutil
 import socket
 import subprocess
 import threading
@@ -117,6 +117,9 @@ def start_smtpd(world):
     """The port of OpenSMTPD's smtpd, which wants root."""
     if os.geteuid() != 0:
         raise NotTried("smtpd wants root")
+    lock = open("/run/tn-trials-smtpd", "w", encoding="ascii")  # One runs at a time; the lock ends with the case.
+    fcntl.flock(lock, fcntl.LOCK_EX)
+    world.locks = [lock]
     port, settings = free_port(), world.path("smtpd.conf")
     with open(settings, "w", encoding="ascii") as file:
         file.write(f"listen on 127.0.0.1 port {port}\naction \"out\" relay\nmatch from local for any action \"out\"\n")

@@ -214,8 +214,7 @@ class Collected:
         return bytes(self.bytes)
 
     def wait_quiet(self, seconds=1):
-        """Waits until something has come, and then nothing for so long."""
-        wait_until(lambda: self.bytes or self.has_ended, "something comes")
+        """Waits until nothing has come for so long."""
         before = None
         while before != len(self.bytes):
             before = len(self.bytes)
