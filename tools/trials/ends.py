@@ -31,7 +31,8 @@ class Serving:
         self.process = world.start(*under, world.program, "serve", "--port", self.port, *words, stderr=stderr, **settings)
         self.told = Collected(self.process.stderr.fileno()) if self.process.stderr else None
         world.keep(f"tn serve {' '.join(map(str, words))}", lambda: (self.process.poll(), bytes(self.told.bytes) if self.told else None))
-        wait_until(lambda: basics.is_listened_to(self.port) or self.process.poll() is not None, "tn serve listens")
+        wait_until(lambda: basics.is_listened_to(self.port) or not self.runs(), "tn serve listens")
+        expect(self.runs(), f"tn serve ended with {self.process.poll()} before it listened")
 
     def runs(self):
         return self.process.poll() is None

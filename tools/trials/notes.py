@@ -1,4 +1,5 @@
 """What `tn serve` notes of its sessions and tells its peers, how it ends them and itself, and what it tells if it cannot listen."""
+import contextlib
 import itertools
 import os
 import re
@@ -243,6 +244,24 @@ def a_peer_waits_until_there_is_a_descriptor_for_it(world):
     expect_same(1, len([line for line in lines if STARVED.fullmatch(line) and "open files" in line]), "how often that is noted")
     expect_session(lines, 1, first, "hang-up", 1)
     expect_same("hang-up", noted(lines, ENDED, second)[4], "how the other session ended")
+
+
+@case
+def a_full_pipe_as_standard_error_stops_nobody(world):
+    _reading, writing = os.pipe()
+    os.set_blocking(writing, False)
+    with contextlib.suppress(BlockingIOError):
+        while os.write(writing, b"x" * 1_024):
+            pass
+    os.set_blocking(writing, True)
+    marker = world.path("end")
+    serving = Serving(world, "--verbose", "--forever", "--until", marker, stderr=writing)
+    for _ in range(40):
+        peer = Peer(world, serving.port).is_served()
+        answers(peer)
+        peer.leave()
+    open(marker, "w", encoding="ascii").close()
+    serving.end()
 
 
 @case(wants=["strace"])

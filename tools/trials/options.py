@@ -1,0 +1,108 @@
+"""Each option of `tn serve` and `tn connect` has its effect at the program. Those that are not tried here:
+
+    tn serve     --host                             piped.the_host_that_was_asked_for_is_the_one
+                 --per-host, --until, --verbose     notes
+                 --idle, --longest                  notes.a_peer_is_told_why_it_is_ended and others
+                 --to, --crlf, --cr, --line-cut     gateway
+    tn connect   --escape, --width, --height        interactive.another_escape_character_is_taken, a_size_by_hand_wins
+                 --keys                             interactive.the_terminals_own_characters_are_taken
+                 --trace, -q                        piped.a_trace_is_written, the_end_of_a_pipe_is_told_late
+                 --quiet                            interactive.nothing_is_told_if_it_is_not_wanted
+                 --plain, --lf, --cr                plain
+"""
+import signal
+import socket
+import time
+
+from ends import IAC, LINEMODE, NO_GO_AHEAD, WILL, Peer, Serving, User, mode
+from world import NotTried, case, expect, expect_in_order, expect_same, wait_until
+
+EDITS = mode(1)[:4]
+
+
+@case(each={"by default": (1,), "--count 3": (3, "--count", "3")})
+def a_server_ends_after_as_many_connections_as_asked(world, count, *words):
+    serving = Serving(world, *words)
+    first, *others = [Peer(world, serving.port).is_served() for _ in range(count)]
+    for peer in others:
+        peer.leave()
+    expect(serving.runs(), "it ends before its last session does")
+    first.leave()
+    serving.end()
+
+
+@case
+def a_server_without_end_goes_on(world):
+    serving = Serving(world, "--forever")
+    for _ in range(3):
+        Peer(world, serving.port).is_served().leave()
+    time.sleep(0.5)  # Nothing is to happen once a session has ended.
+    expect(serving.runs(), "it ended")
+    Peer(world, serving.port).is_served().leave()
+    serving.process.send_signal(signal.SIGTERM)
+    serving.end(status=-signal.SIGTERM)
+
+
+@case(each={"8 by default": (8,), "--limit 12": (12, "--limit", "12")})
+def a_server_has_as_many_sessions_as_its_limit(world, limit, *words):
+    serving = Serving(world, "--count", limit + 1, *words)
+    peers = [Peer(world, serving.port).is_served() for _ in range(limit)]
+    expect_same(b"full\r\n", Peer(world, serving.port).leave(), "what one more is told")
+    for peer in peers:
+        peer.send(b"hello\r\n")
+        expect_in_order(peer.leave(), b"hello\r\n")
+    serving.end()
+
+
+@case(each={"none by default": (0,), "--ticks 1": (1, "--ticks", "1"), "--ticks 5": (5, "--ticks", "5")})
+def a_job_in_the_background_ticks_as_often_as_asked(world, count, *words):
+    serving = Serving(world, *words)
+    peer = Peer(world, serving.port, opening=NO_GO_AHEAD).is_served()
+    wait_until(lambda: peer.got.count(b"tick\r\n") >= count or not peer.read_more(20), "all ticks come")
+    peer.send(b"one\r\0")
+    peer.read_until(b"one\r\n")
+    peer.send(b"exit\r\0")
+    screen = peer.read_to_end()
+    expect_same((count, 1, 1), tuple(screen.count(word) for word in (b"tick\r\n", b"one\r\n", b"bye\r\n")), "ticks, answers and farewells")
+    serving.end()
+
+
+@case(each={"255 by default": (254, [], []), "of a server that edits": (299, ["--line", "300"], []),
+            "of a client that edits": (299, ["--local", "--line", "400"], ["--line", "300"])})
+def a_line_has_as_many_bytes_as_it_may(world, most, at_server, at_client):
+    serving = Serving(world, *at_server)
+    user = User(world, serving.port, *at_client, edits="client" if "--local" in at_server else "server")
+    user.type(b"x" * 350 + b"\r", b"\r\n" + b"x" * most + b"\r\n")
+    user.type(b"exit\r", b"bye\r\n")
+    user.end()
+    serving.end()
+
+
+@case(each={"with --local": (True, "--local"), "without": (False,)})
+def a_client_is_asked_to_edit(world, is_asked, *words):
+    serving = Serving(world, *words)
+    peer = Peer(world, serving.port, opening=bytes([IAC, WILL, LINEMODE]))
+    peer.read_until(bytes([IAC, 250, LINEMODE, 3]))  # The special characters come first.
+    peer.send(b"hello\r\n")
+    peer.read_until(b"hello\r\n")
+    modes = [peer.got[at + 4] for at in range(len(peer.got)) if peer.got.startswith(EDITS, at)]
+    expect_same(is_asked, any(mask & 1 for mask in modes), f"whether EDIT is asked for, by {modes}")
+    peer.leave()
+    serving.end()
+
+
+@case(each={
+    "HOST PORT": ("127.0.0.1", lambda port: ["127.0.0.1", port]), "HOST:PORT": ("127.0.0.1", lambda port: [f"127.0.0.1:{port}"]),
+    "a name": ("127.0.0.1", lambda port: [f"localhost:{port}"]), "--port": ("127.0.0.1", lambda port: ["--port", port]),
+    "HOST --port": ("127.0.0.1", lambda port: ["127.0.0.1", "-p", port]),
+    "[ADDRESS]:PORT": ("::1", lambda port: [f"[::1]:{port}"]), "an address of IPv6": ("::1", lambda port: ["::1", port])})
+def a_host_and_a_port_may_be_given_as(world, host, words):
+    with socket.socket(socket.AF_INET6 if ":" in host else socket.AF_INET) as probe:
+        try:
+            probe.bind((host, 0))
+        except OSError:
+            raise NotTried(f"this machine has no {host}") from None
+    serving = Serving(world, "--host", host)
+    run = world.run("connect", *words(serving.port), data=b"exit\r")
+    expect_same((0, b"", True), (run.returncode, run.stderr, run.stdout.endswith(b"bye\r\n")), "the status, what is told, and the farewell")
+    serving.end()
