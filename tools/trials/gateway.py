@@ -259,8 +259,9 @@ def a_service_may_answer_after_its_user_has_left(world):
     serving.end()
 
 
-@case(each={"edited at the server": (8_000,), "edited at the client": (8_000, "--local")})
-def each_line_of_a_paste_goes_to_a_service_that_reads_late(world, count, *words):
+@case(long=True, seconds=1_200, each={"60,000 at the server": (60_000,), "60,000 at the client": (60_000, "--local")})
+@case(each={"8,000 at the server": (8_000,), "8,000 at the client": (8_000, "--local")})
+def each_edited_line_goes_to_a_service_that_reads_late(world, count, *words):
     def talk(service, connection):
         service.hold()
         services.listening(service, connection)
@@ -279,11 +280,7 @@ def each_line_of_a_paste_goes_to_a_service_that_reads_late(world, count, *words)
     serving.end()
 
 
-@case(long=True, seconds=1_200, each={"edited at the server": (), "edited at the client": ("--local",)})
-def each_of_60_000_lines_goes_to_a_service_that_reads_late(world, *words):
-    each_line_of_a_paste_goes_to_a_service_that_reads_late(world, 60_000, *words)
-
-
+@case(long=True, seconds=1_200, each={"50": (50,)})
 @case(each={"3": (3,)})
 def megabytes_that_a_user_does_not_read_take_no_memory(world, megabytes):
     line = b"x" * 98 + b"\n"
@@ -316,11 +313,6 @@ def megabytes_that_a_user_does_not_read_take_no_memory(world, megabytes):
     expect_same(line.replace(b"\n", b"\r\n") * count, screen, "what is shown")
     expect(most - before < 1_024, f"the memory of tn serve grew from {before} kB to {most} kB")
     serving.end()
-
-
-@case(long=True, seconds=1_200)
-def fifty_megabytes_that_a_user_does_not_read_take_no_memory(world):
-    megabytes_that_a_user_does_not_read_take_no_memory(world, 50)
 
 
 @case(wants=["socat"])

@@ -63,12 +63,6 @@ def the_connection_is_told_of(world):
 
 
 @case
-def it_is_raw_however_soon_it_connects(world):
-    for _ in range(6):
-        at_terminal(world)[1].leave()
-
-
-@case
 def nothing_is_told_if_it_is_not_wanted(world):
     listener, terminal = at_terminal(world, "--quiet")
     listener.send(b"a prompt")
@@ -89,15 +83,6 @@ def a_silent_server_can_be_left(world):
     probed = probed_in(listener.connection.getpeername()[1], listener.port)
     expect(probed and 10 < probed <= 60, f"wanted a silent server to be probed within a minute, got {probed}")
     terminal.leave()
-
-
-@case
-def keys_before_it_are_sent(world):
-    listener, terminal = at_terminal(world)
-    terminal.type(b"exit\r\x1dqgone")
-    terminal.end()
-    expect(b"not sent" not in terminal.shown, "something is told that was not sent")
-    expect_same(b"exit\r\0", listener.read_rest(), "what the server got")
 
 
 @case(each={"at once": (b"",), "after a command": (b"\x1dby",)})
@@ -160,14 +145,6 @@ def it_can_be_stopped_by_a_key(world):
 
 
 @case
-def the_escape_character_twice_is_one_key(world):
-    listener, terminal = at_terminal(world)
-    terminal.type(b"a\x1d\x1db\r")
-    listener.read_until(b"a\x1db\r")
-    terminal.leave()
-
-
-@case
 def a_monitor_that_waits_for_brk_is_reached(world):
     listener, terminal = at_terminal(world)
     listener.send(bytes([IAC, WILL, 1, IAC, WILL, 3]) + ASKS_SIZE)
@@ -177,24 +154,6 @@ def a_monitor_that_waits_for_brk_is_reached(world):
     listener.send(b"monitor> ")
     terminal.see(b"\r\nmonitor> ")
     terminal.leave()
-
-
-@case
-def commands_are_sent_in_their_place_among_the_keys(world):
-    listener, terminal = at_terminal(world)
-    terminal.type(b"abc\x1dbdef\x1di\x1da\x1d\x1d\x1db\x1dbg\r")
-    listener.read_until(b"g\r\0")
-    wanted = b"abc" + bytes([IAC, BRK]) + b"def" + bytes([IAC, IP, IAC, AYT]) + b"\x1d" + bytes([IAC, BRK] * 2) + b"g\r\0"
-    expect_same(wanted, listener.got, "what the server got")
-    terminal.leave()
-
-
-@case
-def a_command_before_it_leaves_is_sent(world):
-    listener, terminal = at_terminal(world)
-    terminal.type(b"ab\x1di\x1dq")
-    terminal.end()
-    expect_same(b"ab" + bytes([IAC, IP]), listener.read_rest(), "what the server got")
 
 
 def typed_to_ours(world, is_local, *steps, client=(), **settings):
@@ -235,35 +194,43 @@ def the_terminals_own_characters_are_taken(world, is_local):
     expect(b"\r\nac\r\n" not in shown, "with standard keys the terminal's ERASE erases")
 
 
-@case
-def each_of_its_characters_is_the_standard_one(world):
-    own = {termios.VINTR: b"1", termios.VQUIT: b"2", termios.VSUSP: b"3", termios.VERASE: b"4", termios.VKILL: b"5", termios.VEOF: b"6"}
-    listener, terminal = at_terminal(world, characters=own)
-    terminal.type(b"123456\x1d\x1d.")
+ESCAPED = bytes([IAC, BRK])
+
+
+@case(each={
+    "the escape character twice": (b"a\x1d\x1db.", b"a\x1db."),
+    "commands among keys": (b"abc\x1dbdef\x1di\x1da\x1d\x1d\x1db\x1dbg.", b"abc" + ESCAPED + b"def" + bytes([IAC, IP, IAC, AYT]) + b"\x1d" + 2 * ESCAPED + b"g."),
+    "an unknown command": (b"a\x1dxb.", b"ab."),
+    "another escape character": (b"\x1dq\x01b.", b"\x1dq" + ESCAPED + b".", {}, "--escape", "^A"),
+    "no escape character": (b"\x1dq.", b"\x1dq.", {}, "--escape", "none"),
+    "own characters": (b"123456\x1d\x1d.", b"\x03\x1c\x1a\x7f\x15\x04\x1d.", {
+        termios.VINTR: b"1", termios.VQUIT: b"2", termios.VSUSP: b"3", termios.VERASE: b"4", termios.VKILL: b"5", termios.VEOF: b"6"}),
+    "own characters that are taken otherwise": (b"\x1d\x1d\x1dbb.", b"\x1d" + ESCAPED + b"\x7f.", {
+        termios.VQUIT: b"\x1d", termios.VERASE: b"b", termios.VKILL: b"\x00", termios.VINTR: b"q"}),
+    "characters that are never taken": (b"a\r\n\xffx\x00.", b"a\r\0\n\xff\xff\x1c\x00.", {
+        termios.VERASE: b"\r", termios.VKILL: b"\n", termios.VINTR: b"\xff", termios.VEOF: b"\x00", termios.VQUIT: b"x", termios.VSUSP: b"x"})})
+def what_is_typed_is_sent_of(world, keys, wanted, characters=None, *words):
+    listener, terminal = at_terminal(world, *words, characters=characters)
+    terminal.type(keys)
     listener.read_until(b".")
-    expect_same(b"\x03\x1c\x1a\x7f\x15\x04\x1d.", listener.got, "what the server got")
-    terminal.see_state(b"your own keys: intr 1, quit 2, susp 3, erase 4, kill 5, eof 6\r\n")
-    terminal.leave()
+    expect_same(wanted, listener.got, "what the server got")
+    if b"\x1dx" in keys:
+        terminal.see(b"unknown")
+
+
+@case(each={"keys": (b"exit\r\x1dqgone", b"exit\r\0"), "a command": (b"ab\x1di\x1dq", b"ab" + bytes([IAC, IP]))})
+def what_is_typed_before_it_leaves_is_sent(world, keys, wanted):
+    listener, terminal = at_terminal(world)
+    terminal.type(keys)
+    terminal.end()
+    expect(b"not sent" not in terminal.shown, "something is told that was not sent")
+    expect_same(wanted, listener.read_rest(), "what the server got")
 
 
 @case
-def the_escape_character_comes_first(world):
-    own = {termios.VQUIT: b"\x1d", termios.VERASE: b"b", termios.VKILL: b"\x00", termios.VINTR: b"q"}
-    listener, terminal = at_terminal(world, characters=own)
-    terminal.type(b"\x1d\x1d\x1dbb.")
-    listener.read_until(b".")
-    expect_same(b"\x1d" + bytes([IAC, BRK]) + b"\x7f.", listener.got, "what the server got")
-    terminal.leave()
-
-
-@case
-def some_characters_are_never_taken(world):
-    own = {termios.VERASE: b"\r", termios.VKILL: b"\n", termios.VINTR: b"\xff", termios.VEOF: b"\x00", termios.VQUIT: b"x", termios.VSUSP: b"x"}
-    listener, terminal = at_terminal(world, characters=own)
-    terminal.type(b"a\r\n\xffx\x00.")
-    listener.read_until(b".")
-    expect_same(b"a\r\0\n\xff\xff\x1c\x00.", listener.got, "what the server got")
-    terminal.leave()
+def the_state_has_the_terminals_own_characters(world):
+    _, terminal = at_terminal(world, characters={termios.VINTR: b"1", termios.VERASE: b"4"})
+    terminal.see_state(b"your own keys: intr 1, erase 4\r\n")
 
 
 @case
@@ -304,31 +271,6 @@ def the_state_says_who_edits_and_echoes(world, words, *texts):
     listener.settle()
     terminal.type(b"\x1ds", *texts)
     terminal.leave()
-
-
-@case
-def another_key_is_unknown(world):
-    _, terminal = at_terminal(world)
-    terminal.type(b"\x1dx", b"unknown")
-    terminal.leave()
-
-
-@case
-def another_escape_character_is_taken(world):
-    listener, terminal = at_terminal(world, "--escape", "^A")
-    terminal.type(b"\x1dq\r")
-    listener.read_until(b"\x1dq\r")
-    terminal.type(b"\x01q")
-    terminal.end()
-
-
-@case
-def no_escape_character_is_taken(world):
-    listener, terminal = at_terminal(world, "--escape", "none")
-    terminal.type(b"\x1dq\r")
-    listener.read_until(b"\x1dq\r")
-    listener.close()
-    terminal.end()
 
 
 def told_sizes(terminal):
@@ -403,14 +345,6 @@ def a_write_that_fails_ends_it(world):
     terminal.type(b"x")
     terminal.end(3)
     terminal.see(b"tn: session\r\ntn: sending failed: Broken pipe")
-
-
-@case
-def a_server_that_closes_ends_it(world):
-    listener, terminal = at_terminal(world)
-    listener.send(b"bye\r\n")
-    listener.close()
-    terminal.end()
 
 
 def by_server(listener, _):

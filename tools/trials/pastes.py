@@ -54,8 +54,9 @@ def pasted(world, port, count, edits):
     return user.end()
 
 
-@case
-def a_peer_that_reads_late_gets_each_answer(world, count=2_000):
+@case(**LONG, each={"60,000": (60_000,)})
+@case(each={"2,000": (2_000,)})
+def a_peer_that_reads_late_gets_each_answer(world, count):
     serving = Serving(world)
     peer = Peer(world, serving.port, opening=NO_GO_AHEAD)
     peer.send(keys(count).replace(b"\r", b"\r\0"))
@@ -63,31 +64,25 @@ def a_peer_that_reads_late_gets_each_answer(world, count=2_000):
     serving.end()
 
 
-@case
-def each_line_of_a_paste_is_answered_by_a_server_that_edits(world, count=2_000):
+@case(**LONG, each={"1,000,000": (1_000_000,)})
+@case(each={"2,000": (2_000,)})
+def each_line_of_a_paste_is_answered_by_a_server_that_edits(world, count):
     serving = Serving(world)
     expect_whole_answers(pasted(world, serving.port, count, "server"), count)
     serving.end()
 
 
-@case
-def each_line_of_a_paste_is_answered_if_the_client_edits(world, count=2_000):
+@case(**LONG, each={"100,000": (100_000,)})
+@case(each={"2,000": (2_000,)})
+def each_line_of_a_paste_is_answered_if_the_client_edits(world, count):
     serving = Serving(world, "--local")
     expect_cut_answers(pasted(world, serving.port, count, "client"), count)
     serving.end()
 
 
-@case
-def each_line_is_answered_through_small_buffers(world, count=2_000):
+@case(**LONG, each={"3,571,428": (3_571_428,)})
+@case(each={"2,000": (2_000,)})
+def each_line_is_answered_through_small_buffers(world, count):
     serving = Serving(world)
     expect_whole_answers(pasted(world, Relay(serving.port, buffers=4_096).port, count, "server"), count)
     serving.end()
-
-
-@case(**LONG, each={
-    "60,000 to a peer that reads late": (a_peer_that_reads_late_gets_each_answer, 60_000),
-    "1,000,000 by a server that edits": (each_line_of_a_paste_is_answered_by_a_server_that_edits, 1_000_000),
-    "100,000 by a server if the client edits": (each_line_of_a_paste_is_answered_if_the_client_edits, 100_000),
-    "3,571,428 through small buffers": (each_line_is_answered_through_small_buffers, 50_000_000 // len(b"line 0000000\r"))})
-def each_of_many_lines_is_answered(world, show, count):
-    show(world, count)

@@ -201,17 +201,13 @@ def redis_answers_a_line_from_a_pipe(world):
     expect_same(b"+PONG\r\n", run.stdout, "what was shown")
 
 
-@case(each={"of 20,000": (20_000,)})
+@case(long=True, seconds=1_200, each={"1,000,000": (MANY,)})
+@case(each={"20,000": (20_000,)})
 def each_of_many_lines_is_answered(world, count):
     data = b"".join(b"line %d\n" % n for n in range(count))
     got, shown, *_ = from_pipe(world, answering, data)
     expect_same(data.replace(b"\n", b"\r\n"), got, "what went")
     expect_same(b"".join(b"got line %d\n" % n for n in range(count)) + b"farewell\n", shown, "what was shown")
-
-
-@case(long=True, seconds=1_200)
-def each_of_a_million_lines_is_answered(world):
-    each_of_many_lines_is_answered(world, MANY)
 
 
 @case(long=True, alone=True, seconds=1_200, wants=["nc.openbsd"])

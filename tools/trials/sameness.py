@@ -242,8 +242,10 @@ def difference(world, port, seed):
         "  entries of tn local:", *entries, f"  answers {wanted.answers.hex()}", f"  screen {screen.hex()}"])
 
 
-def run_seeds(world, seeds):
-    """Sessions of these seeds; those of odd ones at a server with --local."""
+@case(long=True, seconds=3_600, each={"1000 sessions": (range(51, 1_051),)})
+@case(seconds=600, each={"50 sessions": (range(1, 51),)})
+def lines_of_random_keys_are_those_of_one_terminal(world, seeds):
+    """Sessions of odd seeds are at a server with --local."""
     servings = [Serving(world, "--limit", "64", "--count", sum(seed % 2 == side for seed in seeds), *["--local"] * side) for side in (0, 1)]
     with concurrent.futures.ThreadPoolExecutor(AT_ONCE) as pool:
         done = list(pool.map(lambda seed: difference(world, servings[seed % 2].port, seed), seeds))
@@ -253,13 +255,3 @@ def run_seeds(world, seeds):
     for serving in servings:
         serving.end()
     return f"  {len(done)} sessions with {sum(keys for keys, _ in done)} keys"
-
-
-@case(seconds=600)
-def lines_of_50_sessions_are_those_of_one_terminal(world):
-    return run_seeds(world, range(1, 51))
-
-
-@case(long=True, seconds=3_600)
-def lines_of_1000_sessions_are_those_of_one_terminal(world):
-    return run_seeds(world, range(51, 1_051))

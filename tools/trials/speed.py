@@ -17,7 +17,6 @@ from world import NotTried, case, expect_same, free_port, status_of
 
 SPEED = os.path.join(basics.TOP, "tools", "speed")
 SESSIONS = 64
-TIMES = 400
 PASS_SECONDS = 300
 
 
@@ -78,18 +77,14 @@ def told(passes, what):
         yield f"  {first}: {wall:.2f} times {name} a second, {used:.2f} times a processor second"
 
 
-@case(each={"lines": ("lines", 1, 20, ()), "keys": ("keys", 1, 20, ())}, wants=["cc"])
-def all_of_64_sessions_are_answered(world, what, count, times, forms):
+@case(long=True, alone=True, seconds=3_600, wants=["cc"], each={
+    "lines, next to C": ("lines", 7, 400, "mailbox"), "keys, next to C": ("keys", 7, 400, "mailbox"),
+    "lines, next to all forms": ("lines", 7, 400, "mailbox", "lock", "one")})
+@case(wants=["cc"], each={"lines": ("lines", 1, 20), "keys": ("keys", 1, 20)})
+def all_of_64_sessions_are_answered(world, what, count, times, *forms):
     programs = compiled(world, "soak"), compiled(world, "line_server", "-ltelnet") if forms else None
-    kind = ["keys"] * (what == "keys")
     passes = {form: [] for form in ("tn serve", *forms)}
     for _ in range(count):
         for form, done in passes.items():
-            done.append(run_pass(world, form, programs, times, kind))
+            done.append(run_pass(world, form, programs, times, ["keys"] * (what == "keys")))
     return "\n".join([machine(), *told(passes, what)])
-
-
-@case(long=True, alone=True, seconds=3_600, wants=["cc"], each={
-    "lines": ("lines", ("mailbox",)), "keys": ("keys", ("mailbox",)), "lines, all forms": ("lines", ("mailbox", "lock", "one"))})
-def sessions_are_answered_as_fast_as_by_a_server_in_c(world, what, forms):
-    return all_of_64_sessions_are_answered(world, what, 7, TIMES, forms)
