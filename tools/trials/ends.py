@@ -52,15 +52,14 @@ class Serving:
     def files(self):
         return os.listdir(f"/proc/{self.process.pid}/fd")
 
-    def has_sanitizer(self):
-        """Whether it was built to find faults of memory, as one without proofs is."""
-        with open(f"/proc/{self.process.pid}/maps", encoding="ascii") as maps:
-            return "asan" in maps.read()
-
-    def memory(self):
-        """The memory that it holds, in kB."""
+    def memory(self, kind="VmRSS"):
+        """The memory that it holds, in kB, or that of another kind."""
         with open(f"/proc/{self.process.pid}/status", encoding="ascii") as status:
-            return int(re.search(r"VmRSS:\s+(\d+) kB", status.read())[1])
+            return int(re.search(kind + r":\s+(\d+) kB", status.read())[1])
+
+    def has_sanitizer(self):
+        """Whether it was built to find faults of memory, as one without proofs is: that takes terabytes of addresses."""
+        return self.memory("VmSize") > 10**9
 
 
 def without_time(line):

@@ -48,7 +48,8 @@ def answering_the_second(service, _):
         answering(service, other)
 
 
-@case(each={f"{cut} {editor}": (cut, *words) for cut in ("send", "end") for editor, words in (("at the server", ()), ("at the client", ("--local",)))})
+@case(each={"sent by a server that edits": ("send",), "sent by a client that edits": ("send", "--local"),
+            "not sent by a server that edits": ("end",), "not sent by a client that edits": ("end", "--local")})
 def a_line_that_is_too_long_is_noted(world, ending, *words):
     service, serving = joined(world, answering_the_second, "--verbose", "--line-cut", ending, "--count", "2", *words)
     first = peer_of(world, serving).is_served()
@@ -178,8 +179,8 @@ def an_interrupt_ends_a_session_whose_service_goes_on(world, key):
 def a_service_that_cannot_be_reached_is_told(world):
     serving = Serving(world, "--to", f"127.0.0.1:{free_port()}")
     expect_in_order(peer_of(world, serving).read_to_end(), b"the service cannot be reached\r\n")
-    lines = serving.end(None).splitlines()
-    expect(len(lines) == 1 and re.search(rb" ended: service not reached: 127\.0\.0\.1:\d+: Connection refused", lines[0]), f"told is {lines}")
+    told = serving.end(None)
+    expect(re.search(rb"\A[^\n]* ended: service not reached: 127\.0\.0\.1:\d+: Connection refused[^\n]*\n\Z", told), f"told is {told!r}")
 
 
 @case(each={"nothing": (b"",), "a line": (b"so long\n",), "20,000 lines": (b"".join(b"line %d\n" % n for n in range(20_000)),)})
@@ -274,9 +275,9 @@ def each_edited_line_goes_to_a_service_that_reads_late(world, count, *words):
     within(2, lambda: not typing.is_alive())
     service.go_on.set()
     typing.join()
+    expect_same(text.replace(b"\r", b"\n"), service.end(), "what the service got")
     user.screen.wait_for(b"bye\r\n")
     user.end()
-    expect_same(text.replace(b"\r", b"\n"), service.end(), "what the service got")
     serving.end()
 
 
@@ -332,8 +333,10 @@ def socat_answers(world):
 def redis_answers(world, *words):
     serving = Serving(world, "--to", f"127.0.0.1:{services.start_redis(world)}", *words)
     user = User(world, serving.port, edits=editing(words))
-    for keys, answer in ((b"PINNG\x7f\x7fG\r", b"+PONG\r\n"), (b"SET key value\r", b"+OK\r\n"), (b"GET key\r", b"$5\r\nvalue\r\n"), (b"QUIT\r", b"+OK\r\n")):
-        user.type(keys, answer)
+    user.type(b"PINNG\x7f\x7fG\r", b"+PONG\r\n")
+    user.type(b"SET key value\r", b"+OK\r\n")
+    user.type(b"GET key\r", b"$5\r\nvalue\r\n")
+    user.type(b"QUIT\r", b"+OK\r\n")
     user.end()
     serving.end()
 

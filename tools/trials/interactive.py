@@ -187,7 +187,8 @@ def at_a_served_terminal_brk_and_ip_do_what_the_key_does(world, is_local):
 @case(each=EDITED_AT)
 def the_terminals_own_characters_are_taken(world, is_local):
     own = {termios.VERASE: b"\x08", termios.VINTR: b"\x18", termios.VKILL: b"\x03", termios.VEOF: b"\x05"}
-    for keys, wanted in ((b"ab\x08c\r", b"\r\nac\r\n"), (b"ab\x18", b"int\r\n"), (b"ab\x03cd\r", b"\r\ncd\r\n"), (b"ab\x7fc\r", b"\r\nac\r\n")):
+    for keys, wanted in ((b"ab\x08c\r", b"\r\nac\r\n"), (b"ab\x18", b"int\r\n"), (b"ab\x03cd\r", b"\r\ncd\r\n"),
+                         (b"ab\x7fc\r", b"\r\nac\r\n")):
         shown = typed_to_ours(world, is_local, (keys, wanted), characters=own)
         expect(keys == b"ab\x18" or b"int" not in shown, f"{keys!r} interrupts")
     shown = typed_to_ours(world, is_local, (b"ab\x08c\r", b"\r\nab\x08c\r\n"), client=["--keys", "standard"], characters=own)
@@ -199,7 +200,8 @@ ESCAPED = bytes([IAC, BRK])
 
 @case(each={
     "the escape character twice": (b"a\x1d\x1db.", b"a\x1db."),
-    "commands among keys": (b"abc\x1dbdef\x1di\x1da\x1d\x1d\x1db\x1dbg.", b"abc" + ESCAPED + b"def" + bytes([IAC, IP, IAC, AYT]) + b"\x1d" + 2 * ESCAPED + b"g."),
+    "commands among keys": (b"abc\x1dbdef\x1di\x1da\x1d\x1d\x1db\x1dbg.",
+                            b"abc" + ESCAPED + b"def" + bytes([IAC, IP, IAC, AYT]) + b"\x1d" + 2 * ESCAPED + b"g."),
     "an unknown command": (b"a\x1dxb.", b"ab."),
     "another escape character": (b"\x1dq\x01b.", b"\x1dq" + ESCAPED + b".", {}, "--escape", "^A"),
     "no escape character": (b"\x1dq.", b"\x1dq.", {}, "--escape", "none"),
@@ -363,7 +365,8 @@ def by_kill(_, terminal):
     os.kill(terminal.launcher(), signal.SIGKILL)
 
 
-@case(each={"by keys": (by_keys, False), "by the server": (by_server, False), "by a hang-up": (by_hang_up, False), "by a kill": (by_kill, True)})
+@case(each={"by keys": (by_keys, False), "by the server": (by_server, False), "by a hang-up": (by_hang_up, False),
+            "by a kill": (by_kill, True)})
 def nothing_is_left_at_any_end(world, end, shell):
     folder = world.path("temporary")
     os.mkdir(folder)

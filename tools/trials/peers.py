@@ -13,7 +13,7 @@ import basics
 from ends import Relay, Serving, User
 from services import Service, instrument, listened, start_redis, start_smtpd, strict_mail
 from terminal import Console, Terminal
-from world import NotTried, case, expect_in_order, expect_same, free_port, wait_until, within
+from world import NotTried, case, expect_in_order, expect_same, free_port, status_of, wait_until
 
 TYPED = [b"helo\x7flo\r", b"\x03", b"exit\r"]
 
@@ -34,8 +34,8 @@ def with_port(words, port):
 CLIENTS = {
     "telnet-remote": (TYPED, "hello|int|bye|Connection closed", "telnet 127.0.0.1 PORT"),
     "telnet-local": (TYPED, "hello|^Cint|bye|Connection closed", "telnet 127.0.0.1 PORT"),
-    "telnet-status-local": ([b"\x1dstatus\r", b"\r", b"exit\r"], "Operating with LINEMODE option|Local line editing|Local catching of signals|bye",
-                            "telnet 127.0.0.1 PORT"),
+    "telnet-status-local": ([b"\x1dstatus\r", b"\r", b"exit\r"],
+                            "Operating with LINEMODE option|Local line editing|Local catching of signals|bye", "telnet 127.0.0.1 PORT"),
     "plink-remote": (TYPED, "hello|int|bye", "plink -telnet -P PORT 127.0.0.1"),
     "plink-local": (TYPED, "hello|int|bye", "plink -telnet -P PORT 127.0.0.1"),
     "busybox-remote": (TYPED, "Entering character mode|hello|int|bye", "busybox telnet 127.0.0.1 PORT"),
@@ -64,7 +64,8 @@ def our_server_has_a_client(world, name, typed, wanted, words):
         console.type(keys)
     console.collected.wait_for(b"bye")
     serving.end()
-    within(5, lambda: console.process.poll() is not None)
+    status_of(console.process, words)
+    console.catch_up()
     expect_in_order(cleaned(console.shown), *wanted.encode().split(b"|"))
 
 
@@ -94,7 +95,7 @@ def our_server_has_a_program(world, words, text, side):
 # The opening words of a router's console (IOS: WILL ECHO, WILL SUPPRESS-GO-AHEAD, DO TERMINAL-TYPE, DO NAWS), byte by byte; then
 # what the client sent, in hexadecimal.
 ROUTER = r"""printf '\377\373\001\377\373\003\377\375\030\377\375\037\r\n\r\nUser Access Verification\r\n\r\nUsername: '
-printf 'sent %s\r\n' "$(timeout 8 head -c 29 | od -An -v -tx1 | tr -d '\n')"
+printf 'sent %s\r\n' "$(timeout 60 head -c 28 | od -An -v -tx1 | tr -d '\n')"
 """
 SENT = "Username: sent  ff fd 01 ff fd 03 ff fc 18 ff fb 1f ff fa 1f 00 50 00 18 ff f0 61 64 6d 69 6e 0d 00"
 LISTEN = "socat TCP-LISTEN:PORT,reuseaddr"
@@ -103,7 +104,8 @@ SERVERS = {
     "telnetd": ("/usr/sbin/telnetd", HELLO, "hello|hello", f"{LISTEN} EXEC:/usr/sbin/telnetd\u00a0-h\u00a0-E\u00a0/bin/cat,nofork"),
     "telnetd-interrupt": ("/usr/sbin/telnetd", [b"hi\r", b"a", b"\x03", b"\x04"], "hi|hi|a",
                           f"{LISTEN} EXEC:/usr/sbin/telnetd\u00a0-h\u00a0-E\u00a0/bin/cat,nofork"),
-    "netkit-telnetd": ("/usr/sbin/in.telnetd", HELLO, "hello|hello", f"{LISTEN} EXEC:/usr/sbin/in.telnetd\u00a0-z\u00a0nossl\u00a0-h\u00a0-L\u00a0FOLDER/login,nofork"),
+    "netkit-telnetd": ("/usr/sbin/in.telnetd", HELLO, "hello|hello",
+                       f"{LISTEN} EXEC:/usr/sbin/in.telnetd\u00a0-z\u00a0nossl\u00a0-h\u00a0-L\u00a0FOLDER/login,nofork"),
     "busybox-telnetd": ("busybox", HELLO, "hello|hello", "busybox telnetd -F -p PORT -l /bin/cat"),
     "procserv": ("procServ", [*HELLO, b"\x11"], "Welcome to procServ|hello|hello", "procServ -f -q -L - --noautorestart PORT /bin/cat"),
     "cisco": ("od", [b"admin\r"], f"User Access Verification|{SENT}", f"{LISTEN} SYSTEM:bash\u00a0FOLDER/router"),
@@ -153,12 +155,14 @@ def stand_in(talk):
 
 MAIL = ([b"HELO there\n", b"QUIT\n"], [(b"220 ", b"HELO three\x7f\x7fre\r"), (b"250 ", b"QUIT\r")], "220 |250 |221 ")
 SERVICES = {
-    "plain-redis": (["redis-server"], constant(start_redis), [], [b"PING\n"], [(b"Connected", b"PNG\r"), (b"-ERR", b"PINNG\x7f\x7fG\r"), (b"+PONG", b"half\x03"),
-                                                                    (b"^C", b"\x04")], "+PONG"),
+    "plain-redis": (["redis-server"], constant(start_redis), [], [b"PING\n"],
+                    [(b"Connected", b"PNG\r"), (b"-ERR", b"PINNG\x7f\x7fG\r"), (b"+PONG", b"half\x03"), (b"^C", b"\x04")], "+PONG"),
     "plain-smtpd": (["smtpd"], constant(start_smtpd), [], *MAIL),
     "plain-mail": ([], stand_in(strict_mail), [], *MAIL),
-    "plain-instrument": ([], stand_in(instrument), ["--lf"], [b"*IDN?\n"], [(b"Connected", b"*IDDN\x7f\x7fN?\r"), (b"MAKER", b"\x04")], "MAKER,MODEL"),
-    "plain-nc": (["nc.openbsd"], constant(start_nc), [], [b"a\nb\rc\r\nhalf"], [(b"from nc", b"helo\x7flo\r"), (b"lo", b"half\x03"), (b"^C", b"\x04")], "from nc")}
+    "plain-instrument": ([], stand_in(instrument), ["--lf"], [b"*IDN?\n"],
+                         [(b"Connected", b"*IDDN\x7f\x7fN?\r"), (b"MAKER", b"\x04")], "MAKER,MODEL"),
+    "plain-nc": (["nc.openbsd"], constant(start_nc), [], [b"a\nb\rc\r\nhalf"],
+                 [(b"from nc", b"helo\x7flo\r"), (b"lo", b"half\x03"), (b"^C", b"\x04")], "from nc")}
 
 
 @case(each=SERVICES)
@@ -191,9 +195,9 @@ def make_certificate(world, name, signing=None):
     if signing:
         signed = ["-addext", "basicConstraints=critical,CA:FALSE", "-addext", f"subjectAltName=DNS:{name}",
                   "-CA", world.path(f"{signing}.crt"), "-CAkey", world.path(f"{signing}.key")]
-    subprocess.run(["openssl", "req", "-x509", "-config", world.path("openssl.cnf"), "-subj", f"/CN={name}", "-days", "2", *signed, "-newkey", "ec",
-                    "-pkeyopt", "ec_paramgen_curve:P-256", "-nodes", "-keyout", world.path(f"{name}.key"), "-out", world.path(f"{name}.crt")],
-                   check=True, capture_output=True)
+    subprocess.run(["openssl", "req", "-x509", "-config", world.path("openssl.cnf"), "-subj", f"/CN={name}", "-days", "2", *signed,
+                    "-newkey", "ec", "-pkeyopt", "ec_paramgen_curve:P-256", "-nodes", "-keyout", world.path(f"{name}.key"),
+                    "-out", world.path(f"{name}.crt")], check=True, capture_output=True)
     with open(world.path(f"{name}.pem"), "wb") as both:
         for end in ("key", "crt"):
             with open(world.path(f"{name}.{end}"), "rb") as part:
@@ -272,8 +276,8 @@ class Ssh:
     def enter(self, inner, who):
         key, knows = ("other" if who == "stranger" else "user"), ("other" if who == "misled" else "host")
         return self.world.start("ssh", "-F", "none", "-N", "-L", f"127.0.0.1:{inner}:127.0.0.1:{self.port}", "-p", self.outer,
-                                "-i", self.world.path(key), "-o", "IdentitiesOnly=yes", "-o", "BatchMode=yes", "-o", "StrictHostKeyChecking=yes",
-                                "-o", f"UserKnownHostsFile={self.world.path(f'knows-{knows}')}", "127.0.0.1")
+                                "-i", self.world.path(key), "-o", "IdentitiesOnly=yes", "-o", "BatchMode=yes",
+                                "-o", "StrictHostKeyChecking=yes", "-o", f"UserKnownHostsFile={self.world.path(f'knows-{knows}')}", "127.0.0.1")
 
 
 def what_comes(port):

@@ -66,7 +66,7 @@ def some_keys(chance):
 
 
 def echo_and_closing(keys):
-    """The echo of each key at a terminal with standard settings, the places of the keys that give an entry, and how much is left of a line."""
+    """The echo of each key at a terminal with standard settings, the places of the keys that give an entry, and the length of the last line."""
     held, echo, closing = 0, [], []
     for place, key in enumerate(keys):
         shown = b""

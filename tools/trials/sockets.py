@@ -1,4 +1,5 @@
 """The sockets of a process, as the system knows them."""
+import contextlib
 import ctypes
 import os
 import socket
@@ -18,10 +19,13 @@ def shared(process, descriptor):
 
 
 def sockets_of(number):
-    """The sockets of the process with this number, which are shared with it."""
+    """The sockets of the process with this number, which are shared with it; one that it closes just now is left out."""
     process = os.pidfd_open(number)
-    names = [name for name in os.listdir(f"/proc/{number}/fd") if os.readlink(f"/proc/{number}/fd/{name}").startswith("socket:")]
-    sockets = [socket.socket(fileno=shared(process, int(name))) for name in names]
+    sockets = []
+    for name in os.listdir(f"/proc/{number}/fd"):
+        with contextlib.suppress(OSError):
+            if os.readlink(f"/proc/{number}/fd/{name}").startswith("socket:"):
+                sockets.append(socket.socket(fileno=shared(process, int(name))))
     os.close(process)
     return sockets
 

@@ -3,12 +3,10 @@ import fcntl
 import os
 import pty
 import select
-import signal
 import struct
 import termios
 import time
 
-import basics
 from ends import Listener
 from world import PATIENCE, Collected, expect, expect_same, parents, status_of, wait_until
 
@@ -18,6 +16,10 @@ SHELL = ["bash", "-m", "-c", """
 "$@"; status=$?
 while [[ -n $(jobs -s) ]]; do echo stopped; read -r _; fg >/dev/null; status=$?; done
 echo "ended with $status"; read -r _""", "shell"]
+
+
+# What no program shows.
+MARK = b"\0mark\0"
 
 
 def state_of(number):
@@ -92,6 +94,12 @@ class Console:
     def see(self, *texts):
         self.collected.wait_for(*texts)
 
+    def catch_up(self):
+        """Reads all that was shown: a mark that is shown after it has come."""
+        os.write(self.slave, MARK)
+        self.see(MARK)
+        del self.shown[-len(MARK):]
+
     def is_set_back(self):
         return termios.tcgetattr(self.slave) == self.before
 
@@ -141,6 +149,7 @@ class Terminal(Console):
     def end(self, status=0):
         """It has ended with this status, and has set the terminal back."""
         expect_same(status, status_of(self.process, "the launcher"), "the status of the launcher")
+        self.catch_up()
         expect(self.is_set_back(), "the terminal is not set back")
 
     def leave(self):
@@ -155,4 +164,6 @@ def at_terminal(world, *words, **settings):
     terminal = Terminal(world, "--port", listener.port, *words, **settings)
     listener.accept()
     terminal.gets_raw()
+    if "--quiet" not in words and "errors" not in settings:
+        terminal.see(b"Connected to")
     return listener, terminal

@@ -204,8 +204,10 @@ class Collected:
         self.thread.join()
 
     def wait_for(self, *texts, after=0):
+        """Waits for all of these texts, as long as more comes."""
         for text in texts:
-            wait_until(lambda: self.bytes.find(text, after) >= 0, f"{text!r} in {shortened(bytes(self.bytes[after:]))}, and it does not come")
+            wait_while_more(lambda: len(self.bytes), lambda: self.bytes.find(text, after) >= 0)
+            expect(self.bytes.find(text, after) >= 0, f"wanted {text!r}, got {shortened(bytes(self.bytes[after:]))}")
 
     def all(self):
         """All that came, once its end has; it goes on waiting as long as more comes."""
