@@ -131,14 +131,16 @@ def free_port():
 
 
 def parents():
-    """The parent of each process."""
+    """The parent of each process that has not ended."""
     found = {}
     for number in filter(str.isdigit, os.listdir("/proc")):
         try:
             with open(f"/proc/{number}/stat", "rb") as stat:
-                found[int(number)] = int(stat.read().rpartition(b")")[2].split()[1])
+                state, parent = stat.read().rpartition(b")")[2].split()[:2]
         except OSError:
             continue
+        if state != b"Z":
+            found[int(number)] = int(parent)
     return found
 
 
@@ -161,12 +163,6 @@ def end_descendants(number):
                 os.kill(child, signal.SIGKILL)
             except ProcessLookupError:
                 continue
-        while number == os.getpid():
-            try:
-                if os.waitpid(-1, os.WNOHANG)[0] == 0:
-                    break
-            except ChildProcessError:
-                break
         time.sleep(0.01)
 
 
