@@ -1,6 +1,5 @@
 """How a connection ends at either side: who hears of an end, who may still say something, and with which status."""
 import contextlib
-import os
 import subprocess
 import threading
 import time
@@ -110,10 +109,3 @@ def a_long_paste_goes_whole_to_a_server(world, is_late):
     typing.join()
     screen.all()
     expect_same((0, b""), (status_of(process), told.all()), "the status, and what is told")
-
-
-@case
-def a_trace_that_cannot_be_written_is_told(world):
-    os.mkdir(world.path("folder"))
-    run = world.run("connect", "--port", "1", "--trace", world.path("folder"))
-    expect_same((1, True), (run.returncode, run.stderr.startswith(b"tn: write\n")), "the status, and what is told")

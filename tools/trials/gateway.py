@@ -9,7 +9,7 @@ import services
 from ends import NO_GO_AHEAD, Peer, Serving, User
 from services import Service, answering, answering_returns
 from sockets import sockets_of, unread
-from world import NotTried, case, expect, expect_in_order, expect_same, free_port, status_of, wait_until, within
+from world import NotTried, case, expect, expect_in_order, expect_same, free_port, wait_until, within
 
 
 def joined(world, talk, *words, **settings):
@@ -316,37 +316,26 @@ def megabytes_that_a_user_does_not_read_take_no_memory(world, megabytes):
     serving.end()
 
 
-@case(wants=["socat"])
-def socat_answers(world):
+def start_socat(world):
     port = free_port()
-    service = world.start("socat", f"TCP-LISTEN:{port},bind=127.0.0.1", "EXEC:cat")
-    serving = Serving(world, "--to", f"127.0.0.1:{services.listened(port)}")
-    user = User(world, serving.port, edits="server")
-    user.type(b"helo\x7flo\r", b"lo\r\nhello\r\n")
-    user.type(b"\x04")
-    user.end()
-    serving.end()
-    status_of(service, "socat")
+    world.start("socat", f"TCP-LISTEN:{port},bind=127.0.0.1", "EXEC:cat")
+    return services.listened(port)
 
 
-@case(wants=["redis-server"], each={"edited at the server": (), "edited at the client": ("--crlf", "--local")})
-def redis_answers(world, *words):
-    serving = Serving(world, "--to", f"127.0.0.1:{services.start_redis(world)}", *words)
+REDIS = services.start_redis, [(b"PINNG\x7f\x7fG\r", b"+PONG\r\n"), (b"SET key value\r", b"+OK\r\n"), (b"GET key\r", b"$5\r\nvalue\r\n"),
+                               (b"QUIT\r", b"+OK\r\n")]
+SMTPD = services.start_smtpd, [(b"", b"220 "), (b"HELLO\x7f\x7f\x7fLO example.org\r", b"Hello example.org"), (b"NOOPX\x7f\r", b"250 "),
+                               (b"QUIT\r", b"221 ")]
+SOCAT = start_socat, [(b"helo\x7flo\r", b"lo\r\nhello\r\n"), (b"\x04", b"")]
+
+
+@case(wants=["smtpd"], each={"smtpd": (*SMTPD, "--crlf", "--local")})
+@case(wants=["redis-server"], each={"redis-server": REDIS, "redis-server, edited at the client": (*REDIS, "--crlf", "--local")})
+@case(wants=["socat"], each={"socat": SOCAT})
+def another_makers_service_answers(world, start, steps, *words):
+    serving = Serving(world, "--to", f"127.0.0.1:{start(world)}", *words)
     user = User(world, serving.port, edits=editing(words))
-    user.type(b"PINNG\x7f\x7fG\r", b"+PONG\r\n")
-    user.type(b"SET key value\r", b"+OK\r\n")
-    user.type(b"GET key\r", b"$5\r\nvalue\r\n")
-    user.type(b"QUIT\r", b"+OK\r\n")
-    user.end()
-    serving.end()
-
-
-@case(wants=["smtpd"])
-def smtpd_answers(world):
-    serving = Serving(world, "--to", f"127.0.0.1:{services.start_smtpd(world)}", "--crlf", "--local")
-    user = User(world, serving.port, edits="client")
-    user.screen.wait_for(b"220 ")
-    for keys, answer in ((b"HELLO\x7f\x7f\x7fLO example.org\r", b"Hello example.org"), (b"NOOPX\x7f\r", b"250 "), (b"QUIT\r", b"221 ")):
-        user.type(keys, answer)
+    for keys, answer in steps:
+        user.type(keys, answer) if keys else user.screen.wait_for(answer)
     user.end()
     serving.end()

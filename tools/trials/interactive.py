@@ -248,16 +248,6 @@ def help_is_shown_and_not_sent(world):
     terminal.leave()
 
 
-@case
-def the_state_is_shown(world):
-    listener, terminal = at_terminal(world)
-    listener.send(bytes([IAC, WILL, 1]) + b"hello")
-    terminal.see(b"hello")
-    terminal.see_state(b"127.0.0.1", str(listener.port).encode(), b"edited at the other end", b"echo is made at the other end",
-                       b"100 by 40", b"8 bytes came")
-    terminal.leave()
-
-
 @case(each={
     "without LINEMODE": (b"", b"nobody edits lines", b"echo is made here"),
     "a MODE with EDIT": (ASKS_LINEMODE + mode(3), b"lines are edited here", b"echo is made here"),
@@ -265,8 +255,10 @@ def the_state_is_shown(world):
     "a MODE without LINEMODE": (mode(1), b"nobody edits lines", b"echo is made here"),
     "LINEMODE that ended": (ASKS_LINEMODE + mode(1) + bytes([IAC, DONT, LINEMODE]), b"nobody edits lines"),
     "a MODE that acknowledges": (ASKS_LINEMODE + mode(5), b"lines are edited at the other end"),
+    "ECHO": (bytes([IAC, WILL, 1]), b"connected to 127.0.0.1 port ", b"edited at the other end", b"echo is made at the other end",
+             b"100 by 40", b"14 bytes came"),
     "ECHO that ended": (bytes([IAC, WILL, 1, IAC, WONT, 1]), b"nobody edits lines", b"echo is made here")})
-def the_state_says_who_edits_and_echoes(world, words, *texts):
+def the_state_says_what_is_agreed_on_by(world, words, *texts):
     listener, terminal = at_terminal(world)
     listener.send(words + b"hello")
     terminal.see(b"hello")

@@ -15,7 +15,7 @@ import socket
 import time
 
 from ends import IAC, LINEMODE, NO_GO_AHEAD, WILL, Peer, Serving, User, mode
-from world import NotTried, case, expect, expect_in_order, expect_same, wait_until
+from world import NotTried, case, expect, expect_in_order, expect_same
 
 EDITS = mode(1)[:4]
 
@@ -58,7 +58,8 @@ def a_server_has_as_many_sessions_as_its_limit(world, limit, *words):
 def a_job_in_the_background_ticks_as_often_as_asked(world, count, *words):
     serving = Serving(world, *words)
     peer = Peer(world, serving.port, opening=NO_GO_AHEAD).is_served()
-    wait_until(lambda: peer.got.count(b"tick\r\n") >= count or not peer.read_more(20), "all ticks come")
+    expect(peer.read_while(lambda: peer.got.count(b"tick\r\n") < count), "wanted more ticks to come")
+    expect(not peer.read_more(0.5), "something comes after the last tick")
     peer.send(b"one\r\0")
     peer.read_until(b"one\r\n")
     peer.send(b"exit\r\0")

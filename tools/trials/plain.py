@@ -6,8 +6,7 @@ import tempfile
 import termios
 import time
 
-import services
-from services import Service, answering, instrument, listening, strict_mail
+from services import Service, answering, listening, strict_mail
 from terminal import Terminal
 from world import PATIENCE, case, expect, expect_in_order, expect_same
 
@@ -50,18 +49,6 @@ def from_pipe(world, talk, data, *options):
     "a long line": (b"x" * 100_000 + b"\n", b"x" * 100_000 + b"\r\n")})
 def lines_from_a_pipe_go_with_their_ends(world, data, wanted, *options):
     expect_same((wanted, b"bye\n", 0, b""), from_pipe(world, listening, data, *options), "the run")
-
-
-@case
-def mail_is_handed_over(world):
-    got, *run = from_pipe(world, strict_mail, b"HELO me\nNOOP\nQUIT\n")
-    expect_same([b"220 here\r\n250 ok\r\n250 ok\r\n221 bye\r\n", 0, b""], run, "the run")
-    expect(got.endswith(b"QUIT\r\n"), "the last line is lost")
-
-
-@case
-def an_instrument_answers(world):
-    expect_same(b"MAKER,MODEL,1,2\n", from_pipe(world, instrument, b"*IDN?\n", "--lf")[1], "what was shown")
 
 
 @case
@@ -193,12 +180,6 @@ def a_stop_stops_it_and_is_not_sent(world):
     service.wait_for(b"c\r\n")
     terminal.type(b"\x04", b"ended with 0")
     expect(b"\x1a" not in service.end(), "^Z went to the service")
-
-
-@case(wants=["redis-server"])
-def redis_answers_a_line_from_a_pipe(world):
-    run = world.run("connect", "--plain", "127.0.0.1", services.start_redis(world), data=b"PING\n")
-    expect_same(b"+PONG\r\n", run.stdout, "what was shown")
 
 
 @case(long=True, seconds=1_200, each={"1,000,000": (MANY,)})

@@ -1,8 +1,11 @@
 """The sockets of a process, as the system knows them."""
 import contextlib
 import ctypes
+import errno
 import os
 import socket
+
+from world import NotTried
 
 KEEPALIVE = "02"
 
@@ -14,6 +17,8 @@ def shared(process, descriptor):
     """A copy of this descriptor of another process."""
     copied = ctypes.CDLL(None, use_errno=True).syscall(PIDFD_GETFD, process, descriptor, 0)
     if copied < 0:
+        if ctypes.get_errno() in (errno.EPERM, errno.ENOSYS):
+            raise NotTried("this machine does not share the sockets of a process")
         raise OSError(ctypes.get_errno(), f"descriptor {descriptor} cannot be shared")
     return copied
 
