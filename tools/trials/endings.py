@@ -1,4 +1,4 @@
-"""How a connection ends at either side: who hears of an end, who may still say something, and with which status."""
+"""How a connection ends at either side: who gets the end, who may still send, and with which status."""
 import contextlib
 import subprocess
 import threading
@@ -10,15 +10,15 @@ from world import Collected, case, expect, expect_in_order, expect_same, status_
 
 
 def piped(world, *words):
-    """`tn connect` whose keys are a pipe that stays open, and what it shows and tells."""
+    """`tn connect` whose keys are a pipe that stays open, and what it shows and prints."""
     process = world.start(world.program, "connect", *words, bufsize=0, stdin=subprocess.PIPE, stdout=subprocess.PIPE, stderr=subprocess.PIPE)
     return process, Collected(process.stdout.fileno()), Collected(process.stderr.fileno())
 
 
 @case
-def a_server_that_hears_the_end_may_still_answer(world):
+def a_server_that_gets_the_end_may_still_answer(world):
     listener = Listener(world)
-    process, screen, told = piped(world, "--port", listener.port)
+    process, screen, printed = piped(world, "--port", listener.port)
     listener.accept()
     process.stdin.write(b"last\r")
     process.stdin.close()
@@ -28,11 +28,11 @@ def a_server_that_hears_the_end_may_still_answer(world):
     listener.send(b"late\r\n")
     listener.close()
     expect_in_order(screen.all(), b"late\r\n")
-    expect_same((0, b""), (status_of(process), told.all()), "the status, and what is told")
+    expect_same((0, b""), (status_of(process), printed.all()), "the status, and what is printed")
 
 
 @case
-def a_peer_that_was_told_the_end_may_still_send(world):
+def a_peer_that_got_the_end_may_still_send(world):
     def may_send():
         serving = Serving(world)
         peer = Peer(world, serving.port).is_served()
@@ -47,7 +47,7 @@ def a_peer_that_was_told_the_end_may_still_send(world):
             serving.end()
             return True
         return False
-    expect(any(may_send() for _ in range(3)), "who is told the end can send nothing more")
+    expect(any(may_send() for _ in range(3)), "a peer that got the end can send nothing more")
 
 
 @case
@@ -57,23 +57,23 @@ def a_talk_ends_with_its_service_after_the_end_of_the_input(world):
         service.hold()
         connection.sendall(b"farewell\n")
     service = Service(world, talk)
-    process, screen, told = piped(world, "--plain", f"127.0.0.1:{service.port}")
+    process, screen, printed = piped(world, "--plain", f"127.0.0.1:{service.port}")
     process.stdin.write(b"one\nhalf")
     process.stdin.close()
-    wait_until(lambda: service.has_ended, "the service hears the end of the input")
+    wait_until(lambda: service.has_ended, "the service gets the end of the input")
     time.sleep(0.5)  # Nothing is to happen before the service closes.
     expect(process.poll() is None, "it ends before the service has closed")
     service.go_on.set()
-    expect_same((b"farewell\n", 0, b""), (screen.all(), status_of(process), told.all()), "what is shown, the status, and what is told")
+    expect_same((b"farewell\n", 0, b""), (screen.all(), status_of(process), printed.all()), "what is shown, the status, and what is printed")
     expect_same(b"one\r\nhalf", service.end(), "what went")
 
 
 @case
 def a_talk_ends_with_its_service_before_the_end_of_the_input(world):
     service = Service(world, lambda service, connection: (service.read(connection), connection.sendall(b"enough\n")))
-    process, screen, told = piped(world, "--plain", f"127.0.0.1:{service.port}")
+    process, screen, printed = piped(world, "--plain", f"127.0.0.1:{service.port}")
     process.stdin.write(b"one\n")
-    expect_same((b"enough\n", 0, b""), (screen.all(), status_of(process), told.all()), "what is shown, the status, and what is told")
+    expect_same((b"enough\n", 0, b""), (screen.all(), status_of(process), printed.all()), "what is shown, the status, and what is printed")
     expect_same(b"one\r\n", service.end(), "what went")
 
 
@@ -94,7 +94,7 @@ def a_talk_goes_on_while_neither_has_ended(world):
 def a_long_paste_goes_whole_to_a_server(world, is_late):
     text = b"".join(b"line %06d of a paste\r" % n for n in range(2_000))
     listener = Listener(world, buffer=8_192)
-    process, screen, told = piped(world, "--port", listener.port)
+    process, screen, printed = piped(world, "--port", listener.port)
     listener.accept()
 
     def paste():
@@ -108,4 +108,4 @@ def a_long_paste_goes_whole_to_a_server(world, is_late):
     listener.close()
     typing.join()
     screen.all()
-    expect_same((0, b""), (status_of(process), told.all()), "the status, and what is told")
+    expect_same((0, b""), (status_of(process), printed.all()), "the status, and what is printed")

@@ -29,24 +29,24 @@ class Serving:
     def __init__(self, world, *words, under=(), port=None, stderr=subprocess.PIPE, **settings):
         self.port = port or free_port()
         self.process = world.start(*under, world.program, "serve", "--port", self.port, *words, stderr=stderr, **settings)
-        self.told = Collected(self.process.stderr.fileno()) if self.process.stderr else None
-        world.keep(f"tn serve {' '.join(map(str, words))}", lambda: (self.process.poll(), bytes(self.told.bytes) if self.told else None))
+        self.printed = Collected(self.process.stderr.fileno()) if self.process.stderr else None
+        world.keep(f"tn serve {' '.join(map(str, words))}", lambda: (self.process.poll(), bytes(self.printed.bytes) if self.printed else None))
         wait_until(lambda: basics.is_listened_to(self.port) or not self.runs(), "tn serve listens")
         expect(self.runs(), f"tn serve ended with {self.process.poll()} before it listened")
 
     def runs(self):
         return self.process.poll() is None
 
-    def end(self, told=b"", status=0):
-        """It ends by itself, with this status, and has told this; returns what it told."""
+    def end(self, printed=b"", status=0):
+        """It ends by itself, with this status, and has printed this; returns what it printed."""
         expect_same(status, status_of(self.process, "tn serve"), "the status of tn serve")
-        all_told = self.told.all() if self.told else b""
-        if told is not None:
-            expect_same(told, all_told, "what tn serve told")
-        return all_told
+        all_printed = self.printed.all() if self.printed else b""
+        if printed is not None:
+            expect_same(printed, all_printed, "what tn serve printed")
+        return all_printed
 
     def notes(self, *plain):
-        """The lines that it told, each but the plain ones without its time, which is checked."""
+        """The lines that it printed, each but the plain ones without its time, which is checked."""
         return [line if line in plain else without_time(line) for line in self.end(None).decode().splitlines()]
 
     def files(self):
@@ -239,9 +239,9 @@ class User:
         self.process = world.start(world.program, "connect", "--port", port, *traced, *words, bufsize=0,
                                    stdin=subprocess.PIPE, stdout=subprocess.PIPE, stderr=subprocess.PIPE)
         self.screen = Collected(self.process.stdout.fileno())
-        self.told = Collected(self.process.stderr.fileno())
+        self.printed = Collected(self.process.stderr.fileno())
         world.keep("a screen", lambda: bytes(self.screen.bytes))
-        world.keep("tn connect told", lambda: (self.process.poll(), bytes(self.told.bytes)))
+        world.keep("tn connect printed", lambda: (self.process.poll(), bytes(self.printed.bytes)))
         if edits:
             agreed = {"client": "> IAC DONT ECHO\n", "server": "< IAC SB LINEMODE SLC"}[edits]
             wait_until(lambda: agreed in read_text(trace), f"the {edits} edits")
@@ -252,14 +252,14 @@ class User:
         self.process.stdin.write(keys)
         self.screen.wait_for(*texts, after=after)
 
-    def end(self, status=0, told=b""):
-        """The screen, once it has ended after its keys have; it has told this."""
+    def end(self, status=0, printed=b""):
+        """The screen, once it has ended after its keys have; it has printed this."""
         self.process.stdin.close()
         screen = self.screen.all()
         expect_same(status, status_of(self.process, "tn connect"), "the status of tn connect")
-        all_told = self.told.all()
-        if told is not None:
-            expect_same(told, all_told, "what tn connect told")
+        all_printed = self.printed.all()
+        if printed is not None:
+            expect_same(printed, all_printed, "what tn connect printed")
         return screen
 
 

@@ -149,7 +149,7 @@ def a_line_after_the_end_of_file_is_not_taken(world):
     service, serving = joined(world, talk)
     peer = peer_of(world, serving)
     peer.send(b"one\r\0\x04")
-    wait_until(lambda: service.has_ended, "the service hears the end of file")
+    wait_until(lambda: service.has_ended, "the service gets the end of file")
     peer.send(b"two\r\0")
     peer.read_until(b"closed\r\n")
     service.go_on.set()
@@ -176,11 +176,11 @@ def an_interrupt_ends_a_session_whose_service_goes_on(world, key):
 
 
 @case
-def a_service_that_cannot_be_reached_is_told(world):
+def a_service_that_cannot_be_reached_is_reported(world):
     serving = Serving(world, "--to", f"127.0.0.1:{free_port()}")
     expect_in_order(peer_of(world, serving).read_to_end(), b"the service cannot be reached\r\n")
-    told = serving.end(None)
-    expect(re.search(rb"\A[^\n]* ended: service not reached: 127\.0\.0\.1:\d+: Connection refused[^\n]*\n\Z", told), f"told is {told!r}")
+    printed = serving.end(None)
+    expect(re.search(rb"\A[^\n]* ended: service not reached: 127\.0\.0\.1:\d+: Connection refused[^\n]*\n\Z", printed), f"printed is {printed!r}")
 
 
 @case(each={"nothing": (b"",), "a line": (b"so long\n",), "20,000 lines": (b"".join(b"line %d\n" % n for n in range(20_000)),)})

@@ -1,4 +1,4 @@
-"""`tn connect` at a pseudoterminal, with servers that do as they like: what is sent, shown and told, and how it ends."""
+"""`tn connect` at a pseudoterminal, with servers that do as they like: what is sent, shown and printed, and how it ends."""
 import fcntl
 import os
 import select
@@ -49,7 +49,7 @@ def it_can_be_left_while_it_connects(world, key, status):
 
 
 @case
-def the_connection_is_told_of(world):
+def the_connection_is_reported(world):
     listener, terminal = at_terminal(world)
     terminal.see(f"Trying 127.0.0.1:{listener.port}..\r\n".encode(), b"Connected to 127.0.0.1. Escape character is '^]'.\r\n")
     listener.send(b"a prompt")
@@ -63,7 +63,7 @@ def the_connection_is_told_of(world):
 
 
 @case
-def nothing_is_told_if_it_is_not_wanted(world):
+def nothing_is_reported_if_it_is_not_wanted(world):
     listener, terminal = at_terminal(world, "--quiet")
     listener.send(b"a prompt")
     terminal.see(b"a prompt")
@@ -73,8 +73,8 @@ def nothing_is_told_if_it_is_not_wanted(world):
         _, terminal = at_terminal(world, errors=errors)
         terminal.leave()
         errors.seek(0)
-        expect_same(b"", errors.read(), "what is told to a file")
-        expect(b"Trying" not in terminal.shown, "it is told at the terminal")
+        expect_same(b"", errors.read(), "what is printed to a file")
+        expect(b"Trying" not in terminal.shown, "the connection is reported at the terminal")
 
 
 @case
@@ -111,7 +111,7 @@ def a_paste_that_is_read_is_sent_whole(world):
     terminal.end()
     reading.join()
     expect_same(b"x" * typed, listener.got, "what the server got")
-    expect(b"not sent" not in terminal.shown, "something is told that was not sent")
+    expect(b"not sent" not in terminal.shown, "keys are reported as not sent")
 
 
 @case
@@ -225,7 +225,7 @@ def what_is_typed_before_it_leaves_is_sent(world, keys, wanted):
     listener, terminal = at_terminal(world)
     terminal.type(keys)
     terminal.end()
-    expect(b"not sent" not in terminal.shown, "something is told that was not sent")
+    expect(b"not sent" not in terminal.shown, "keys are reported as not sent")
     expect_same(wanted, listener.read_rest(), "what the server got")
 
 
@@ -267,7 +267,7 @@ def the_state_says_what_is_agreed_on_by(world, words, *texts):
     terminal.leave()
 
 
-def told_sizes(terminal):
+def waiting_sizes(terminal):
     """How many sizes wait in the pipe of the launcher, each a line of 12 bytes."""
     pipe = os.open(f"/proc/{terminal.launcher()}/fd/3", os.O_RDONLY | os.O_NONBLOCK)
     waiting = struct.unpack("i", fcntl.ioctl(pipe, termios.FIONREAD, bytes(4)))[0]
@@ -276,7 +276,7 @@ def told_sizes(terminal):
 
 
 @case
-def another_size_is_told(world):
+def another_size_is_sent(world):
     listener, terminal = at_terminal(world)
     listener.send(ASKS_SIZE)
     listener.read_until(size(100, 40))
@@ -287,7 +287,7 @@ def another_size_is_told(world):
     os.kill(program, signal.SIGSTOP)
     for count, rows in enumerate((30, 31, 32)):
         terminal.resize(rows, 90)
-        wait_until(lambda: told_sizes(terminal) > count, "the launcher tells a stopped program of each size")
+        wait_until(lambda: waiting_sizes(terminal) > count, "the launcher sends each size to a stopped program")
     os.kill(program, signal.SIGCONT)
     listener.read_until(size(90, 32))
     terminal.see_state(b"window 90 by 32")
@@ -312,7 +312,7 @@ def a_dead_screen_ends_it(world):
     os.close(reading)
     listener.send(b"text for a screen that is gone\r\n")
     terminal.end()
-    expect(b"tn: " not in terminal.shown, "something is told of a screen that is gone")
+    expect(b"tn: " not in terminal.shown, "a screen that is gone is reported")
     with open("/dev/full", "wb") as full:
         listener, terminal = at_terminal(world, screen=full)
         listener.send(b"text for a screen that is full\r\n")
@@ -392,7 +392,7 @@ def after_a_stop_it_goes_on(world, number, send):
     terminal.resize(50, 132)
     terminal.type(b"\n")
     terminal.gets_raw()
-    # A program that was not stopped itself may wait for the key that the shell took, and tells no size before the next.
+    # A program that was not stopped itself may wait for the key that the shell took, and sends no size before the next.
     terminal.type(b"\x03k")
     listener.read_until(b"\x03k", size(132, 50))
     terminal.type(b"\x1dq", b"ended with 0")
@@ -426,7 +426,7 @@ def a_killed_launcher_ends_the_program(world, send):
 
 
 @case
-def of_a_line_that_is_edited_at_the_client_it_is_told_how_much_was_not_sent(world):
+def what_was_not_sent_of_a_line_that_the_client_edits_is_reported(world):
     listener, terminal = at_terminal(world)
     listener.send(ASKS_LINEMODE + mode(1) + b"hello")
     terminal.see(b"hello")

@@ -1,4 +1,4 @@
-"""What `tn serve` notes of its sessions and tells its peers, how it ends them and itself, and what it tells if it cannot listen."""
+"""What `tn serve` notes of its sessions and sends its peers, how it ends them and itself, and what it prints if it cannot listen."""
 import contextlib
 import itertools
 import os
@@ -50,7 +50,7 @@ def expect_end(lines, number, serial, peer, cause, entries):
 
 
 def wait_for_end(serving, peer):
-    serving.told.wait_for(f"from {peer.address} ended".encode())
+    serving.printed.wait_for(f"from {peer.address} ended".encode())
 
 
 def answers(peer):
@@ -64,7 +64,7 @@ def each_session_is_noted(world):
     serving = Serving(world, "--verbose", "--limit", "2", "--count", "5")
     first, second = Peer(world, serving.port).is_served(), Peer(world, serving.port).is_served()
     third = Peer(world, serving.port)
-    expect_same(b"full\r\n", third.leave(), "what one more is told")
+    expect_same(b"full\r\n", third.leave(), "what one more peer gets")
     probed = probed_in(serving.port, second.connection.getsockname()[1])
     expect(probed and 10 < probed <= 60, f"wanted a silent peer to be probed within a minute, got {probed}")
     first.send(b"hello\r\n" * 200)
@@ -90,7 +90,7 @@ def each_session_is_noted(world):
 
 
 @case
-def who_is_told_full_may_send_for_a_second(world):
+def who_is_turned_away_may_send_for_a_second(world):
     serving = Serving(world, "--limit", "1", "--count", "7")
     first = Peer(world, serving.port).is_served()
 
@@ -104,7 +104,7 @@ def who_is_told_full_may_send_for_a_second(world):
             return False
         return True
     sent = [may_send(Peer(world, serving.port)) for _ in range(6)]
-    expect(any(sent), "nobody who is told full may send a byte")
+    expect(any(sent), "no peer that is turned away may send a byte")
     first.leave()
     serving.end()
 
@@ -112,7 +112,7 @@ def who_is_told_full_may_send_for_a_second(world):
 @case(each={
     "idle": ("idle", 1, "--idle", "1"), "idle before the longest": ("idle", 1, "--idle", "1", "--longest", "60"),
     "too long": ("too long", 2, "--longest", "2"), "too long before idle": ("too long", 1, "--longest", "1", "--idle", "60")})
-def a_peer_is_told_why_it_is_ended(world, cause, seconds, *words):
+def a_peer_gets_the_cause_of_its_end(world, cause, seconds, *words):
     serving = Serving(world, "--verbose", *words)
     peer = Peer(world, serving.port).is_served()
     peer.read_until(cause.encode() + b"\r\n")
@@ -158,7 +158,7 @@ def once_a_file_is_there_sessions_go_on_and_none_begins(world, words):
     serving = Serving(world, "--verbose", "--until", marker, *words)
     first, second = Peer(world, serving.port).is_served(), Peer(world, serving.port).is_served()
     open(marker, "w", encoding="ascii").close()
-    serving.told.wait_for(b"no more connections are accepted\n")
+    serving.printed.wait_for(b"no more connections are accepted\n")
     wait_until(lambda: not basics.is_listened_to(serving.port), "no connection is taken once the file is there")
     answers(first)
     for peer in (first, second):
@@ -210,16 +210,16 @@ def one_address_has_as_many_sessions_as_it_may(world):
     serving = Serving(world, "--verbose", "--host", "0.0.0.0", "--per-host", "2", "--count", "6")
     first, second = Peer(world, serving.port).is_served(), Peer(world, serving.port).is_served()
     third = Peer(world, serving.port)
-    expect_same(b"full\r\n", third.leave(), "what the third of an address is told")
+    expect_same(b"full\r\n", third.leave(), "what the third peer of an address gets")
     other = Peer(world, serving.port, "127.0.0.2").is_served()
     first.leave()
     wait_for_end(serving, first)
     fourth, fifth = Peer(world, serving.port).is_served(), Peer(world, serving.port)
-    expect_same(b"full\r\n", fifth.leave(), "what one more is told")
+    expect_same(b"full\r\n", fifth.leave(), "what one more peer gets")
     for peer in (second, other, fourth):
         peer.leave()
     lines = serving.notes()
-    expect_same(["3", "6"], [noted(lines, FULL, peer)[1] for peer in (third, fifth)], "the serial numbers of who is told full")
+    expect_same(["3", "6"], [noted(lines, FULL, peer)[1] for peer in (third, fifth)], "the serial numbers of those turned away")
     for serial, peer in ((1, first), (2, second), (4, other), (5, fourth)):
         expect_session(lines, serial, peer, "hang-up", 0)
 
@@ -233,8 +233,8 @@ def a_peer_waits_until_there_is_a_descriptor_for_it(world):
     allowed = resource.prlimit(number, resource.RLIMIT_NOFILE)
     resource.prlimit(number, resource.RLIMIT_NOFILE, (next(free for free in itertools.count() if free not in taken), allowed[1]))
     second = Peer(world, serving.port)
-    serving.told.wait_for(b"no connection can be accepted now")
-    expect(not second.read_more(1), "a peer is told something though no descriptor is left")
+    serving.printed.wait_for(b"no connection can be accepted now")
+    expect(not second.read_more(1), "a peer gets something though no descriptor is left")
     answers(first)
     resource.prlimit(number, resource.RLIMIT_NOFILE, allowed)
     second.is_served()
@@ -290,13 +290,13 @@ def a_listener_that_breaks_ends_a_server_after_its_sessions(world):
 
 
 @case
-def only_a_session_that_failed_is_told_of(world):
+def only_a_session_that_failed_is_reported(world):
     serving = Serving(world, "--count", "2")
     Peer(world, serving.port).is_served().leave()
     bad = Peer(world, serving.port).is_served()
     bad.reset()
     lines = serving.notes("tn: session")
-    expect_same((2, "tn: session"), (len(lines), lines[0]), "how many lines are told, and the first")
+    expect_same((2, "tn: session"), (len(lines), lines[0]), "how many lines are printed, and the first")
     expect_end(lines, noted(lines, ENDED, bad)[1], 2, bad, "connection reset", 0)
 
 
@@ -311,7 +311,7 @@ def expect_not_listening(world, port, host, cause, **settings):
 
 
 @case
-def a_port_in_use_is_told(world):
+def a_port_in_use_is_reported(world):
     with socket.socket() as taken:
         taken.bind(("127.0.0.1", 0))
         taken.listen()
@@ -322,12 +322,12 @@ def a_port_in_use_is_told(world):
     "that nobody knows": ("nobody.invalid", "address information|name"), "in brackets": ("[::1]", "address information|name"),
     "that is another's": ("192.0.2.7", "assign requested address"),
     "that is another's of IPv6": ("2001:db8::7", "assign requested address|not supported")})
-def a_host_is_told(world, host, cause):
+def a_host_that_is_not_ours_is_reported(world, host, cause):
     expect_not_listening(world, free_port(), host, cause)
 
 
 @case
-def a_port_of_the_systems_own_is_told(world):
+def a_port_of_the_systems_own_is_reported(world):
     with open("/proc/sys/net/ipv4/ip_unprivileged_port_start", encoding="ascii") as start:
         if int(start.read()) <= 80:
             raise NotTried("every port is free to all here")

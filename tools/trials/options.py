@@ -2,12 +2,12 @@
 
     tn serve     --host                             piped.the_host_that_was_asked_for_is_the_one
                  --per-host, --until, --verbose     notes
-                 --idle, --longest                  notes.a_peer_is_told_why_it_is_ended and others
+                 --idle, --longest                  notes.a_peer_gets_the_cause_of_its_end and others
                  --to, --crlf, --cr, --line-cut     gateway
     tn connect   --escape, --width, --height        interactive.another_escape_character_is_taken, a_size_by_hand_wins
                  --keys                             interactive.the_terminals_own_characters_are_taken
-                 --trace, -q                        piped.a_trace_is_written, the_end_of_a_pipe_is_told_late
-                 --quiet                            interactive.nothing_is_told_if_it_is_not_wanted
+                 --trace, -q                        piped.a_trace_is_written, the_end_of_a_pipe_is_sent_late
+                 --quiet                            interactive.nothing_is_reported_if_it_is_not_wanted
                  --plain, --lf, --cr                plain
 """
 import signal
@@ -47,7 +47,7 @@ def a_server_without_end_goes_on(world):
 def a_server_has_as_many_sessions_as_its_limit(world, limit, *words):
     serving = Serving(world, "--count", limit + 1, *words)
     peers = [Peer(world, serving.port).is_served() for _ in range(limit)]
-    expect_same(b"full\r\n", Peer(world, serving.port).leave(), "what one more is told")
+    expect_same(b"full\r\n", Peer(world, serving.port).leave(), "what one more peer gets")
     for peer in peers:
         peer.send(b"hello\r\n")
         expect_in_order(peer.leave(), b"hello\r\n")
@@ -105,5 +105,5 @@ def a_host_and_a_port_may_be_given_as(world, host, words):
             raise NotTried(f"this machine has no {host}") from None
     serving = Serving(world, "--host", host)
     run = world.run("connect", *words(serving.port), data=b"exit\r")
-    expect_same((0, b"", True), (run.returncode, run.stderr, run.stdout.endswith(b"bye\r\n")), "the status, what is told, and the farewell")
+    expect_same((0, b"", True), (run.returncode, run.stderr, run.stdout.endswith(b"bye\r\n")), "the status, what is printed, and the farewell")
     serving.end()

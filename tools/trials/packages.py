@@ -7,8 +7,8 @@ from world import Failed, NotTried, case
 
 
 @case(long=True, seconds=1_800)
-def the_packages_are_as_told(world):
-    # The prover's own record of what it proved is another than that of tools/prove, so the packages are told to be of any program.
+def the_packages_are_as_the_pages_say(world):
+    # The prover's own record of what it proved is another than that of tools/prove, so tools/try-package gets --unproved.
     # A session in it may take too long on a machine that is busy just then, so it has a second try.
     for _ in range(2):
         run = subprocess.run([os.path.join(basics.TOP, "tools/try-package"), "--unproved", "-p", world.program],

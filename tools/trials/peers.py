@@ -1,4 +1,4 @@
-"""Sessions with other makers' clients, servers and services, and through tunnels, as docs/INTEROP.md tells of them.
+"""Sessions with other makers' clients, servers and services, and through tunnels, as docs/INTEROP.md lists them.
 
 What other makers' ends agree on is not seen from here: keys are typed once nothing has been shown for a second.
 """
@@ -128,7 +128,7 @@ def our_client_has_a_server(world, command, typed, wanted, words):
             user.screen.wait_quiet()
             user.type(keys)
         user.screen.wait_quiet()
-    expect_in_order(cleaned(user.end(told=None)), *wanted.encode().split(b"|"))
+    expect_in_order(cleaned(user.end(printed=None)), *wanted.encode().split(b"|"))
 
 
 def start_nc(world):

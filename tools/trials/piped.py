@@ -1,4 +1,4 @@
-"""`tn connect` from pipes, with servers that do as they like; its traces, what it tells of hosts, and `tn decode` as bytes come."""
+"""`tn connect` from pipes, with servers that do as they like; its traces, what it reports of hosts, and `tn decode` as bytes come."""
 import errno
 import os
 import re
@@ -25,9 +25,9 @@ def from_pipe(world, *words, screen=subprocess.PIPE, **settings):
     return listener, process
 
 
-def expect_end(process, status, told=b""):
+def expect_end(process, status, printed=b""):
     expect_same(status, status_of(process), "the status")
-    expect_same(told, process.stderr.read(), "what is told")
+    expect_same(printed, process.stderr.read(), "what is printed")
 
 
 @case
@@ -41,13 +41,13 @@ def from_a_pipe_every_byte_is_a_key(world):
 
 
 @case
-def characters_that_are_not_told_are_the_standard_ones(world):
+def characters_that_are_not_known_are_the_standard_ones(world):
     listener, process = from_pipe(world, env={**os.environ, "TN_TERMINAL": "1", "TN_KEYS": "08"})
     process.stdin.write(b"ab\x08\x1dq")
     process.stdin.close()
     expect_same(0, status_of(process), "the status")
-    told = process.stderr.read()
-    expect(b"tn: TN_KEYS tells no characters of a terminal: the standard ones are taken\n" in told, f"told is {told!r}")
+    printed = process.stderr.read()
+    expect(b"tn: TN_KEYS tells no characters of a terminal: the standard ones are taken\n" in printed, f"printed is {printed!r}")
     expect_same(b"ab\x08", listener.read_rest(), "what the server got")
 
 
@@ -85,7 +85,7 @@ def a_reader_that_leaves_ends_it_while_keys_flow(world):
 
 
 @case
-def what_was_not_sent_is_told(world):
+def what_was_not_sent_is_reported(world):
     listener, process = from_pipe(world, screen=subprocess.DEVNULL)
     listener.connection.setsockopt(socket.SOL_SOCKET, socket.SO_RCVBUF, 1024)
     for found in sockets_of(process.pid):
@@ -93,12 +93,12 @@ def what_was_not_sent_is_told(world):
     fill(process, 1)
     listener.reset()
     status_of(process)
-    told = process.stderr.read()
-    expect(re.search(rb"tn: closed by the other end; \d+ bytes typed were not sent\n", told), f"told is {told!r}")
+    printed = process.stderr.read()
+    expect(re.search(rb"tn: closed by the other end; \d+ bytes typed were not sent\n", printed), f"printed is {printed!r}")
 
 
 @case
-def the_end_of_a_pipe_is_told_late(world):
+def the_end_of_a_pipe_is_sent_late(world):
     listener, process = from_pipe(world, "-q", "2")
     process.stdin.write(b"echo hi\rexit\r")
     closed = time.monotonic()
@@ -106,7 +106,7 @@ def the_end_of_a_pipe_is_told_late(world):
     listener.read_until(b"exit\r")
     listener.send(b"hi\r\n")
     listener.read_rest()
-    expect(time.monotonic() - closed >= 2, "the end is told too early")
+    expect(time.monotonic() - closed >= 2, "the server gets the end too early")
     listener.close()
     shown = process.stdout.read()
     expect(shown.endswith(b"\r\nhi\r\n"), f"the answer is lost: {shown!r}")
@@ -123,13 +123,13 @@ def it_waits_no_longer_once_the_server_has_closed(world):
 
 
 @case
-def nobody_there_is_told(world):
+def a_connection_that_is_refused_is_reported(world):
     port = free_port()
     run = world.run("connect", "--port", port)
     why = f"{os.strerror(errno.ECONNREFUSED)} (os error {errno.ECONNREFUSED})"
-    expect_same((1, f"tn: network\ntn: 127.0.0.1:{port}: {why}\n".encode()), (run.returncode, run.stderr), "the status, and what is told")
+    expect_same((1, f"tn: network\ntn: 127.0.0.1:{port}: {why}\n".encode()), (run.returncode, run.stderr), "the status, and what is printed")
     run = world.run("connect", "no-such-host.invalid")
-    expect_same((1, True), (run.returncode, run.stderr.startswith(b"tn: network\ntn: no-such-host.invalid: ")), "the status, and what is told")
+    expect_same((1, True), (run.returncode, run.stderr.startswith(b"tn: network\ntn: no-such-host.invalid: ")), "the status, and what is printed")
 
 
 @case
@@ -176,7 +176,7 @@ def a_trace_takes_the_place_of_an_old_one(world):
     terminal.leave()
     expect("old" not in read_text(path), "what was there before stays")
     run = world.run("connect", "--port", "1", "--trace", "/no/such/folder/x")
-    expect_same((1, True), (run.returncode, run.stderr.startswith(b"tn: write\ntn: /no/such/folder/x: ")), "the status, and what is told")
+    expect_same((1, True), (run.returncode, run.stderr.startswith(b"tn: write\ntn: /no/such/folder/x: ")), "the status, and what is printed")
 
 
 @case

@@ -52,28 +52,28 @@ def lines_from_a_pipe_go_with_their_ends(world, data, wanted, *options):
 
 
 @case
-def a_server_that_speaks_telnet_is_told_of(world):
+def a_server_that_speaks_telnet_is_reported(world):
     service = Service(world, telnet)
     run = world.start(world.program, "connect", "--plain", f"127.0.0.1:{service.port}",
                       stdin=subprocess.PIPE, stdout=subprocess.PIPE, stderr=subprocess.PIPE)
-    expect_same(b"tn: the other end speaks Telnet: leave out --plain\n", run.stderr.readline(), "what is told at once")
-    expect_same((b"\xff\xfd\x18\xff\xfd\x1f", b""), run.communicate(b"x\n", PATIENCE), "what is shown, and what is told after that")
+    expect_same(b"tn: the other end speaks Telnet: leave out --plain\n", run.stderr.readline(), "what is printed at once")
+    expect_same((b"\xff\xfd\x18\xff\xfd\x1f", b""), run.communicate(b"x\n", PATIENCE), "what is shown, and what is printed after that")
     expect_same(0, run.returncode, "the status")
-    expect_same((b"\xff\xff\xfd", b""), from_pipe(world, doubles, b"x\n")[1::2], "what is shown and told of a byte 255")
+    expect_same((b"\xff\xff\xfd", b""), from_pipe(world, doubles, b"x\n")[1::2], "what is shown and reported of a byte 255")
 
 
 @case
-def a_server_that_speaks_telnet_is_told_of_once_at_a_terminal(world):
+def a_server_that_speaks_telnet_is_reported_once_at_a_terminal(world):
     service = Service(world, telnet)
     terminal = Terminal(world, "--plain", f"127.0.0.1:{service.port}")
     terminal.see(b"leave out --plain\r\n")
     terminal.type(b"\x04")
     terminal.end()
-    expect_same(1, terminal.shown.count(b"speaks Telnet"), "how often it was told")
+    expect_same(1, terminal.shown.count(b"speaks Telnet"), "how often it was printed")
 
 
 @case
-def the_end_is_told_late(world):
+def the_end_is_sent_late(world):
     def answers_late(service, connection):
         service.read(connection)
         connection.sendall(b"late\n")
@@ -83,26 +83,26 @@ def the_end_is_told_late(world):
     begun = time.monotonic()
     run = world.run("connect", "--plain", "-q", 2, f"127.0.0.1:{service.port}", data=b"a\n")
     service.end()
-    expect(service.ended - begun >= 2, "with -q 2 the service hears the end before that")
+    expect(service.ended - begun >= 2, "with -q 2 the service gets the end before that")
     expect_same((b"late\n", 0), (run.stdout, run.returncode), "what was shown, and the status")
     run = from_pipe(world, strict_mail, b"QUIT\n", "-q", 10 * PATIENCE)  # It does not wait once the service has closed.
     expect_same(0, run[2], "the status")
 
 
 @case
-def faults_are_told(world):
-    expect_same((3, b"tn: session\ntn: the connection broke\n"), from_pipe(world, resets, b"a\n")[2:], "what is told of a connection that broke")
+def faults_are_reported(world):
+    expect_same((3, b"tn: session\ntn: the connection broke\n"), from_pipe(world, resets, b"a\n")[2:], "what is printed of a connection that broke")
     service = Service(world, answering)
     with open("/dev/full", "wb") as full:
         run = world.run("connect", "--plain", f"127.0.0.1:{service.port}", data=b"a\n", capture_output=False, stdout=full, stderr=subprocess.PIPE)
-    expect_same((3, b"tn: session\ntn: the screen takes no more\n"), (run.returncode, run.stderr), "what is told of a full disk")
+    expect_same((3, b"tn: session\ntn: the screen takes no more\n"), (run.returncode, run.stderr), "what is printed of a full disk")
 
 
 @case
 def options_of_telnet_are_not_for_plain(world):
     for word in ("--trace=f", "--escape=^]", "--escape=none", "--width=80", "--height=24"):
         run = world.run("connect", "--plain", word, "127.0.0.1:1")
-        expect_same((2, True), (run.returncode, b"--plain" in run.stderr), f"the status of {word}, and that it is told")
+        expect_same((2, True), (run.returncode, b"--plain" in run.stderr), f"the status of {word}, and that it is reported")
 
 
 def plain_terminal(world, talk, *options, **settings):
@@ -114,11 +114,11 @@ def plain_terminal(world, talk, *options, **settings):
 
 
 @case
-def it_is_raw_once_the_connection_is_told(world):
+def it_is_raw_once_the_connection_is_reported(world):
     for _ in range(5):
         service, terminal = plain_terminal(world, listening)
         flags = termios.tcgetattr(terminal.slave)[3]
-        expect_same(0, flags & (termios.ICANON | termios.ECHO), "how the terminal is set once the connection is told")
+        expect_same(0, flags & (termios.ICANON | termios.ECHO), "how the terminal is set once the connection is reported")
         terminal.type(b"ab\x7f\r\x04")
         terminal.end()
         expect_same(b"a\r\n", service.end(), "what went")

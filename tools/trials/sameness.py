@@ -10,7 +10,7 @@ was typed, and between them the echo of the keys, in their order:
     none                with --local, once the server has stopped and the client has not heard of it yet
     as a terminal's     with --local, while the client edits and echoes
 
-After the key that ends a session some more keys may be echoed. The client may tell that some of those were not sent, or, if it edits, some
+After the key that ends a session some more keys may be echoed. The client may report that some of those were not sent, or, if it edits, some
 of a line that no key has closed. Each session has a seed of
 its own; one that differs is printed with its seed, its keys in hexadecimal, the entries and the screen.
 """
@@ -120,9 +120,9 @@ class Screen:
         self.ends = []
         for answer in answers:
             self.ends += [len(self.ends) + len(answer)] * len(answer)
-        # The session may end at any key behind this one.
+        # The session may end at any key after this one.
         self.needed = closing[len(answers) - 1] + 1 if ends and self.fits else len(keys)
-        # So many bytes at most may be told as not sent.
+        # So many bytes at most may be reported as not sent.
         self.unsent = len(keys) - self.needed if ends else held if local else 0
         # So much of the answers may have come once so many keys were typed.
         self.ready = [0] * (len(keys) + 1)
@@ -146,7 +146,7 @@ class Screen:
         return phase < self.last or self.may_be_left(screen, at, key, answered)
 
     def changes(self, screen, state):
-        """The states in which another begins to echo; keys that nobody echoed lie between, where the client does."""
+        """The states in which another begins to echo; keys that nobody echoed lie between, if the client echoes."""
         at, phase, key, answered = state
         if phase == AS_THEY_ARE:
             yield at, BY_SERVER, key, answered
@@ -216,9 +216,9 @@ def type_keys(chance, keys, pipe):
         pass
 
 
-def may_be_told(told, wanted):
-    found = NOT_SENT.fullmatch(told)
-    return not told or found and 0 < int(found[1]) <= wanted.unsent
+def may_be_printed(printed, wanted):
+    found = NOT_SENT.fullmatch(printed)
+    return not printed or found and 0 < int(found[1]) <= wanted.unsent
 
 
 def difference(world, port, seed):
@@ -231,14 +231,14 @@ def difference(world, port, seed):
     late.start()
     typist = threading.Thread(target=type_keys, args=(chance, keys, client.stdin))
     typist.start()
-    screen, told, status = client.stdout.read(), client.stderr.read(), client.wait()
+    screen, printed, status = client.stdout.read(), client.stderr.read(), client.wait()
     typist.join()
     late.cancel()
     wanted = Screen(keys, entries, seed % 2 == 1)
-    if wanted.is_made_of_these(screen) and not status and may_be_told(told, wanted):
+    if wanted.is_made_of_these(screen) and not status and may_be_printed(printed, wanted):
         return len(keys), ""
     return len(keys), "\n".join([
-        f"  seed {seed} differs; status {status}, told {told!r}, which may say {wanted.unsent}", f"  keys {keys.hex()}",
+        f"  seed {seed} differs; status {status}, printed {printed!r}, which may say {wanted.unsent}", f"  keys {keys.hex()}",
         "  entries of tn local:", *entries, f"  answers {wanted.answers.hex()}", f"  screen {screen.hex()}"])
 
 

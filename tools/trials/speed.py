@@ -32,8 +32,8 @@ def compiled(world, name, *libraries):
 class Pass:
     """What came of one pass."""
 
-    def __init__(self, told):
-        lines, self.seconds, used, driver, self.middle = map(float, told.split())
+    def __init__(self, printed):
+        lines, self.seconds, used, driver, self.middle = map(float, printed.split())
         self.a_second = lines / self.seconds
         self.a_processor_second = lines / max(used, 0.01)
         self.driver = driver / self.seconds
@@ -62,7 +62,7 @@ def machine():
             f"load {os.getloadavg()[0]:.2f}, {time.strftime('%F', time.gmtime())}")
 
 
-def told(passes, what):
+def summary(passes, what):
     """A line for each server, and for each but the first how many times as many the first one does."""
     medians = {}
     for name, done in passes.items():
@@ -87,4 +87,4 @@ def all_of_64_sessions_are_answered(world, what, count, times, *forms):
     for _ in range(count):
         for form, done in passes.items():
             done.append(run_pass(world, form, programs, times, ["keys"] * (what == "keys")))
-    return "\n".join([machine(), *told(passes, what)])
+    return "\n".join([machine(), *summary(passes, what)])
