@@ -13,7 +13,7 @@ import basics
 from ends import Relay, Serving, User
 from services import Service, instrument, listened, start_redis, start_smtpd, strict_mail
 from terminal import Console, Terminal
-from world import NotTried, case, expect_in_order, expect_same, free_port, status_of, wait_until
+from world import NotTried, case, expect_in_order, expect_same, free_port, status_of, wait_until, within
 
 TYPED = [b"helo\x7flo\r", b"\x03", b"exit\r"]
 
@@ -126,7 +126,9 @@ def our_client_has_a_server(world, command, typed, wanted, words):
     with contextlib.suppress(BrokenPipeError):  # Once it has ended it takes no more.
         for keys in typed:
             user.screen.wait_quiet()
+            before = len(user.screen.bytes)
             user.type(keys)
+            within(5, lambda: len(user.screen.bytes) > before or user.screen.has_ended)
         user.screen.wait_quiet()
     expect_in_order(cleaned(user.end(printed=None)), *wanted.encode().split(b"|"))
 
