@@ -11,11 +11,12 @@ import time
 import basics
 from ends import IAC, NAWS, SB, SE, WILL, Peer, Serving
 from sockets import probed_in, sockets_of, unread
-from world import NotTried, case, expect, expect_same, free_port, wait_until
+from world import Collected, NotTried, case, expect, expect_same, free_port, wait_until
 
 BEGAN = re.compile(r"session (\d+) \(serial (\d+)\) from (\S+) began")
 STARVED = re.compile(r"no connection can be accepted now: (.+)")
 FULL = re.compile(r"no session \(serial (\d+)\) from (\S+): full")
+ROSTER = re.compile(r"accepted \d+|full")
 ENDED = re.compile(r"session (\d+) \(serial (\d+)\) from (\S+) ended: (.+), (\d+\.\d) s, in ([\d,]+) bytes, out ([\d,]+) bytes, "
                    r"([\d,]+) entries")
 
@@ -80,7 +81,10 @@ def each_session_is_noted(world):
     fifth.send(b"\x04")
     fifth.leave()
     lines = serving.notes("tn: session")
-    expect_same((11, f"listening on 127.0.0.1:{serving.port}"), (len(lines), lines[0]), "how many notes there are, and the first")
+    answered = [line for line in lines if ROSTER.fullmatch(line)]
+    expect_same((5, ["accepted 0", "accepted 1", "full"]), (len(answered), answered[:3]), "what the roster answered")
+    lines = [line for line in lines if line not in answered]
+    expect_same((11, f"listening on 127.0.0.1:{serving.port}"), (len(lines), lines[0]), "how many other notes there are, and the first")
     expect_same("3", noted(lines, FULL, third)[1], "the serial number of one more")
     numbers = [expect_session(lines, 1, first, "hang-up", 200), expect_session(lines, 2, second, "hang-up", 0)]
     expect_same([0, 1], sorted(numbers), "the numbers of the two first")
@@ -246,14 +250,20 @@ def a_peer_waits_until_there_is_a_descriptor_for_it(world):
     expect_same("hang-up", noted(lines, ENDED, second)[4], "how the other session ended")
 
 
-@case
-def a_full_pipe_as_standard_error_stops_nobody(world):
-    _reading, writing = os.pipe()
+def full_pipe():
+    """Both ends of a pipe in which there is no room."""
+    reading, writing = os.pipe()
     os.set_blocking(writing, False)
     with contextlib.suppress(BlockingIOError):
         while os.write(writing, b"x" * 1_024):
             pass
     os.set_blocking(writing, True)
+    return reading, writing
+
+
+@case
+def a_full_pipe_as_standard_error_stops_nobody(world):
+    reading, writing = full_pipe()
     marker = world.path("end")
     serving = Serving(world, "--verbose", "--forever", "--until", marker, stderr=writing)
     for _ in range(40):
@@ -262,6 +272,75 @@ def a_full_pipe_as_standard_error_stops_nobody(world):
         peer.leave()
     open(marker, "w", encoding="ascii").close()
     serving.end()
+    os.close(reading)
+
+
+@case(seconds=120)
+def notes_that_find_no_room_are_counted(world):
+    """Of 300 lines that wait 256 are kept; once somebody reads, the next is preceded by how many were not."""
+    reading, writing = full_pipe()
+    serving = Serving(world, "--verbose", "--count", "401", "--limit", "1", stderr=writing)
+    os.close(writing)
+    first = Peer(world, serving.port).is_served()
+    for _ in range(399):
+        expect_same(b"full\r\n", Peer(world, serving.port).leave(), "what one more is told")
+    told = Collected(reading)
+    told.wait_for(b" notes were dropped\n")
+    first.leave()
+    Peer(world, serving.port).is_served().leave()
+    serving.end()
+    lines = told.all().decode().splitlines()
+    dropped = [re.search(r"(\d+) notes were dropped$", line) for line in lines]
+    count = sum(int(found[1]) for found in dropped if found)
+    # Two notes of each connection that found no place, and of the others what the roster answers, that they begin and how they end.
+    written = sum(1 for line in lines if re.search(r"Z (accepted \d+|full|.* began|.*: full|.* ended: .*|no more .*|listening .*)$", line))
+    expect(399 * 2 + 2 * 3 <= count + written <= 399 * 2 + 2 * 3 + 2, f"wanted each note written or counted, got {written} and {count}")
+
+
+PAIR = re.compile(r' (\w+)=("(?:[^"\\]|\\.)*"|[^\s"=]+)')
+
+
+def pairs_of(line):
+    """The pairs of a line in logfmt, which is nothing else."""
+    found = PAIR.findall(" " + line)
+    expect_same(line, " ".join(f"{key}={value}" for key, value in found), "a line in logfmt")
+    return {key: value.strip('"') for key, value in found}
+
+
+@case
+def notes_are_written_in_pairs(world):
+    serving = Serving(world, "--verbose", "--notes", "logfmt", "--count", "2", "--to", f"127.0.0.1:{free_port()}")
+    first = Peer(world, serving.port)
+    first.read_until(b"the service cannot be reached")
+    first.leave()
+    serving.told.wait_for(b" event=ended ")
+    second = Peer(world, serving.port)
+    second.read_until(b"the service cannot be reached")
+    second.send(b"x" * 1_500)
+    second.leave()
+    lines = [pairs_of(line) for line in serving.end(None).decode().splitlines()]
+    for line in lines:
+        expect(re.fullmatch(r"\d{4}-\d\d-\d\dT\d\d:\d\d:\d\d\.\d{3}Z", line["time"]), f"a time: {line}")
+    events = [line["event"] for line in lines]
+    expect_same(["listening", "roster", "began", "ended", "roster", "began", "ended"], events, "the events")
+    expect_same({"info": 5, "warn": 2}, {level: [line["level"] for line in lines].count(level) for level in ("info", "warn")}, "the levels")
+    ended = lines[3]
+    expect_same(("0", "1", first.address, "0"), tuple(ended[key] for key in ("session", "serial", "peer", "entries")), "whose end it is")
+    expect(ended["cause"].startswith("service not reached: 127.0.0.1:"), f"a cause: {ended}")
+    expect(re.fullmatch(r"\d+\.\d", ended["seconds"]) and ended["out"].isdigit() and lines[6]["in"].isdigit(), f"numbers without commas: {lines}")
+
+
+@case
+def notes_for_the_journal_begin_with_their_priority(world):
+    serving = Serving(world, "--verbose", "--count", "2", env={**os.environ, "JOURNAL_STREAM": "8:12345"})
+    Peer(world, serving.port).is_served().leave()
+    failed = Peer(world, serving.port).is_served()
+    failed.reset()
+    lines = serving.end(None).decode().splitlines()
+    expect_same(f"<6>listening on 127.0.0.1:{serving.port}", lines[0], "the first line")
+    expect_same(["<6>accepted 0", "<3>tn: session"], [line for line in lines if line in ("<6>accepted 0", "<3>tn: session")][-2:], "plain lines")
+    expect(any(re.fullmatch(r"<4>session \d+ \(serial 2\) from \S+ ended: connection reset, .*", line) for line in lines), f"a warning: {lines}")
+    expect(all(re.match(r"<[346]>\D", line) for line in lines), f"a priority and no time in each line: {lines}")
 
 
 @case(wants=["strace"])
