@@ -36,6 +36,7 @@ class Pair:
 
     def __init__(self, crate, file, number, path, old, new):
         self.crate, self.file, self.number, self.path, self.old, self.new = crate, file, number, path, old, new
+        self.is_single = False
         self.key = hashlib.sha256(repr((crate, path, old, new)).encode()).hexdigest()[:32]
         self.fault, self.source, self.at, self.function, self.users = self.find_fault(), "", 0, None, []
         if self.fault is None:
@@ -72,6 +73,8 @@ def pairs_of(crate, file):
             elif line.startswith("new:"):
                 found.append(Pair(crate, file, len(found) + 1, path, old, line[len("new:"):].removeprefix(" ")))
                 old = None
+    for it in found:
+        it.is_single = len(found) == 1
     return found
 
 
