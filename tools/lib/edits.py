@@ -24,6 +24,9 @@ TOLD = re.compile(r"(?P<note>note: )?(?:\./)?(?P<path>[^\s:]+):(?P<row>\d+):\d+:
 # The prover misses a name that the edit took away, or a proof cites one that misses it.
 NAMES = re.compile(r"has no field|is not in scope|has no `|was not admitted|is no name|has no constructor|names no")
 
+# What is said of a function in which nothing else is wrong.
+NAMED = "names what the edit took away"
+
 # The edited text itself is not read.
 UNREADABLE = re.compile(r"is not in scope|has no field|is no name|operand is missing|expected the end|cannot continue")
 
@@ -281,7 +284,7 @@ class Report:
             if it.startswith("no proof") and "did not prove" in it:
                 return True, it[:200]
         if own:
-            return False, f"names what the edit took away: {own[0][0][:200]}"
+            return False, f"{NAMED}: {own[0][0][:200]}"
         if said and all(it == "proved" for it in said):
             return False, "its function is still proved"
         return None, f"nothing is said of {path}" if not said else next(it for it in said if it != "proved")[:200]
@@ -294,7 +297,7 @@ class Report:
         if goals:
             return True, goals[0][0].removeprefix("note: ")[:200]
         if self.told:
-            return False, f"names what the edit took away: {self.told[0][0][:200]}"
+            return False, f"{NAMED}: {self.told[0][0][:200]}"
         for name, said in self.functions.items():
             if said.startswith("no proof") and "did not prove" in said:
                 return True, f"{name}: {said[:200]}"
