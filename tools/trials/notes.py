@@ -313,7 +313,7 @@ def notes_are_written_in_pairs(world):
     first = Peer(world, serving.port)
     first.read_until(b"the service cannot be reached")
     first.leave()
-    serving.told.wait_for(b" event=ended ")
+    serving.printed.wait_for(b" event=ended ")
     second = Peer(world, serving.port)
     second.read_until(b"the service cannot be reached")
     second.send(b"x" * 1_500)
