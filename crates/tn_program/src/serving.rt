@@ -16,9 +16,7 @@ use std::net::TcpStream;
 use std::sync::Wait;
 use tn_network::Network;
 use tn_serve::{At, Call, Finished, Host, NoteWriter, Notes, ServeFault, Served, Service, serve};
-use tn_services::{
-    Gateway, HearsCut, Joiner, LineFormat, ServiceReader, ServiceWriter,
-};
+use tn_services::{Gateway, HearsCut, Joiner, LineFormat, ServiceReader, ServiceWriter};
 
 /// Serves as was asked for, and writes notes to standard error: `is_journal` says that systemd's journal reads
 /// them. If it cannot listen, `causes` gets a line.
