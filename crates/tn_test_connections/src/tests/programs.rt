@@ -46,7 +46,7 @@ fn run<H, R, W>(
     writer: &mut W,
 ) -> Option<(u8, Vec<u8>)>
 where
-    H: Network + Host + Lookout + Files<File = File>,
+    H: Network + Host + Lookout + Eprint + Files<File = File>,
     R: Read + Drop + Send + 'static,
     W: Write,
 {
