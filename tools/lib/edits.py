@@ -22,7 +22,8 @@ CLAUSE = re.compile(r"\b(?:requires|ensures|ghost|decreases)\b")
 TOLD = re.compile(r"(?P<note>note: )?(?:\./)?(?P<path>[^\s:]+):(?P<row>\d+):\d+: (?P<said>.*)")
 
 # The prover misses a name that the edit took away, or a proof cites one that misses it.
-NAMES = re.compile(r"has no field|is not in scope|has no `|was not admitted|is no name|has no constructor|names no|\(nearest: ")
+NAMES = re.compile(
+    r"has no field|is not in scope|has no `|was not admitted|is no name|has no constructor|names no|\(nearest: |: record `[^`]*`$")
 
 # What is said of a function in which nothing else is wrong.
 NAMED = "names what the edit took away"
