@@ -2,3 +2,4 @@ mod Faults
 mod Heard
 mod Keys
 mod Put
+mod Reached

@@ -61,7 +61,6 @@ fn lines_of(alloc: Global, plain: Plain) -> Result<AnyLines, AllocError>
 }
 
 /// Talks by these streams, until the service has closed, the connection is broken, or the user has left.
-#[tactic(auto, using(crate::proofs::Heard::heard_all))]
 fn talk<
     H: Clock + Copy + Wait,
     E: Drain,
