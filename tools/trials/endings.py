@@ -1,5 +1,6 @@
 """How a connection ends at either side: who gets the end, who may still send, and with which status."""
 import contextlib
+import socket
 import subprocess
 import threading
 import time
@@ -109,3 +110,19 @@ def a_long_paste_goes_whole_to_a_server(world, is_late):
     typing.join()
     screen.all()
     expect_same((0, b""), (status_of(process), printed.all()), "the status, and what is printed")
+
+
+@case(alone=True)
+def a_session_without_a_service_ends_with_its_input(world):
+    """Only a session before a service stays for two seconds, so that its user gets what the service still says."""
+    def seconds():
+        serving = Serving(world)
+        peer = Peer(world, serving.port, opening=b"\xff\xfd\x03").is_served()
+        peer.send(b"one\r\0")
+        peer.read_until(b"one\r\n")
+        began = time.monotonic()
+        peer.connection.shutdown(socket.SHUT_WR)
+        peer.read_to_end()
+        return time.monotonic() - began
+    fastest = min(seconds() for _ in range(5))
+    expect(fastest < 1.5, f"wanted an end at once, and the fastest of five took {fastest:.1f} s")
