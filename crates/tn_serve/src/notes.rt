@@ -1,5 +1,5 @@
 //! Where a server's notes go: a queue of lines, which a thread of its own writes to standard error. So no
-//! session waits for whoever reads the notes.
+//! session waits for a reader of the notes.
 
 use crate::logfmt::push_pairs;
 use crate::times::stamp;
