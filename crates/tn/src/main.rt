@@ -36,7 +36,7 @@ const STANDS: &str = "TN_STANDS";
 /// The environment variable by which the launcher tells the special characters of the terminal.
 const KEYS: &str = "TN_KEYS";
 
-/// The environment variable that systemd sets where standard error goes to its journal (systemd.exec(5)).
+/// The environment variable that systemd sets if standard error goes to its journal (systemd.exec(5)).
 const JOURNAL: &str = "JOURNAL_STREAM";
 
 /// The terminal that a process was started at (POSIX).

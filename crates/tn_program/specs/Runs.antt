@@ -36,7 +36,7 @@ abbrev talked : TalkReport → Result TalkReport ConnectFault
 talked report = Ok report
 
 -- Where the reader tells its bytes and the writer what it holds, the run has appended what was asked for.
--- Where it served, as many connections were accepted as were asked for, or the file was seen, each session
+-- If it served, as many connections were accepted as were asked for, or the file was seen, each session
 -- that it counts is one that was asked for, and nothing was written; where it connected, a client's session ran with these keys and this screen, and ended in no fault,
 -- or a talk was held.
 abbrev pub RunsAsked : Machine → Asked → KeySource → Option (List ℕ) → Option (List ℕ) → Option (List ℕ) →

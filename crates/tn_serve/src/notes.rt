@@ -126,7 +126,7 @@ struct Writing<H> {
     style: NoteStyle,
     queue: Receiver<String, Global>,
     dropped: Arc<AtomicU64, Global>,
-    // Dropped at the thread's end, which whoever waits for it sees.
+    // Dropped at the thread's end: then the other end of its channel is disconnected.
     _end: Sender<(), Global>,
 }
 
