@@ -15,10 +15,11 @@ use Rattle.tn_client.specs.Answering as answers
 use Rattle.tn_client.specs.Calls as client
 use Rattle.tn_client.specs.Calls.{call_fault}
 use Rattle.tn_client.specs.Events.{Event, typed}
+use Rattle.tn_client.specs.Steps.{end_after, says}
 use Rattle.tn_client.specs.declared.commands.UserCommand.{UserCommand}
 use Rattle.tn_client.specs.declared.faults.ClientFault.{ClientFault}
 use Rattle.tn_client.specs.declared.faults.ClientFault.TheVariants as client_fault
-use Rattle.tn_nvt.specs.Spelling.{spelling}
+use Rattle.tn_nvt.specs.Spelling.{spelling, spells}
 use Rattle.tn_nvt.specs.declared.items.Item.{Item}
 use Rattle.tn_c_parts.specs.Bytes.{Gives}
 use Rattle.tn_c_parts.specs.Calling.{OfFunction}
@@ -94,47 +95,36 @@ pub as_caused : {T : Type 0} (cause : Option ClientFault) (r : Result T ClientFa
 as_caused cause (Ok x) answer is caused = (λ _. caused, inl is)
 as_caused cause (Err f) answer is caused = (λ done. absurd (never_done f (sym is ∙ done)), inr (is ∙ client_told cause f caused))
 
-keeps_by : {T : Type 0} (e : Event) (r : Result T ClientFault) (old new : client.End) (before after : List ℕ)
-    → OnOk r (answers.Says old e before after new) → OnErr r (answers.SaysNothing old before after new) → client.ReadsNothing old new
-keeps_by e (Ok x) old new before after says same = says.keeps
-keeps_by e (Err f) old new before after says same =
-    record { decoder = ap (λ (end : client.End). end.decoder) same.end; failed = ap (λ (end : client.End). end.failed) same.end }
-
 -- a call of the owner
 pub call_acts : {T : Type 0} (e : Event) (cause : client.End → Option ClientFault) (r : Result T ClientFault) (answer : Code) (before after : HeldClient)
-    → answer ≡ client_answer r → OnOk r (answers.Says before.end e before.pending.items after.pending.items after.end) → answers.AnswersBy (cause before.end) r
+    → answer ≡ client_answer r → OnOk r (after.end ≡ end_after before.end e)
+    → OnOk r (after.pending.items ≡ before.pending.items ++ spells (says before.end e)) → answers.AnswersBy (cause before.end) r
     → OnErr r (answers.SaysNothing before.end before.pending.items after.pending.items after.end)
     → (answer ≢ code.Done → after.shown.items ≡ before.shown.items) → Acts e cause answer before after
-call_acts e cause r answer before after is ok caused err shown =
+call_acts e cause r answer before after is step out caused err shown =
     let by = as_caused (cause before.end) r answer is caused in
     record {
-      goes = λ done. (when_done r answer is ok done).goes;
-      sends = λ done. (when_done r answer is ok done).sends;
-      keeps = keeps_by e r before.end after.end before.pending.items after.pending.items ok err;
+      step = when_done r answer is step;
+      sends = when_done r answer is out;
       accepted = by.0;
       refused = by.1;
       err = λ refused. let same = unless_done r answer is err refused in record { end = same.end; pending = same.out; shown = shown refused };
     }
 
--- a key says and shows
-key_says : {T : Type 0} (key : ℕ) (r : Result T ClientFault) (old new : client.End) (before after seen now : List ℕ)
-    → OnOk r (answers.TypesKey old key before after seen now new) → OnOk r (answers.Says old (typed key) before after new)
-key_says key (Ok x) old new before after seen now types = record { goes = types.goes; sends = types.sends; keeps = types.keeps }
-key_says key (Err f) old new before after seen now types = tt
-
+-- a key that is refused says nothing
 key_says_nothing : {T : Type 0} (r : Result T ClientFault) (old new : client.End) (before after seen now : List ℕ)
     → OnErr r (answers.Untouched old before after seen now new) → OnErr r (answers.SaysNothing old before after new)
 key_says_nothing (Ok x) old new before after seen now same = tt
 key_says_nothing (Err f) old new before after seen now same = record { end = same.end; out = same.out }
 
 pub key_acts : {T : Type 0} (key : ℕ) (r : Result T ClientFault) (answer : Code) (before after : HeldClient) → answer ≡ client_answer r
-    → OnOk r (answers.TypesKey before.end key before.pending.items after.pending.items before.shown.items after.shown.items after.end)
+    → OnOk r (after.end ≡ end_after before.end (typed key))
+    → OnOk r (after.pending.items ≡ before.pending.items ++ spells (says before.end (typed key)))
     → answers.AnswersBy (call_fault before.end) r
     → OnErr r (answers.Untouched before.end before.pending.items after.pending.items before.shown.items after.shown.items after.end)
     → Acts (typed key) call_fault answer before after
-key_acts key r answer before after is ok caused err =
-    call_acts (typed key) call_fault r answer before after is
-    (key_says key r before.end after.end before.pending.items after.pending.items before.shown.items after.shown.items ok) caused
+key_acts key r answer before after is step out caused err =
+    call_acts (typed key) call_fault r answer before after is step out caused
     (key_says_nothing r before.end after.end before.pending.items after.pending.items before.shown.items after.shown.items err)
     (λ refused. (unless_done r answer is err refused).screen)
 

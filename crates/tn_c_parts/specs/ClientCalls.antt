@@ -1,11 +1,13 @@
 -- What each call of a held client end does.
-use Rattle.std.specs.Prelude.{◌≡◌, ◌≢◌, ◌↔◌, ◌⊎◌, ℕ, Bool, true, IsTrue, false, IsFalse, List, [], drop}
+use Rattle.std.specs.Prelude.{◌≡◌, ◌≢◌, ◌↔◌, ◌⊎◌, ℕ, Bool, true, IsTrue, false, IsFalse, List, [], ◌++◌, drop}
 use Rattle.std.specs.Prelude.{Option, None}
 use Rattle.tn_codes.specs.declared.codes.Func.{Func}
 use Rattle.tn_discipline.specs.Characters.{slot}
 use Rattle.tn_option.specs.Options.{state_of}
-use Rattle.tn_client.specs.Calls.{End, LeadsTo, Advances, Sends, Shows, ReadsNothing, Feeds}
-use Rattle.tn_client.specs.Calls.{StopsWithin, LacksRoomFor, LacksMemoryFor, call_fault, propose_fault}
+use Rattle.tn_client.specs.Answering.{Feeds, StopsWithin}
+use Rattle.tn_client.specs.Calls.{End, LeadsTo, call_fault, propose_fault}
+use Rattle.tn_client.specs.Steps.{shows_key, LacksMemoryFor, end_after, says, LacksRoomFor}
+use Rattle.tn_nvt.specs.Spelling.{spells}
 use Rattle.tn_nvt.specs.Feeding as nvt
 use Rattle.tn_client.specs.Events.{History, Event, begun, typed, resized, proposed, sent}
 use Rattle.tn_client.specs.Lines.{ahead, count_under, held_bytes}
@@ -28,16 +30,15 @@ pub record Untouched (old new : HeldClient) : Type 0 where
 -- A call of the owner, which is this event, and which may be refused for such a cause.
 pub record Acts (e : Event) (cause : End → Option ClientFault) (answer : Code) (before after : HeldClient)
     : Type 0 where
-  pub goes : answer ≡ code.Done → Advances before.end e after.end
-  pub sends : answer ≡ code.Done → Sends before.end e before.pending.items after.pending.items
-  pub keeps : ReadsNothing before.end after.end
+  pub step : answer ≡ code.Done → after.end ≡ end_after before.end e
+  pub sends : answer ≡ code.Done → after.pending.items ≡ before.pending.items ++ spells (says before.end e)
   pub accepted : answer ≡ code.Done → cause before.end ≡ None
   pub refused : (answer ≡ code.Done) ⊎ (answer ≡ client_refusal (cause before.end))
   pub err : answer ≢ code.Done → Untouched before after
 
 pub record KeyCall (key : ℕ) (answer : Code) (before after : HeldClient) : Type 0 where
   pub acts : Acts (typed key) call_fault answer before after
-  pub shows : answer ≡ code.Done → Shows before.end (typed key) before.shown.items after.shown.items
+  pub shows : answer ≡ code.Done → after.shown.items ≡ before.shown.items ++ shows_key before.end key
   pub memory : answer ≡ code.Memory → LacksMemoryFor before.end key before.pending before.shown
 
 pub record ResizeCall (width height : ℕ) (answer : Code) (before after : HeldClient) : Type 0 where

@@ -1,5 +1,5 @@
 -- What each call of a held server end does.
-use Rattle.std.specs.Prelude.{◌≡◌, ◌≢◌, ◌↔◌, ◌⊎◌, ◌*◌, ◌<◌, ◌≤◌, ℕ, Bool, IsTrue, IsFalse, List, [], ◌∷◌}
+use Rattle.std.specs.Prelude.{◌≡◌, ◌≢◌, ◌↔◌, ◌⊎◌, ◌*◌, ◌<◌, ◌≤◌, ℕ, Bool, IsTrue, IsFalse, List, [], ◌∷◌, ◌++◌}
 use Rattle.std.specs.Prelude.{length}
 use Rattle.std.specs.Prelude.{min, drop, Option, Some, None, MatchOption}
 use Rattle.tn_codes.specs.Masks.{filled_octets}
@@ -11,15 +11,13 @@ use Rattle.tn_nvt.specs.Feeding as nvt
 use Rattle.tn_nvt.specs.Spelling.{spells}
 use Rattle.tn_nvt.specs.Room.{LacksRoom}
 use Rattle.tn_pty.specs.Terminal.{fitting_count}
-use Rattle.tn_server.specs.Calls.{End, LeadsTo, Advances, ReadsNothing, Feeds, StopsWithin, LacksRoomFor}
-use Rattle.tn_server.specs.Calls.{call_fault, char_fault_at, mask_fault}
-use Rattle.tn_server.specs.Events.{History, Event, begun, next, took, wrote, pulled, wished, char_set}
-use Rattle.tn_server.specs.Events.{mask_set}
-use Rattle.tn_server.specs.Faults.{SaysSomething}
-use Rattle.tn_server.specs.Lines.{waiting}
+use Rattle.tn_server.specs.Answering.{Feeds, StopsWithin}
+use Rattle.tn_server.specs.Calls.{End, LeadsTo, call_fault, char_fault_at, mask_fault}
+use Rattle.tn_server.specs.Events.{History, Event, begun, took, pulled, wished, char_set, mask_set}
 use Rattle.tn_server.specs.Replies.{opening}
-use Rattle.tn_server.specs.Screen.{queue}
-use Rattle.tn_server.specs.Terms.{chars, sends_mode}
+use Rattle.tn_server.specs.Steps.{end_after, end_after_write, end_after_pull, says, sends_mode_now}
+use Rattle.tn_server.specs.Steps.{LacksRoomFor}
+use Rattle.tn_server.specs.Terms.{chars}
 use Rattle.tn_server.specs.declared.faults.ServerFault.{ServerFault}
 use Rattle.tn_server.specs.declared.wishes.Editing.{Editing}
 use Rattle.tn_c_parts.specs.Bytes.{Copies}
@@ -39,8 +37,8 @@ pub record Untouched (old new : HeldServer) : Type 0 where
 -- A call of the owner, which is this event, and which may be refused for such a cause.
 pub record Acts (e : Event) (cause : End → Option ServerFault) (answer : Code) (before after : HeldServer)
     : Type 0 where
-  pub ok : answer ≡ code.Done → Advances before.end e before.pending.items after.pending.items after.end
-  pub keeps : ReadsNothing before.end after.end
+  pub step : answer ≡ code.Done → after.end ≡ end_after before.end e
+  pub sends : answer ≡ code.Done → after.pending.items ≡ before.pending.items ++ spells (says before.end e)
   pub accepted : answer ≡ code.Done → cause before.end ≡ None
   pub refused : (answer ≡ code.Done) ⊎ (answer ≡ server_refusal (cause before.end))
   pub err : answer ≢ code.Done → Untouched before after
@@ -50,7 +48,7 @@ pub record Acts (e : Event) (cause : End → Option ServerFault) (answer : Code)
 pub record WishCall (editing : Editing) (old_sent new_sent : Bool) (answer : Code)
     (before after : HeldServer) : Type 0 where
   pub acts : Acts (wished editing) call_fault answer before after
-  pub sent : answer ≡ code.Done → (h : History) → LeadsTo h before.end → new_sent ≡ sends_mode h editing
+  pub sent : answer ≡ code.Done → new_sent ≡ sends_mode_now before.end editing
   pub unsent : answer ≢ code.Done → new_sent ≡ old_sent
 
 abbrev pub SetCharCall : Option ℕ → Func → Code → HeldServer → HeldServer → Type 0
@@ -82,36 +80,34 @@ pub record FeedCall (piece : List ℕ) (answer : Code) (before after : HeldServe
 
 pub record TakeCall (old_kind new_kind : ℕ) (answer : Code) (before after : HeldServer) : Type 0 where
   pub codes : (answer ≡ code.Done) ⊎ (answer ≡ code.Memory)
-  pub ok : answer ≡ code.Done → Advances before.end took before.pending.items after.pending.items after.end
-  pub keeps : ReadsNothing before.end after.end
-  pub entry : answer ≡ code.Done → (h : History) → LeadsTo h before.end
-      → MatchOption after.entry (waiting h ≡ []) (λ e. waiting h ≡ e ∷ waiting (next h took))
+  pub step : answer ≡ code.Done → after.end ≡ end_after before.end took
+  pub sends : answer ≡ code.Done → after.pending.items ≡ before.pending.items ++ spells (says before.end took)
+  pub entry : answer ≡ code.Done → MatchOption after.entry (before.end.terminal.entries ≡ [])
+      (λ e. before.end.terminal.entries ≡ e ∷ after.end.terminal.entries)
   pub kind : answer ≡ code.Done → new_kind ≡ kind_number after.entry
   pub err : answer ≡ code.Memory → Untouched before after
   pub err_kind : answer ≡ code.Memory → new_kind ≡ old_kind
-  pub grows : answer ≡ code.Memory → (h : History) → LeadsTo h before.end → SaysSomething h took
+  pub grows : answer ≡ code.Memory → says before.end took ≢ []
   pub full : answer ≡ code.Memory → LacksRoomFor before.end took before.pending
 
 pub record WriteCall (bytes : List ℕ) (count : ℕ) (before after : HeldServer) : Type 0 where
-  pub goes : (so_far : List ℕ) → Advances before.end (wrote bytes) so_far so_far after.end
-  pub keeps : ReadsNothing before.end after.end
-  pub counts : (h : History) → LeadsTo h before.end → count ≡ fitting_count (queue h) bytes
+  pub step : after.end ≡ end_after_write before.end bytes
+  pub counts : count ≡ fitting_count before.end.terminal.queue bytes
   pub pending : after.pending.items ≡ before.pending.items
   pub entry : after.entry ≡ before.entry
 
 pub record PullCall (max old_count new_count : ℕ) (answer : Code) (before after : HeldServer) : Type 0 where
   pub codes : (answer ≡ code.Done) ⊎ (answer ≡ code.Memory)
-  pub ok : answer ≡ code.Done
-      → Advances before.end (pulled new_count) before.pending.items after.pending.items after.end
-  pub keeps : ReadsNothing before.end after.end
-  pub counts : answer ≡ code.Done → (h : History) → LeadsTo h before.end
-      → new_count ≡ min max (length (queue h))
+  pub step : answer ≡ code.Done → after.end ≡ end_after_pull before.end new_count
+  pub sends : answer ≡ code.Done
+      → after.pending.items ≡ before.pending.items ++ spells (says before.end (pulled new_count))
+  pub counts : answer ≡ code.Done → new_count ≡ min max (length before.end.terminal.queue)
   pub entry : after.entry ≡ before.entry
   pub err : answer ≡ code.Memory → Untouched before after
   pub err_count : answer ≡ code.Memory → new_count ≡ old_count
-  pub grows : answer ≡ code.Memory → (h : History) → LeadsTo h before.end → SaysSomething h (pulled max)
-  pub full : answer ≡ code.Memory → (h : History) → LeadsTo h before.end
-      → LacksRoom before.pending (2 * min max (length (queue h)))
+  pub grows : answer ≡ code.Memory → says before.end (pulled max) ≢ []
+  pub full : answer ≡ code.Memory
+      → LacksRoom before.pending (2 * min max (length before.end.terminal.queue))
 
 -- bytes that waited to be sent were moved to a buffer
 pub record ReadCall (old_buf new_buf : List ℕ) (count : ℕ) (before after : HeldServer) : Type 0 where

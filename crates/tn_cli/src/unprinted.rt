@@ -21,7 +21,7 @@ const SB: u8 = 250;
 const TOO_MANY: usize = 514;
 
 /// What is left unread at the end of a stream, which is less than an item.
-#[derive(Clone, Copy, Debug, PartialEq, Eq)]
+#[derive(Clone, Copy, PartialEq, Eq)]
 pub enum Left {
     Nothing,
     Cr,
@@ -33,7 +33,7 @@ pub enum Left {
 }
 
 /// How much of a stream was dropped. A count stops at the greatest `u64`.
-#[derive(Clone, Copy, Debug, PartialEq, Eq)]
+#[derive(Clone, Copy, PartialEq, Eq)]
 pub struct Dropped {
     /// IAC and a byte that is no command.
     pub escapes: u64,
@@ -42,7 +42,7 @@ pub struct Dropped {
 }
 
 /// What a stream has that is no item, and so is not printed.
-#[derive(Clone, Copy, Debug, PartialEq, Eq)]
+#[derive(Clone, Copy, PartialEq, Eq)]
 pub struct Unprinted {
     pub dropped: Dropped,
     pub left: Left,

@@ -1,5 +1,5 @@
 -- How much a client end sends at most.
-use Rattle.std.proofs.Common.{◌≡◌, ◌≢◌, ℕ, ◌+◌, ◌-◌, ◌*◌, ◌≤◌, ◌==◌, Bool, true, false, not, ◌&&◌, ◌||◌, Option, Some, None, List, [], ◌∷◌, ◌++◌, length, take}
+use Rattle.std.proofs.Common.{◌∙◌, ◌≡◌, ◌≢◌, ℕ, ◌+◌, ◌-◌, ◌*◌, ◌≤◌, ◌==◌, Bool, true, false, not, ◌&&◌, ◌||◌, Option, Some, None, List, [], ◌∷◌, ◌++◌, length, take}
 use Rattle.std.proofs.Common.{drop, take-append-drop, refl, ap, arith, if◌then◌else◌}
 use Rattle.std.specs.Prelude.{bit_or}
 use Rattle.std.specs.Int.{w16, to_be_bytes}
@@ -32,10 +32,10 @@ use Rattle.tn_client.specs.Lines.{role_at, held_bytes, count_under, line}
 use Rattle.tn_client.specs.Replies.{byte_items, command_of, command_items, raw_key_items, edited_key_items, sent_ahead_items, key_items, size_items}
 use Rattle.tn_client.specs.Replies.{new_size_items, payload_answers, answer_items, end_of_edit_items, is_same_size, resize_items, command_sent, replies}
 use Rattle.tn_client.specs.Replies.{items_said}
-use Rattle.tn_client.specs.Steps.{is_sent_now, line_sent, line_left, count_told}
+use Rattle.tn_client.specs.Steps.{is_sent_now, line_sent, line_left, count_told, line_typed}
 use Rattle.tn_client.specs.Terms.{options, mode, forward, chars, size as window, linemode, tells_size, options_after, payload_at}
 use Rattle.tn_client.proofs.lemmas.Histories.{unedited-held}
-use Rattle.tn_client.proofs.lemmas.Lines.{line-came, line_after_key, line_beside_key}
+use Rattle.tn_client.proofs.lemmas.Lines.{line_next}
 
 -- ANSWERS
 size-window : (z : ℕ × ℕ) → size (size_items z) ≤ 13
@@ -130,7 +130,7 @@ held_pays h item =
     omega (
       arith,
       size-held_left (edits (mode h)) (edits (mode (next h (got item)))) n (line h),
-      ap (λ (l : HalfLine). size (byte_items l.held)) (line-came h item),
+      ap (λ (l : HalfLine). size (byte_items l.held)) (line_next h (got item)),
     )
 
 -- a byte is spelled in at most two
@@ -219,12 +219,19 @@ typed_pays h key true e =
       size-append (edited_key_items r l) (sent_ahead_items sends (line_after l r)),
       edited_pays r l,
       ahead_pays sends (line_after l r),
-      ap (λ (x : HalfLine). size (byte_items x.held)) (line_after_key h key e),
+      ap (λ (x : HalfLine). size (byte_items x.held)) (line_next h (typed key)
+          ∙ ap (λ (b : Bool). line_typed b (forward h) l r) e),
     )
 typed_pays h key false e =
     let r : Role = role_at h key in
     let says : replies h (typed key) ≡ raw_key_items r key = ap (λ (b : Bool). key_items b (forward h) r (line h) key) e in
-    omega (arith, ap size says, size-raw r key, ap (λ (x : HalfLine). size (byte_items x.held)) (line_beside_key h key e))
+    omega (
+      arith,
+      ap size says,
+      size-raw r key,
+      ap (λ (x : HalfLine). size (byte_items x.held)) (line_next h (typed key)
+          ∙ ap (λ (b : Bool). line_typed b (forward h) (line h) r) e),
+    )
 
 -- WHAT AN ITEM WEIGHS: what it is answered by is paid by it, and by NAWS that was off before
 abbrev credit : Bool → ℕ

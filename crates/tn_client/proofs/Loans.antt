@@ -10,28 +10,25 @@ use Rattle.tn_nvt.specs.declared.decoding.NvtFault.TheVariants.{Memory, Failed, 
 use Rattle.tn_nvt.specs.declared.items.Item.{Item}
 use Rattle.tn_nvt.specs.declared.items.Item.TheVariants.{Byte, Sub}
 use Rattle.tn_nvt.proofs.lemmas.Folding.{taken_all, refused_items, kept_by_all}
-use Rattle.tn_client.specs.Events.{History, gets}
+use Rattle.tn_client.specs.Answering.{Feeds, IsStopCause, StopsWithin}
+use Rattle.tn_client.specs.Calls.{End, ReadsList}
 use Rattle.tn_client.specs.Terms.{payload_at}
-use Rattle.tn_client.specs.Replies.{items_said}
-use Rattle.tn_client.specs.Screen.{text_shown, item_shown}
-use Rattle.tn_client.specs.Calls.{End, LeadsTo, ReadsNothing, AdvancesAll, Feeds, IsStopCause, StopsWithin, ReadsList}
-use Rattle.tn_client.specs.Steps.{end_after_item, says_got, says_sub, MayWantMemoryNow}
+use Rattle.tn_client.specs.Screen.{item_shown}
+use Rattle.tn_client.specs.Steps.{end_after_item, says_got, says_sub, end_after_items, says_items, items_shown, MayWantMemory}
 use Rattle.tn_linemode.specs.Prefixes.{AppendsPrefix}
 use Rattle.tn_client.specs.Lending.{IsSameLoan, TakesItems, RefusesItems}
 use Rattle.tn_client.specs.declared.taking.Lent.{Lent}
-use Rattle.tn_linemode.proofs.lemmas.Cutting.{spelled_on, cons_some}
-use Rattle.tn_client.proofs.Gathering.{keeps_same, keeps_both, gets_none, gets_one, gets_both, gets_plain}
-use Rattle.tn_client.proofs.Standings.{refuses_got}
+use Rattle.tn_linemode.proofs.lemmas.Cutting.{added_on, spelled_on, cons_some}
+use Rattle.tn_client.proofs.lemmas.Gathering.{after_both, says_both, shown_both, after_beside, says_beside, after_plain, says_plain, shown_plain}
 
 -- ONE CALL
 pub took_run : (a b : Lent) (bytes : List ℕ) → IsSameLoan a b → b.end.now ≡ a.end.now → b.out.now.items ≡ a.out.now.items
     → b.screen.now.items ≡ a.screen.now.items ++ bytes → TakesItems a (map Byte bytes) b
 took_run a b bytes same end out screen = record {
   same = same;
-  keeps = subst (λ (e : End). ReadsNothing a.end.now e) (sym end) (keeps_same a.end.now);
-  gets =
-      rw (out, screen) (subst (λ (e : End). AdvancesAll a.end.now (map Byte bytes) a.out.now.items a.out.now.items a.screen.now.items
-      (a.screen.now.items ++ bytes) e) (sym end) (gets_plain a.end.now bytes a.out.now.items a.screen.now.items));
+  step = end ∙ sym (after_plain a.end.now bytes);
+  said = out ∙ sym (ap (λ (xs : List Item). a.out.now.items ++ spells xs) (says_plain a.end.now bytes) ∙ append-nil a.out.now.items);
+  shown = screen ∙ ap (λ (text : List ℕ). a.screen.now.items ++ text) (sym (shown_plain bytes));
 }
 
 pub refused_run : (a b : Lent) (bytes : List ℕ) → IsRun bytes → IsSameLoan a b → b.out.now.items ≡ a.out.now.items → b.screen.now.items ≡ a.screen.now.items
@@ -42,10 +39,9 @@ refused_run a b (byte ∷ bytes) run same out screen = record {
   item = Byte byte;
   later = map Byte bytes;
   whole = refl;
-  refused =
-      refuses_got a.end.now (Byte byte) a.out.now.items b.out.now.items a.screen.now.items b.screen.now.items
-      (record { part = []; rest = says_got a.end.now (Byte byte); whole_is = refl; appended = out ∙ sym (append-nil a.out.now.items) }) screen
-      (inr (inl (cons_some byte [])));
+  cut = record { part = []; rest = says_got a.end.now (Byte byte); whole_is = refl; appended = out ∙ sym (append-nil a.out.now.items) };
+  shown = screen;
+  grows = inr (inl (cons_some byte []));
 }
 
 pub took_item : (a b : Lent) (item : Item) → IsSameLoan a b → b.end.now ≡ end_after_item a.end.now item
@@ -53,39 +49,47 @@ pub took_item : (a b : Lent) (item : Item) → IsSameLoan a b → b.end.now ≡ 
     → TakesItems a (item ∷ []) b
 took_item a b item same end out screen = record {
   same = same;
-  keeps = record { decoder = ap (λ (e : End). e.decoder) end; failed = ap (λ (e : End). e.failed) end };
-  gets = gets_one a.end.now b.end.now item a.out.now.items b.out.now.items a.screen.now.items b.screen.now.items end out screen;
+  step = end;
+  said = out ∙ ap (λ (xs : List Item). a.out.now.items ++ spells xs) (sym (append-nil (says_got a.end.now item)));
+  shown = screen ∙ ap (λ (text : List ℕ). a.screen.now.items ++ text) (sym (append-nil (item_shown item)));
 }
 
 pub refused_item : (a b : Lent) (item : Item) → IsSameLoan a b → AppendsPrefix (says_got a.end.now item) a.out.now.items b.out.now.items
-    → b.screen.now.items ≡ a.screen.now.items → MayWantMemoryNow a.end.now item → RefusesItems a (item ∷ []) b
-refused_item a b item same cut screen grows = record {
-  same = same;
-  item = item;
-  later = [];
-  whole = refl;
-  refused = refuses_got a.end.now item a.out.now.items b.out.now.items a.screen.now.items b.screen.now.items cut screen grows;
-}
+    → b.screen.now.items ≡ a.screen.now.items → MayWantMemory a.end.now item → RefusesItems a (item ∷ []) b
+refused_item a b item same cut screen grows =
+    record { same = same; item = item; later = []; whole = refl; cut = cut; shown = screen; grows = grows }
 
 -- a subnegotiation shows nothing
 pub grows_sub : (old : End) (option : ℕ) (params : List ℕ) → (says_sub old (payload_at old.options (Sub option params)) ≢ [])
-    ⊎ ReadsList old.options (Sub option params) → MayWantMemoryNow old (Sub option params)
+    ⊎ ReadsList old.options (Sub option params) → MayWantMemory old (Sub option params)
 grows_sub old option params (inl says) = inl says
 grows_sub old option params (inr reads) = inr (inr reads)
 
 -- ALL CALLS
-abbrev GetsBy : Lent → List Item → Lent → Type 0
-GetsBy a items b = AdvancesAll a.end.now items a.out.now.items b.out.now.items a.screen.now.items b.screen.now.items b.end.now
+record GetsBy (a : Lent) (items : List Item) (b : Lent) : Type 0 where
+  pub step : b.end.now ≡ end_after_items a.end.now items
+  pub said : b.out.now.items ≡ a.out.now.items ++ spells (says_items a.end.now items)
+  pub shown : b.screen.now.items ≡ a.screen.now.items ++ items_shown items
+
+gets_none : (a : Lent) → GetsBy a [] a
+gets_none a = record { step = refl; said = sym (append-nil a.out.now.items); shown = sym (append-nil a.screen.now.items) }
+
+gets_both : (a b c : Lent) (xs ys : List Item) → TakesItems a xs b → GetsBy b ys c → GetsBy a (xs ++ ys) c
+gets_both a b c xs ys t g =
+    let said = says_items (end_after_items a.end.now xs) ys in
+    let there : c.out.now.items ≡ b.out.now.items ++ spells said = g.said ∙ ap (λ (e : End). b.out.now.items ++ spells (says_items e ys)) t.step in
+    record {
+      step = g.step ∙ ap (λ (e : End). end_after_items e ys) t.step ∙ sym (after_both a.end.now xs ys);
+      said =
+          spelled_on (says_items a.end.now xs) said a.out.now.items b.out.now.items c.out.now.items t.said there
+          ∙ ap (λ (all : List Item). a.out.now.items ++ spells all) (sym (says_both a.end.now xs ys));
+      shown =
+          added_on (items_shown xs) (items_shown ys) a.screen.now.items _ _ t.shown g.shown
+          ∙ ap (λ (text : List ℕ). a.screen.now.items ++ text) (sym (shown_both xs ys));
+    }
 
 gets_all : (a b : Lent) (calls : List (List Item)) → TakesEach TakesItems a calls b → GetsBy a (all_of calls) b
-gets_all a b calls t =
-    taken_all TakesItems RefusesItems GetsBy (λ x. gets_none x.end.now x.out.now.items x.screen.now.items)
-    (λ x y z xs ys u g. gets_both _ _ _ xs ys _ _ _ _ _ _ u.gets g) a b calls t
-
-keeps_all : (a b : Lent) (calls : List (List Item)) → TakesEach TakesItems a calls b → ReadsNothing a.end.now b.end.now
-keeps_all a b calls t =
-    taken_all TakesItems RefusesItems (λ x _ y. ReadsNothing x.end.now y.end.now) (λ x. keeps_same x.end.now)
-    (λ x y z xs ys u k. keeps_both x.end.now y.end.now z.end.now u.keeps k) a b calls t
+gets_all a b calls t = taken_all TakesItems RefusesItems GetsBy gets_none (λ x y z xs ys u g. gets_both x y z xs ys u g) a b calls t
 
 -- whatever the decoder answered
 pub same_loan : (r : Result (Unit {0}) NvtFault) (old new : DecoderState) (piece : List ℕ) (a b : Lent) → OnOk r (FeedsTo TakesItems old piece a b new)
@@ -94,25 +98,14 @@ pub same_loan : (r : Result (Unit {0}) NvtFault) (old new : DecoderState) (piece
 same_loan = kept_by_all TakesItems RefusesItems IsSameLoan (λ x. record { end = refl; out = refl; screen = refl })
     (λ x y z p q. record { end = q.end ∙ p.end; out = q.out ∙ p.out; screen = q.screen ∙ p.screen }) (λ x y xs t. t.same) (λ x y xs t. t.same)
 
--- the decoder alone changed
-stands_decoder : (h : History) (old : End) (d : DecoderState) → LeadsTo h old → LeadsTo h (record old { decoder = d })
-stands_decoder h old d s =
-    record {
-      options = s.options;
-      mode = s.mode;
-      forward = s.forward;
-      table = s.table;
-      line = s.line;
-      ahead = s.ahead;
-      limit = s.limit;
-      trapped = s.trapped;
-      plain = s.plain;
-      size = s.size;
-    }
-
 -- the end was lent without its decoder
-lends : (h : History) (old : End) (held : DecoderState) (a : Lent) → a.end.now ≡ record old { decoder = held } → LeadsTo h old → LeadsTo h a.end.now
-lends h old held a began s = subst (LeadsTo h) (sym began) (stands_decoder h old held s)
+after_lent : (old : End) (held : DecoderState) (a : Lent) (items : List Item) → a.end.now ≡ record old { decoder = held }
+    → end_after_items a.end.now items ≡ record (end_after_items old items) { decoder = held }
+after_lent old held a items began = ap (λ (e : End). end_after_items e items) began ∙ after_beside old held items
+
+says_lent : (old : End) (held : DecoderState) (a : Lent) (items : List Item) → a.end.now ≡ record old { decoder = held }
+    → says_items a.end.now items ≡ says_items old items
+says_lent old held a items began = ap (λ (e : End). says_items e items) began ∙ says_beside old held items
 
 -- a piece that was read to its end
 pub feeds_of : (old new : End) (held d : DecoderState) (piece after now : List ℕ) (a b : Lent) → a.end.now ≡ record old { decoder = held }
@@ -121,51 +114,52 @@ pub feeds_of : (old new : End) (held d : DecoderState) (piece after now : List �
 feeds_of old new held d piece after now a b began hands is outs screens =
     let items = all_of (calls_of hands.parts) in
     let g = gets_all a b (calls_of hands.parts) hands.taken in
-    let k = keeps_all a b (calls_of hands.parts) hands.taken in
+    let decoder : new.decoder ≡ d = ap (λ (e : End). e.decoder) is in
     record {
       items = items;
-      said = g.said;
-      text = g.text;
-      appended = outs ∙ g.appended;
-      displayed = screens ∙ g.displayed;
-      sends = λ h s. g.sends h (lends h old held a began s);
-      shows = λ h s. g.shows h (lends h old held a began s);
-      leads = λ h s. subst (LeadsTo (gets h items)) (sym is) (stands_decoder (gets h items) b.end.now d (g.leads h (lends h old held a began s)));
-      reads = subst (λ (e : DecoderState). Advances old.decoder piece items e) (sym (ap (λ (e : End). e.decoder) is)) hands.adds;
-      failed = ap (λ (e : End). e.failed) is ∙ k.failed ∙ ap (λ (e : End). e.failed) began;
+      reads = subst (λ (e : DecoderState). Advances old.decoder piece items e) (sym decoder) hands.adds;
+      step =
+          is ∙ ap (λ (e : End). record e { decoder = d }) (g.step ∙ after_lent old held a items began)
+          ∙ ap (λ (x : DecoderState). record (end_after_items old items) { decoder = x }) (sym decoder);
+      said = outs ∙ g.said ∙ ap (λ (xs : List Item). a.out.now.items ++ spells xs) (says_lent old held a items began);
+      shown = screens ∙ g.shown;
     }
 
 -- where the first of some items was refused, all that is left gives up
-gives_up : (h : History) (left later more : List Item) (item : Item) (part : List Item) (here : DecoderState) (back : List ℕ) → left ≡ item ∷ later
-    → IsStopCause h (item ∷ later ++ more) part here back → IsStopCause h (left ++ more) part here back
-gives_up h left later more item part here back is g =
-    subst (λ (xs : List Item). IsStopCause h (xs ++ more) part here back) (sym is) g
+gives_up : (end : End) (left later more : List Item) (item : Item) (part : List Item) (here : DecoderState) (back : List ℕ) → left ≡ item ∷ later
+    → IsStopCause end (item ∷ later ++ more) part here back → IsStopCause end (left ++ more) part here back
+gives_up end left later more item part here back is g =
+    subst (λ (xs : List Item). IsStopCause end (xs ++ more) part here back) (sym is) g
 
 breaks_at : (old : End) (held : DecoderState) (piece after now : List ℕ) (a b : Lent) → a.end.now ≡ record old { decoder = held }
     → RefusesRest TakesItems RefusesItems old.decoder piece a b → after ≡ b.out.now.items → now ≡ b.screen.now.items
     → StopsWithin old piece a.out.now.items after a.screen.now.items now
 breaks_at old held piece after now a b began r outs screens =
+    let done = all_of r.done in
     let g = gets_all a r.middle r.done r.taken in
     let f = r.given_up in
+    let end = end_after_items old done in
+    let there : r.middle.end.now ≡ record end { decoder = held } = g.step ∙ after_lent old held a done began in
+    let cause : IsStopCause (record end { decoder = held }) (f.item ∷ f.later ++ all_of r.unseen) f.cut.part r.here r.back =
+    subst (λ (e : End). IsStopCause e (f.item ∷ f.later ++ all_of r.unseen) f.cut.part r.here r.back) there
+    (record { rest = f.cut.rest; whole = f.cut.whole_is; grows = f.grows }) in
     record {
       front = bytes_of r.parts;
       back = r.back;
       whole = r.whole;
-      done = all_of r.done;
+      done = done;
       left = r.left ++ all_of r.unseen;
       here = r.here;
       reads = subst (λ (xs : List Item). Advances old.decoder (bytes_of r.parts) xs r.here)
           (refused_items TakesItems RefusesItems old.decoder piece a b r) r.adds;
-      said = g.said;
-      part = f.refused.part;
-      text = g.text;
-      appended = outs ∙ spelled_on g.said f.refused.part a.out.now.items r.middle.out.now.items b.out.now.items g.appended f.refused.appended;
-      displayed = screens ∙ f.refused.displayed ∙ g.displayed;
-      sends = λ h s. g.sends h (lends h old held a began s);
-      shows = λ h s. g.shows h (lends h old held a began s);
-      cause = λ h stream had s reads.
-          gives_up (gets h (all_of r.done)) r.left f.later (all_of r.unseen) f.item f.refused.part r.here r.back f.whole
-          (f.refused.refused (gets h (all_of r.done)) (g.leads h (lends h old held a began s)));
+      part = f.cut.part;
+      said =
+          outs
+          ∙ spelled_on (says_items a.end.now done) f.cut.part a.out.now.items r.middle.out.now.items b.out.now.items g.said f.cut.appended
+          ∙ ap (λ (xs : List Item). a.out.now.items ++ spells (xs ++ f.cut.part)) (says_lent old held a done began);
+      shown = screens ∙ f.shown ∙ g.shown;
+      cause = λ stream had reads. gives_up end r.left f.later (all_of r.unseen) f.item f.cut.part r.here r.back f.whole
+          (record { rest = cause.rest; whole = cause.whole; grows = cause.grows });
     }
 
 breaks_after : (old : End) (held : DecoderState) (piece after now : List ℕ) (a b : Lent) → a.end.now ≡ record old { decoder = held }
@@ -182,14 +176,12 @@ breaks_after old held piece after now a b began w outs screens =
       left = [];
       here = w.here;
       reads = subst (λ (xs : List Item). Advances old.decoder (bytes_of w.parts) xs w.here) (sym (append-nil items)) w.adds;
-      said = g.said;
       part = [];
-      text = g.text;
-      appended = outs ∙ g.appended ∙ ap (λ (xs : List Item). a.out.now.items ++ spells xs) (sym (append-nil g.said));
-      displayed = screens ∙ g.displayed;
-      sends = λ h s. g.sends h (lends h old held a began s);
-      shows = λ h s. g.shows h (lends h old held a began s);
-      cause = λ h stream had s reads. (refl, w.wanted);
+      said =
+          outs ∙ g.said
+          ∙ ap (λ (xs : List Item). a.out.now.items ++ spells xs) (says_lent old held a items began ∙ sym (append-nil (says_items old items)));
+      shown = screens ∙ g.shown;
+      cause = λ stream had reads. (refl, w.wanted);
     }
 
 -- a decoder that has failed reads nothing
@@ -206,14 +198,10 @@ breaks_unread old piece a b after now dead same outs screens =
       left = [];
       here = old.decoder;
       reads = λ stream had reads. absurd (never stream had reads);
-      said = [];
       part = [];
-      text = [];
-      appended = outs ∙ ap (λ (x : Lent). x.out.now.items) same ∙ sym (append-nil a.out.now.items);
-      displayed = screens ∙ ap (λ (x : Lent). x.screen.now.items) same ∙ sym (append-nil a.screen.now.items);
-      sends = λ h s. sym (append-nil (items_said h));
-      shows = λ h s. sym (append-nil (text_shown h));
-      cause = λ h stream had s reads. absurd (never stream had reads);
+      said = outs ∙ ap (λ (x : Lent). x.out.now.items) same ∙ sym (append-nil a.out.now.items);
+      shown = screens ∙ ap (λ (x : Lent). x.screen.now.items) same ∙ sym (append-nil a.screen.now.items);
+      cause = λ stream had reads. absurd (never stream had reads);
     }
 
 pub breaks_of : (r : Result (Unit {0}) NvtFault) (fault : NvtFault) → r ≡ Err fault → (old : End) (held : DecoderState) (piece after now : List ℕ) (a b : Lent)

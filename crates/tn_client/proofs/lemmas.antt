@@ -6,3 +6,6 @@ pub mod Courses
 pub mod Words
 pub mod Stopping
 pub mod Wanting
+pub mod Standings
+pub mod Gathering
+pub mod Keying

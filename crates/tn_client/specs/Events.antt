@@ -3,6 +3,7 @@
 use Rattle.std.specs.Prelude.{ℕ, Option, List, [], ◌∷◌, ◌++◌}
 use Rattle.tn_codes.specs.declared.codes.Func.{Func}
 use Rattle.tn_nvt.specs.declared.items.Item.{Item}
+use Rattle.tn_linemode.specs.Folding.{after_all}
 use Rattle.tn_client.specs.declared.commands.UserCommand.{UserCommand}
 
 pub data Event : Type 0 where
@@ -32,5 +33,4 @@ keys (next h _) = keys h
 
 -- these items came, one after another
 abbrev pub gets : History → List Item → History
-gets h [] = h
-gets h (item ∷ rest) = gets (next h (got item)) rest
+gets h more = after_all (λ k item. next k (got item)) h more

@@ -1,7 +1,9 @@
 -- What a client end takes while it is lent to its decoder.
-use Rattle.std.specs.Prelude.{◌≡◌, List, ◌∷◌}
+use Rattle.std.specs.Prelude.{◌≡◌, List, ◌∷◌, ◌++◌}
+use Rattle.tn_linemode.specs.Prefixes.{AppendsPrefix}
+use Rattle.tn_nvt.specs.Spelling.{spells}
 use Rattle.tn_nvt.specs.declared.items.Item.{Item}
-use Rattle.tn_client.specs.Calls.{ReadsNothing, AdvancesAll, RefusesItem}
+use Rattle.tn_client.specs.Steps.{says_got, end_after_items, says_items, items_shown, MayWantMemory}
 use Rattle.tn_client.specs.declared.taking.Lent.{Lent}
 
 -- the same end is lent, and what it appends to
@@ -13,15 +15,16 @@ pub record IsSameLoan (old new : Lent) : Type 0 where
 -- the end did these items, one after another
 pub record TakesItems (old : Lent) (items : List Item) (new : Lent) : Type 0 where
   pub same : IsSameLoan old new
-  pub keeps : ReadsNothing old.end.now new.end.now
-  pub gets : AdvancesAll old.end.now items
-      old.out.now.items new.out.now.items old.screen.now.items new.screen.now.items new.end.now
+  pub step : new.end.now ≡ end_after_items old.end.now items
+  pub said : new.out.now.items ≡ old.out.now.items ++ spells (says_items old.end.now items)
+  pub shown : new.screen.now.items ≡ old.screen.now.items ++ items_shown items
 
--- the first of these items was refused
+-- The first of these items was refused, when a prefix of what it makes the end say was said.
 pub record RefusesItems (old : Lent) (items : List Item) (new : Lent) : Type 0 where
   pub same : IsSameLoan old new
   pub item : Item
   pub later : List Item
   pub whole : items ≡ item ∷ later
-  pub refused : RefusesItem old.end.now item
-      old.out.now.items new.out.now.items old.screen.now.items new.screen.now.items
+  pub cut : AppendsPrefix (says_got old.end.now item) old.out.now.items new.out.now.items
+  pub shown : new.screen.now.items ≡ old.screen.now.items
+  pub grows : MayWantMemory old.end.now item

@@ -1,7 +1,8 @@
--- One event at a client end, as a step from what the end knows now. `Calls` ties these steps to histories.
+-- One event at a client end, as a step from its state: the end after the event, what it says and what it shows.
+-- The law `steps_stand` ties these steps to histories.
 use Rattle.std.specs.Prelude.{◌≡◌, ◌≢◌, ◌⊎◌, ℕ, Bool, true, IsTrue, false, Option, List, [], ◌++◌, length}
-use Rattle.std.specs.Prelude.{take, Vec}
-use Rattle.std.specs.Prelude.{if◌then◌else◌}
+use Rattle.std.specs.Prelude.{take, Vec, ◌∷◌, if◌then◌else◌}
+use Rattle.std.specs.List.{flat_map}
 use Rattle.tn_codes.specs.declared.masks.Mask.{Mask}
 use Rattle.tn_codes.specs.declared.payloads.Payload.{Payload}
 use Rattle.tn_discipline.specs.Admitted.{count_after}
@@ -15,11 +16,17 @@ use Rattle.tn_discipline.specs.declared.keys.Role.TheVariants as role
 use Rattle.tn_linemode.specs.Modes.{edits, traps}
 use Rattle.tn_nvt.specs.Room.{LacksRoom}
 use Rattle.tn_nvt.specs.Spelling.{spells}
+use Rattle.tn_linemode.specs.Triples.{triple_of}
+use Rattle.tn_linemode.specs.Words.{list_items}
 use Rattle.tn_nvt.specs.declared.items.Item.{Item}
+use Rattle.tn_nvt.specs.declared.items.Item.TheVariants.{Cmd}
+use Rattle.tn_linemode.specs.Folding.{after_all, said_all}
+use Rattle.tn_client.specs.Events.{Event, typed, got, resized, proposed, sent}
 use Rattle.tn_client.specs.Terms.{options_after, mode_at, mode_by, forward_by, forward_at, chars_by}
 use Rattle.tn_client.specs.Terms.{payload_at, is_echoed, tells_size}
 use Rattle.tn_client.specs.Lines.{settings_by, key_settings, role_of_typed, is_forward, sends_ahead}
 use Rattle.tn_client.specs.Replies.{key_items, item_replies, end_of_edit_items, payload_answers, resize_items}
+use Rattle.tn_client.specs.Replies.{command_sent}
 use Rattle.tn_client.specs.Screen.{key_shown, item_shown}
 use Rattle.tn_client.specs.Calls.{End, ReadsList}
 
@@ -76,8 +83,8 @@ shows_key old key =
     key_shown (is_echoed old.options) (edits old.mode) terminal (role_now old key) old.line key
 
 -- what it says does not fit what is allocated, or what it shows does not, or it gives a text
-abbrev pub LacksMemoryNow : {Y Z : Type 0} → End → ℕ → Vec ℕ Y → Vec ℕ Z → Type 0
-LacksMemoryNow old key out screen =
+abbrev pub LacksMemoryFor : {Y Z : Type 0} → End → ℕ → Vec ℕ Y → Vec ℕ Z → Type 0
+LacksMemoryFor old key out screen =
     LacksRoom out (length (spells (says_key old key)))
     ⊎ (LacksRoom screen (length (shows_key old key))
     ⊎ (IsTrue (edits old.mode) × GivesText old.line (role_now old key)))
@@ -160,9 +167,47 @@ end_after_resize old width height = record old { width = width; height = height 
 abbrev pub says_resize : End → ℕ → ℕ → List Item
 says_resize old width height = resize_items (tells_size old.options) (old.width, old.height) (width, height)
 
--- an item needs memory, by what the end knows now
-abbrev pub MayWantMemoryNow : End → Item → Type 0
-MayWantMemoryNow old item = (says_got old item ≢ []) ⊎ ((item_shown item ≢ []) ⊎ ReadsList old.options item)
+-- ANY EVENT: the end after it, what it says and what it shows
+abbrev pub end_after : End → Event → End
+end_after old (typed key) = end_after_key old key
+end_after old (got item) = end_after_item old item
+end_after old (resized width height) = end_after_resize old width height
+end_after old (proposed func value) = old
+end_after old (sent command) = old
+
+abbrev pub says : End → Event → List Item
+says old (typed key) = says_key old key
+says old (got item) = says_got old item
+says old (resized width height) = says_resize old width height
+says old (proposed func value) = list_items (triple_of func value ∷ [])
+says old (sent command) = Cmd (command_sent command) ∷ []
+
+abbrev pub displays : End → Event → List ℕ
+displays old (typed key) = shows_key old key
+displays old (got item) = item_shown item
+displays old e = []
+
+-- ITEMS, one after another
+abbrev pub end_after_items : End → List Item → End
+end_after_items old items = after_all end_after_item old items
+
+abbrev pub says_items : End → List Item → List Item
+says_items old items = said_all end_after_item says_got old items
+
+abbrev pub items_shown : List Item → List ℕ
+items_shown items = flat_map item_shown items
+
+-- what the end says at the event does not fit what is allocated
+abbrev pub LacksRoomFor : {Z : Type 0} → End → Event → Vec ℕ Z → Type 0
+LacksRoomFor old e out = LacksRoom out (length (spells (says old e)))
+
+-- the event makes the end say or show something
+abbrev pub SaysOrShows : End → Event → Type 0
+SaysOrShows old e = (says old e ≢ []) ⊎ (displays old e ≢ [])
+
+-- an item needs memory: to say or to show something, or to read a list
+abbrev pub MayWantMemory : End → Item → Type 0
+MayWantMemory old item = (says_got old item ≢ []) ⊎ ((item_shown item ≢ []) ⊎ ReadsList old.options item)
 
 -- it begins as before
 abbrev pub Begins : List ℕ → List ℕ → Type 0

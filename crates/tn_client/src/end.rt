@@ -3,19 +3,18 @@
 ghost use Rattle.std.specs.Prelude.{◌≡◌, ◌≢◌, ◌++◌, ◌∷◌, ℕ, List, true, IsTrue, false, IsFalse, None, []};
 ghost use Rattle.std.specs.Prelude.{length, take, IfOk};
 ghost use Rattle.std.specs.Prelude.{IfErr, IsOk, OnOk, OnErr, IsErrOf};
-ghost use Rattle.tn_linemode.specs.Triples.{triple_of};
 ghost use Rattle.tn_nvt.specs.Room.{LacksRoom};
 ghost use Rattle.tn_nvt.specs.Spelling.{spells};
 ghost use Rattle.tn_nvt.specs.Feeding as nvt;
 ghost use Rattle.tn_option.specs.Options.{state_of};
-ghost use Rattle.tn_client.specs.Events.{History, begun, next, resized, proposed, sent};
+ghost use Rattle.tn_client.specs.Events.{History, begun, resized, proposed, sent};
 ghost use Rattle.tn_client.specs.Terms.{options, mode, chars};
 ghost use Rattle.tn_client.specs.Lines.{held_bytes, ahead, count_under};
-ghost use Rattle.tn_client.specs.Replies.{replies, size_items};
-ghost use Rattle.tn_client.specs.Answering.{AnswersBy, TypesKey, Says, SaysNothing, Untouched};
-ghost use Rattle.tn_client.specs.Calls.{LeadsTo, Feeds, StopsWithin, LacksRoomFor, LacksMemoryFor, call_fault};
-ghost use Rattle.tn_client.specs.Calls.{propose_fault};
-ghost use Rattle.tn_client.specs.Steps.{end_after_resize, says_resize};
+ghost use Rattle.tn_client.specs.Replies.{size_items};
+ghost use Rattle.tn_client.specs.Answering.{AnswersBy, Feeds, StopsWithin, SaysNothing, Untouched};
+ghost use Rattle.tn_client.specs.Calls.{LeadsTo, call_fault, propose_fault};
+ghost use Rattle.tn_client.specs.Steps.{end_after_key, says_key, shows_key, LacksMemoryFor};
+ghost use Rattle.tn_client.specs.Steps.{end_after_resize, says_resize, says, LacksRoomFor};
 
 use crate::commands::UserCommand;
 use crate::faults::ClientFault;
@@ -138,8 +137,11 @@ impl ClientEnd {
         out: &mut Vec<u8>,
         screen: &mut Vec<u8>,
     ) -> Result<(), ClientFault>
-        ensures ok { OnOk result (TypesKey self.old key
-            out.old.items out.new.items screen.old.items screen.new.items self.new) }
+        ensures step { OnOk result (self.new ≡ end_after_key self.old key) }
+        ensures out { OnOk result
+            (out.new.items ≡ out.old.items ++ spells (says_key self.old key)) }
+        ensures screen { OnOk result
+            (screen.new.items ≡ screen.old.items ++ shows_key self.old key) }
         ensures failed { AnswersBy (call_fault self.old) result }
         ensures memory { IsErrOf result ClientFault.Memory →
             LacksMemoryFor self.old key out.old screen.old }
@@ -197,7 +199,9 @@ impl ClientEnd {
 
     /// Takes a new size of the window, in characters, and tells it where NAWS is on and it changed.
     pub fn resize(&mut self, width: u16, height: u16, out: &mut Vec<u8>) -> Result<(), ClientFault>
-        ensures ok { OnOk result (Says self.old (resized width height) out.old.items out.new.items self.new) }
+        ensures step { OnOk result (self.new ≡ end_after_resize self.old width height) }
+        ensures out { OnOk result
+            (out.new.items ≡ out.old.items ++ spells (says_resize self.old width height)) }
         ensures failed { AnswersBy (call_fault self.old) result }
         ensures memory { IsErrOf result ClientFault.Memory →
             LacksRoomFor self.old (resized width height) out.old }
@@ -256,7 +260,9 @@ impl ClientEnd {
         value: Option<u8>,
         out: &mut Vec<u8>,
     ) -> Result<(), ClientFault>
-        ensures ok { OnOk result (Says self.old (proposed func value) out.old.items out.new.items self.new) }
+        ensures step { OnOk result (self.new ≡ self.old) }
+        ensures out { OnOk result
+            (out.new.items ≡ out.old.items ++ spells (says self.old (proposed func value))) }
         ensures failed { AnswersBy (propose_fault self.old func value) result }
         ensures memory { IsErrOf result ClientFault.Memory →
             LacksRoomFor self.old (proposed func value) out.old }
@@ -280,7 +286,9 @@ impl ClientEnd {
     /// Sends a command at once, before what is held of a line, which stays as it is. Nothing is shown.
     /// `Failed` after a refused piece, `Memory` for what it says.
     pub fn send(&mut self, command: UserCommand, out: &mut Vec<u8>) -> Result<(), ClientFault>
-        ensures ok { OnOk result (Says self.old (sent command) out.old.items out.new.items self.new) }
+        ensures step { OnOk result (self.new ≡ self.old) }
+        ensures out { OnOk result
+            (out.new.items ≡ out.old.items ++ spells (says self.old (sent command))) }
         ensures failed { AnswersBy (call_fault self.old) result }
         ensures memory { IsErrOf result ClientFault.Memory →
             LacksRoomFor self.old (sent command) out.old }

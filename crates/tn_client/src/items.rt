@@ -10,7 +10,7 @@ ghost use Rattle.tn_client.specs.Terms.{linemode, changes, tells_size, payload_a
 ghost use Rattle.tn_client.specs.Replies.{new_size_items};
 ghost use Rattle.tn_client.specs.Screen.{item_shown};
 ghost use Rattle.tn_client.specs.Calls.{ReadsList};
-ghost use Rattle.tn_client.specs.Steps.{MayWantMemoryNow, with_mode, end_handed_over, end_taken_over};
+ghost use Rattle.tn_client.specs.Steps.{MayWantMemory, with_mode, end_handed_over, end_taken_over};
 ghost use Rattle.tn_client.specs.Steps.{says_mode, end_after_item, says_got, end_after_payload, says_sub};
 ghost use Rattle.tn_linemode.specs.Prefixes.{AppendsPrefix};
 ghost use Rattle.tn_linemode.specs.Words.{payload_items};
@@ -38,7 +38,7 @@ impl ClientEnd {
         ensures screen { OnOk result (screen.new.items ≡ screen.old.items ++ item_shown item) }
         ensures cut { OnErr result (AppendsPrefix (says_got self.old item) out.old.items out.new.items) }
         ensures err { OnErr result (screen.new.items ≡ screen.old.items) }
-        ensures grows { OnErr result (MayWantMemoryNow self.old item) }
+        ensures grows { OnErr result (MayWantMemory self.old item) }
     {
         match item {
             Item::Byte(byte) => show_byte(byte, screen),

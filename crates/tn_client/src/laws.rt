@@ -15,9 +15,11 @@ ghost use Rattle.tn_linemode.specs.Prefixes.{IsRead};
 ghost use Rattle.tn_client.specs.Terms.{options, mode, forward, linemode};
 ghost use Rattle.tn_client.specs.Lines.{line_limit, ahead, held_bytes, half_line, count_under, line};
 ghost use Rattle.tn_client.specs.Replies.{replies, items_said};
-ghost use Rattle.tn_client.specs.Screen.{text_shown};
+ghost use Rattle.tn_client.specs.Screen.{shows, text_shown};
 ghost use Rattle.tn_client.specs.declared.commands.UserCommand.{UserCommand};
-ghost use Rattle.tn_client.specs.Calls.{End, LeadsTo, Advances, ReadsNothing, Feeds, StopsWithin};
+ghost use Rattle.tn_client.specs.Answering.{Feeds, StopsWithin};
+ghost use Rattle.tn_client.specs.Calls.{End, LeadsTo};
+ghost use Rattle.tn_client.specs.Steps.{end_after, says, displays, end_after_items, says_items, items_shown};
 ghost use Rattle.tn_client.specs.Stopping.{StopsBetween};
 ghost use Rattle.tn_client.specs.Course.{Course, started, fed, called, stream, IsCall, ReadsAs};
 ghost use Rattle.tn_client.specs.Course.{CourseLeadsTo};
@@ -60,6 +62,28 @@ pub fn commands_leave_the_line()
         count_under isig (next h (sent command)) ≡ count_under isig h }
 {}
 
+/// An end is a function of its history: if a history leads to an end, the history with one more event leads to
+/// the end after that event, and the end says and shows then what that history says and shows more.
+pub fn steps_stand()
+    ensures leads { (h : History) (end : End) (e : Event) → LeadsTo h end →
+        LeadsTo (next h e) (end_after end e) }
+    ensures said { (h : History) (end : End) (e : Event) → LeadsTo h end →
+        replies h e ≡ says end e }
+    ensures shown { (h : History) (end : End) (e : Event) → LeadsTo h end →
+        shows h e ≡ displays end e }
+{}
+
+/// If a history leads to an end, the history with the items of a piece leads to the end after the piece. Items,
+/// one after another, make an end say and show what the history with them says and shows more.
+pub fn pieces_stand()
+    ensures leads { (h : History) (old new : End) (piece before after seen now : List ℕ) →
+        (f : Feeds old piece before after seen now new) → LeadsTo h old → LeadsTo (gets h f.items) new }
+    ensures said { (h : History) (end : End) (items : List Item) → LeadsTo h end →
+        items_said (gets h items) ≡ items_said h ++ says_items end items }
+    ensures shown { (h : History) (items : List Item) →
+        text_shown (gets h items) ≡ text_shown h ++ items_shown items }
+{}
+
 /// A course has one history.
 pub fn one_history()
     ensures { (c : Course) (h k : History) → ReadsAs c h → ReadsAs c k → h ≡ k }
@@ -78,11 +102,11 @@ pub fn course_fed()
     ensures said { (c : Course) (old new : End) (piece before after seen now : List ℕ) (h k : History) →
         CourseLeadsTo c old → (f : Feeds old piece before after seen now new) → ReadsAs c h →
         ReadsAs (fed c piece) k →
-        items_said k ≡ items_said h ++ f.said }
+        items_said k ≡ items_said h ++ says_items old f.items }
     ensures displayed { (c : Course) (old new : End) (piece before after seen now : List ℕ) (h k : History) →
         CourseLeadsTo c old → (f : Feeds old piece before after seen now new) → ReadsAs c h →
         ReadsAs (fed c piece) k →
-        text_shown k ≡ text_shown h ++ f.text }
+        text_shown k ≡ text_shown h ++ items_shown f.items }
 {}
 
 /// A piece that is refused: what was appended and what was shown begin what all of its items make the client
@@ -95,8 +119,8 @@ pub fn course_stopped()
 
 /// One call more.
 pub fn course_called()
-    ensures { (c : Course) (old new : End) (e : Event) → CourseLeadsTo c old → IsCall e →
-        Advances old e new → ReadsNothing old new → CourseLeadsTo (called c e) new }
+    ensures { (c : Course) (old : End) (e : Event) → CourseLeadsTo c old → IsCall e →
+        CourseLeadsTo (called c e) (end_after old e) }
 {}
 
 /// However a stretch of the stream is cut, it leads to the same.

@@ -84,7 +84,7 @@ impl Verb {
 
 /// A command that is one byte after IAC (RFC 854, "Telnet command structure"; RFC 885 for EOR;
 /// RFC 1184, section 2 for EOF, SUSP and ABORT).
-#[derive(Clone, Copy, Debug, PartialEq, Eq)]
+#[derive(Clone, Copy, PartialEq, Eq)]
 pub enum Command {
     Eof,
     Susp,
@@ -158,7 +158,7 @@ impl Func {
 
 /// How far a function of the set of local characters is supported (RFC 1184, section 2.4:
 /// SLC_LEVELBITS).
-#[derive(Clone, Copy, Debug, PartialEq, Eq)]
+#[derive(Clone, Copy, PartialEq, Eq)]
 pub enum Level {
     NoSupport,
     CantChange,

@@ -5,7 +5,7 @@ use crate::triples::Triples;
 use thiserror::Error;
 
 /// The parameters of one subnegotiation of NAWS or LINEMODE.
-#[derive(Debug, Drop, PartialEq, Eq)]
+#[derive(Drop, PartialEq, Eq)]
 pub enum Payload {
     /// The size of the client's screen in characters; 0 leaves that side open (RFC 1073).
     Naws { width: u16, height: u16 },

@@ -11,7 +11,7 @@ use std::marker::Model;
 
 /// A function of the set of local characters, its modifier and its character, as they travel: any
 /// three octets (RFC 1184, section 2.4).
-#[derive(Clone, Copy, Debug, PartialEq, Eq)]
+#[derive(Clone, Copy, PartialEq, Eq)]
 pub struct Triple {
     /// 1 to 18 for the functions that have names.
     pub func: u8,
@@ -22,7 +22,7 @@ pub struct Triple {
 }
 
 /// A list of triples, in the order in which they travel.
-#[derive(Debug, Drop)]
+#[derive(Drop)]
 pub struct Triples {
     triples: Vec<Triple>,
 }

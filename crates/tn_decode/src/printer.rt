@@ -19,7 +19,7 @@ use tn_nvt::{Item, Refused, Sink};
 const MAX_DATA: usize = 64;
 
 /// What stands before each line.
-#[derive(Clone, Copy, Debug, PartialEq, Eq)]
+#[derive(Clone, Copy, PartialEq, Eq)]
 pub enum Prefix {
     Empty,
     /// `< `, for what has come.

@@ -76,7 +76,7 @@ pub enum CharFault {
 }
 
 /// The special characters of a terminal (POSIX.1-2017, XBD 11.1.9), each a byte or disabled.
-#[derive(Clone, Copy, Debug, PartialEq, Eq)]
+#[derive(Clone, Copy, PartialEq, Eq)]
 pub struct Chars {
     intr: Option<u8>,
     quit: Option<u8>,

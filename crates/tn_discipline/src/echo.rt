@@ -9,7 +9,7 @@ use crate::keys::{Role, role_of};
 use crate::termios::{Flags, Settings};
 
 /// What a terminal shows: a byte, or a new line.
-#[derive(Clone, Copy, Debug, PartialEq, Eq)]
+#[derive(Clone, Copy, PartialEq, Eq)]
 pub enum Symbol {
     Byte(u8),
     Newline,

@@ -51,7 +51,7 @@ pub enum Effect {
 
 /// The half line that is being typed: the bytes that are held, after those that were handed on to
 /// whoever edits the line with us.
-#[derive(Debug, Drop)]
+#[derive(Drop)]
 pub struct Line {
     held: Vec<u8>,
     ahead: u16,

@@ -7,7 +7,7 @@ ghost use Rattle.tn_discipline.specs.Characters.{standard_characters};
 use crate::characters::Chars;
 
 /// The flags of a terminal, under their names in POSIX.1-2017, XBD 11.2.
-#[derive(Clone, Copy, Debug, PartialEq, Eq)]
+#[derive(Clone, Copy, PartialEq, Eq)]
 pub struct Flags {
     pub icrnl: bool,
     pub inlcr: bool,
@@ -23,7 +23,7 @@ pub struct Flags {
 }
 
 /// What a terminal makes of keys and of output.
-#[derive(Clone, Copy, Debug, PartialEq, Eq)]
+#[derive(Clone, Copy, PartialEq, Eq)]
 pub struct Settings {
     pub flags: Flags,
     pub chars: Chars,

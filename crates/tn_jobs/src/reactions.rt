@@ -7,7 +7,7 @@ use std::alloc::{AllocError, Global};
 use tn_discipline::{Entry, Text};
 
 /// What a job does at an entry, or at a step of its own: the text that it writes, and what comes next.
-#[derive(Debug, Drop)]
+#[derive(Drop)]
 pub struct Reaction {
     pub text: Text,
     pub after: After,

@@ -38,7 +38,7 @@ pub enum Why {
 }
 
 /// Whether a step's text reaches the terminal, and where the job stands after it.
-#[derive(Clone, Copy, Debug, PartialEq, Eq)]
+#[derive(Clone, Copy, PartialEq, Eq)]
 pub struct Verdict {
     pub write: bool,
     pub next: JobState,

@@ -5,3 +5,4 @@ pub mod Fitting
 pub mod Reading
 pub mod OptionWords
 pub mod Sizes
+pub mod Folding

@@ -5,3 +5,4 @@ pub mod Repeating
 pub mod Words
 pub mod Prefixes
 pub mod OptionWords
+pub mod Folding

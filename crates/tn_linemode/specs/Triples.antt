@@ -1,6 +1,6 @@
 -- What one triple of a list of local characters says (RFC 1184, section 2.4): a function,
 -- a modifier and a character.
-use Rattle.std.specs.Prelude.{◌≡◌, ℕ, ◌==◌, Bool, IsTrue, IsFalse, not, Option, Some, None, find, bit_and}
+use Rattle.std.specs.Prelude.{ℕ, ◌==◌, Bool, IsTrue, IsFalse, not, Option, Some, None, find, bit_and}
 use Rattle.std.specs.Prelude.{bit_or}
 use Rattle.std.specs.Prelude.{if◌then◌else◌}
 use Rattle.tn_codes.specs.Codes.{func_code}

@@ -8,7 +8,7 @@ use std::marker::Model;
 use tn_codes::MODE_ACK;
 
 /// The client's side of MODE: the mode in force.
-#[derive(Clone, Copy, Debug, PartialEq, Eq)]
+#[derive(Clone, Copy, PartialEq, Eq)]
 pub struct ClientMode {
     current: Mode,
 }

@@ -17,7 +17,7 @@ use tn_discipline::{CharFault, Chars};
 
 /// The special characters as the client has them. It takes what the server says, and acknowledges
 /// what that changed.
-#[derive(Clone, Copy, Debug, PartialEq, Eq)]
+#[derive(Clone, Copy, PartialEq, Eq)]
 pub struct ClientTable {
     chars: Chars,
 }

@@ -7,7 +7,7 @@ use std::marker::Model;
 use tn_codes::{EDIT, MODE_ACK, TRAPSIG};
 
 /// A mode: whether the client edits lines, and whether it sends its signal characters as commands.
-#[derive(Clone, Copy, Debug, PartialEq, Eq)]
+#[derive(Clone, Copy, PartialEq, Eq)]
 pub struct Mode {
     mask: u8,
 }

@@ -9,7 +9,7 @@ use std::marker::Model;
 
 /// The server's side of MODE: the mode that it asked for last, and the one that the client
 /// acknowledged last.
-#[derive(Clone, Copy, Debug, PartialEq, Eq)]
+#[derive(Clone, Copy, PartialEq, Eq)]
 pub struct ServerMode {
     asked: Mode,
     current: Mode,

@@ -17,7 +17,7 @@ use tn_discipline::{CharFault, Chars};
 
 /// The special characters as the server has them. The server decides: it takes a proposal of the
 /// client that its terminal allows, and acknowledges it.
-#[derive(Clone, Copy, Debug, PartialEq, Eq)]
+#[derive(Clone, Copy, PartialEq, Eq)]
 pub struct ServerTable {
     chars: Chars,
 }

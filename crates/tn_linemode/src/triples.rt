@@ -11,7 +11,7 @@ use tn_codes::{ACK, Func, LEVEL_BITS, Level, Triple};
 use tn_discipline::{Chars, SPECIAL, special_characters};
 
 /// What a triple says, be it an acknowledgement or not.
-#[derive(Clone, Copy, Debug, PartialEq, Eq)]
+#[derive(Clone, Copy, PartialEq, Eq)]
 pub enum Saying {
     /// All functions are to have their standard characters, and the table is asked for.
     Standard,

@@ -8,7 +8,7 @@ use crate::outputs::Output;
 use std::alloc::AllocError;
 
 /// The lines of a file, on their way to a service. Nothing is edited, and a line may have any length.
-#[derive(Clone, Copy, Debug, PartialEq, Eq)]
+#[derive(Clone, Copy, PartialEq, Eq)]
 pub struct FileLines {
     line_end: LineEnd,
     after_return: bool,

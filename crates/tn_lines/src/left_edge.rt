@@ -7,7 +7,7 @@ use std::alloc::AllocError;
 
 /// What a service says, on its way to a screen. At a terminal in raw mode a line feed leaves the column as it
 /// is, so that a carriage return is shown before one that has none.
-#[derive(Clone, Copy, Debug, PartialEq, Eq)]
+#[derive(Clone, Copy, PartialEq, Eq)]
 pub struct LeftEdge {
     at_terminal: bool,
     after_return: bool,

@@ -9,7 +9,7 @@ use crate::items::Item;
 use crate::parameters::Params;
 
 /// The sink takes no more.
-#[derive(Clone, Copy, Debug, PartialEq, Eq)]
+#[derive(Clone, Copy, PartialEq, Eq)]
 pub struct Refused;
 
 /// Takes what a stream is read as: plain bytes in runs, all else item by item. After a refusal it is

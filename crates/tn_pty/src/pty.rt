@@ -63,7 +63,7 @@ pub enum PtyFault {
 
 /// How bytes come to the master: the contracts of `Pair::type_run` and `Pair::edited_run` say by it what both
 /// have in common.
-#[derive(Clone, Copy, Debug, PartialEq, Eq)]
+#[derive(Clone, Copy, PartialEq, Eq)]
 pub enum Input {
     /// As keys, and whether they are shown.
     Keys(bool),

@@ -1,7 +1,6 @@
 pub mod Beginning
 pub mod Calling
 pub mod Listing
-pub mod Passing
 pub mod Running
 pub mod Settling
 pub mod Spelling
@@ -10,7 +9,6 @@ pub mod Turning
 pub mod Wishing
 pub mod Loans
 pub mod lemmas
-pub mod Causes
 pub mod Bounding
 pub mod Dropping
 pub mod Answered

@@ -1,5 +1,6 @@
 -- What a server end did while it was lent to its decoder.
-use Rattle.std.proofs.Common.{◌≡◌, ◌↔◌, true, false, ℕ, List, [], ◌∷◌, ◌++◌, Result, Err, OnOk, IsErrOf, refl, sym, ap, ◌∙◌, append-nil, append_assoc, subst}
+use Rattle.std.proofs.Common.{◌≡◌, ◌↔◌, inl, inr, true, false, ℕ, List, [], ◌∷◌, ◌++◌, map, Result, Err, OnOk, IsErrOf, refl, sym, ap, ◌∙◌, append-nil, append_assoc, subst}
+use Rattle.std.proofs.lemmas.List.{map-append}
 use Rattle.tn_nvt.specs.Spelling.{spells}
 use Rattle.tn_nvt.specs.Sinks.{TakesEach, FeedsTo, StopsAtSink as RefusesRest, StopsForMemory, all_of, calls_of, bytes_of}
 use Rattle.tn_nvt.specs.Feeding.{DecoderState, failed}
@@ -7,50 +8,101 @@ use Rattle.tn_nvt.specs.Feeding as decoder_words
 use Rattle.tn_nvt.specs.declared.decoding.NvtFault.{NvtFault}
 use Rattle.tn_nvt.specs.declared.decoding.NvtFault.TheVariants as nvt
 use Rattle.tn_nvt.specs.declared.items.Item.{Item}
+use Rattle.tn_nvt.specs.declared.items.Item.TheVariants.{Byte}
 use Rattle.tn_nvt.proofs.lemmas.Folding.{taken_all, refused_items, kept_by_all}
+use Rattle.tn_linemode.specs.Prefixes.{AppendsPrefix}
+use Rattle.tn_linemode.proofs.lemmas.Cutting.{spelled_on}
 use Rattle.tn_pty.specs.declared.pty.PtyFault.TheVariants.{Closed}
-use Rattle.tn_server.specs.Events.{History, got, gets}
-use Rattle.tn_server.specs.Faults.{IsOfItem, IsOfPiece}
-use Rattle.tn_server.specs.Replies.{items_said}
-use Rattle.tn_server.specs.Calls.{End, LeadsTo, Advances, AdvancesAll, Feeds, RefusesItem, StopsWithin}
-use Rattle.tn_server.specs.Lending.{IsSameLoan, TakesItems, RefusesItems}
+use Rattle.tn_server.specs.Answering.{Feeds, StopsWithin, IsHalted}
+use Rattle.tn_server.specs.Calls.{End}
+use Rattle.tn_server.specs.Faults.{IsOfPiece}
+use Rattle.tn_server.specs.Lending.{IsSameLoan, TakesItems, RefusesItems, RefusesByte}
+use Rattle.tn_server.specs.Steps.{IsShut, IsRefusedFor, end_after_item, says_item, end_after_items, says_items}
 use Rattle.tn_server.specs.declared.faults.ServerFault.{ServerFault}
 use Rattle.tn_server.specs.declared.faults.ServerFault.TheVariants.{Pty, Memory, Failed, Char, NotOn}
 use Rattle.tn_server.specs.declared.taking.Lent.{Lent}
-use Rattle.tn_linemode.proofs.lemmas.Cutting.{spelled_on}
-use Rattle.tn_server.proofs.Passing.{gets_none, gets_one, gets_both, stands_decoder, stops_at}
+use Rattle.tn_server.proofs.lemmas.Gathering.{after_both, says_both, says_plain, after_aside, item_says, says_aside, items_keep}
 
 -- ONE CALL
-pub took_item : (a b : Lent) (item : Item) → IsSameLoan a b → Advances a.end.now (got item) a.out.now.items b.out.now.items b.end.now
-    → b.end.now.failed ≡ a.end.now.failed → b.cause ≡ a.cause → TakesItems a (item ∷ []) b
-took_item a b item same goes runs cause =
-    record { same = same; gets = gets_one a.end.now b.end.now item a.out.now.items b.out.now.items goes; failed = runs; cause = cause }
-
-pub refused_item : (a b : Lent) (item : Item) → IsSameLoan a b → RefusesItem a.end.now item b.cause a.out.now.items b.out.now.items b.end.now → IsOfItem b.cause
-    → (b.cause ≡ Pty Closed → a.end.now.terminal.closed ≡ true) → RefusesItems a (item ∷ []) b
-refused_item a b item same r of shut = record {
+pub took_run : (a b : Lent) (bytes : List ℕ) → IsSameLoan a b → b.end.now ≡ end_after_items a.end.now (map Byte bytes)
+    → b.out.now.items ≡ a.out.now.items → b.cause ≡ a.cause → TakesItems a (map Byte bytes) b
+took_run a b bytes same step out cause = record {
   same = same;
-  stops = stops_at a.end.now a.end.now b.end.now (item ∷ []) [] [] item b.cause a.out.now.items a.out.now.items b.out.now.items refl
-      (gets_none a.end.now a.out.now.items) r;
-  is_of_item = of;
-  shut = shut;
+  step = step;
+  said = out ∙ sym (append-nil a.out.now.items) ∙ ap (λ (xs : List Item). a.out.now.items ++ spells xs) (sym (says_plain a.end.now bytes));
+  cause = cause;
+}
+
+pub refused_run : (a b : Lent) (bytes : List ℕ) → IsSameLoan a b → RefusesByte a.end.now bytes b.cause b.end.now → b.out.now.items ≡ a.out.now.items
+    → RefusesItems a (map Byte bytes) b
+refused_run a b bytes same r out = record {
+  same = same;
+  done = map Byte r.done;
+  item = Byte r.byte;
+  left = map Byte r.left;
+  whole = ap (map Byte) r.whole ∙ map-append Byte r.done (r.byte ∷ r.left);
+  cut = record {
+    part = [];
+    rest = [];
+    whole_is = refl;
+    appended =
+        out ∙ sym (append-nil a.out.now.items) ∙ ap (λ (xs : List Item). a.out.now.items ++ spells xs) (sym (says_plain a.end.now r.done))
+        ∙ sym (append-nil (a.out.now.items ++ spells (says_items a.end.now (map Byte r.done))));
+  };
+  cause = r.cause;
+  step = r.step;
+}
+
+pub took_item : (a b : Lent) (item : Item) → IsSameLoan a b → b.end.now ≡ end_after_item a.end.now item
+    → b.out.now.items ≡ a.out.now.items ++ spells (says_item a.end.now item) → b.cause ≡ a.cause → TakesItems a (item ∷ []) b
+took_item a b item same step out cause = record {
+  same = same;
+  step = step;
+  said = out ∙ ap (λ (xs : List Item). a.out.now.items ++ spells xs) (sym (append-nil (says_item a.end.now item)));
+  cause = cause;
+}
+
+pub refused_item : (a b : Lent) (item : Item) → IsSameLoan a b → AppendsPrefix (says_item a.end.now item) a.out.now.items b.out.now.items
+    → IsRefusedFor a.end.now item b.cause → IsShut a.end.now b.end.now → RefusesItems a (item ∷ []) b
+refused_item a b item same cut cause step = record {
+  same = same;
+  done = [];
+  item = item;
+  left = [];
+  whole = refl;
+  cut = record {
+    part = cut.part;
+    rest = cut.rest;
+    whole_is = cut.whole_is;
+    appended = cut.appended ∙ ap (λ (xs : List ℕ). xs ++ spells cut.part) (sym (append-nil a.out.now.items));
+  };
+  cause = cause;
+  step = step;
 }
 
 -- ALL CALLS
-abbrev GetsBy : Lent → List Item → Lent → Type 0
-GetsBy a items b = AdvancesAll a.end.now items a.out.now.items b.out.now.items b.end.now
+record GetsBy (a : Lent) (items : List Item) (b : Lent) : Type 0 where
+  pub step : b.end.now ≡ end_after_items a.end.now items
+  pub said : b.out.now.items ≡ a.out.now.items ++ spells (says_items a.end.now items)
+  pub cause : b.cause ≡ a.cause
+
+gets_none : (a : Lent) → GetsBy a [] a
+gets_none a = record { step = refl; said = sym (append-nil a.out.now.items); cause = refl }
+
+gets_both : (a b c : Lent) (xs ys : List Item) → TakesItems a xs b → GetsBy b ys c → GetsBy a (xs ++ ys) c
+gets_both a b c xs ys t g =
+    let said = says_items (end_after_items a.end.now xs) ys in
+    let there : c.out.now.items ≡ b.out.now.items ++ spells said = g.said ∙ ap (λ (e : End). b.out.now.items ++ spells (says_items e ys)) t.step in
+    record {
+      step = g.step ∙ ap (λ (e : End). end_after_items e ys) t.step ∙ sym (after_both a.end.now xs ys);
+      said =
+          spelled_on (says_items a.end.now xs) said a.out.now.items b.out.now.items c.out.now.items t.said there
+          ∙ ap (λ (all : List Item). a.out.now.items ++ spells all) (sym (says_both a.end.now xs ys));
+      cause = g.cause ∙ t.cause;
+    }
 
 gets_all : (a b : Lent) (calls : List (List Item)) → TakesEach TakesItems a calls b → GetsBy a (all_of calls) b
-gets_all a b calls t =
-    taken_all TakesItems RefusesItems GetsBy (λ x. gets_none x.end.now x.out.now.items) (λ x y z xs ys u g. gets_both _ _ _ xs ys _ _ _ u.gets g) a b calls t
-
-failed_all : (a b : Lent) (calls : List (List Item)) → TakesEach TakesItems a calls b → b.end.now.failed ≡ a.end.now.failed
-failed_all a b calls t =
-    taken_all TakesItems RefusesItems (λ x _ y. y.end.now.failed ≡ x.end.now.failed) (λ x. refl) (λ x y z xs ys u e. e ∙ u.failed) a b calls t
-
-cause_all : (a b : Lent) (calls : List (List Item)) → TakesEach TakesItems a calls b → b.cause ≡ a.cause
-cause_all a b calls t =
-    taken_all TakesItems RefusesItems (λ x _ y. y.cause ≡ x.cause) (λ x. refl) (λ x y z xs ys u e. e ∙ u.cause) a b calls t
+gets_all a b calls t = taken_all TakesItems RefusesItems GetsBy gets_none (λ x y z xs ys u g. gets_both x y z xs ys u g) a b calls t
 
 -- whatever the decoder answered
 pub same_loan : (r : Result (Unit {0}) NvtFault) (old new : DecoderState) (piece : List ℕ) (a b : Lent) → OnOk r (FeedsTo TakesItems old piece a b new)
@@ -60,30 +112,16 @@ same_loan = kept_by_all TakesItems RefusesItems IsSameLoan (λ x. record { end =
     (λ x y z p q. record { end = q.end ∙ p.end; out = q.out ∙ p.out }) (λ x y xs t. t.same) (λ x y xs t. t.same)
 
 -- the end was lent without its decoder
-lends : (h : History) (old : End) (held : DecoderState) (a : Lent) → a.end.now ≡ record old { decoder = held } → LeadsTo h old → LeadsTo h a.end.now
-lends h old held a began s = subst (LeadsTo h) (sym began) (stands_decoder h old held s)
+after_lent : (old : End) (held : DecoderState) (a : Lent) (items : List Item) → a.end.now ≡ record old { decoder = held }
+    → end_after_items a.end.now items ≡ record (end_after_items old items) { decoder = held }
+after_lent old held a items began =
+    ap (λ (e : End). end_after_items e items) began ∙ after_aside held old.failed old.terminal.closed old items
+    ∙ ap (λ (e : End). record e { decoder = held }) (sym (items_keep old items))
 
-stands_failed : (h : History) (old : End) (d : DecoderState) → LeadsTo h old → LeadsTo h (record old { decoder = d; failed = true })
-stands_failed h old d s = record {
-  settings = s.settings;
-  table = s.table;
-  terms = s.terms;
-  modes = s.modes;
-  limit = s.limit;
-  line = s.line;
-  ahead = s.ahead;
-  read = s.read;
-  count = s.count;
-  waits = s.waits;
-  queue = s.queue;
-  size = s.size;
-  due = s.due;
-}
-
--- it comes back, and has failed
-comes_back : (h : History) (b : Lent) (d : DecoderState) (new : End) → new ≡ record b.end.now { decoder = d; failed = true } → LeadsTo h b.end.now
-    → LeadsTo h new
-comes_back h b d new is s = subst (LeadsTo h) (sym is) (stands_failed h b.end.now d s)
+says_lent : (old : End) (held : DecoderState) (a : Lent) (items : List Item) → a.end.now ≡ record old { decoder = held }
+    → says_items a.end.now items ≡ says_items old items
+says_lent old held a items began =
+    ap (λ (e : End). says_items e items) began ∙ says_aside held old.failed old.terminal.closed old items
 
 -- a piece that was read to its end
 pub feeds_of : (old new : End) (held d : DecoderState) (piece after : List ℕ) (a b : Lent) → a.end.now ≡ record old { decoder = held }
@@ -91,15 +129,14 @@ pub feeds_of : (old new : End) (held d : DecoderState) (piece after : List ℕ) 
 feeds_of old new held d piece after a b began hands is outs =
     let items = all_of (calls_of hands.parts) in
     let g = gets_all a b (calls_of hands.parts) hands.taken in
+    let decoder : new.decoder ≡ d = ap (λ (e : End). e.decoder) is in
     record {
       items = items;
-      reads = subst (λ (e : DecoderState). decoder_words.Advances old.decoder piece items e) (sym (ap (λ (e : End). e.decoder) is)) hands.adds;
-      said = g.said;
-      appended = outs ∙ g.appended;
-      sends = λ h s. g.sends h (lends h old held a began s);
-      leads = λ h s. subst (LeadsTo (gets h items)) (sym is) (stands_decoder (gets h items) b.end.now d (g.leads h (lends h old held a began s)));
-      failed = ap (λ (e : End). e.failed) is ∙ failed_all a b (calls_of hands.parts) hands.taken ∙ ap (λ (e : End). e.failed) began;
-      closed = ap (λ (e : End). e.terminal.closed) is ∙ g.closed ∙ ap (λ (e : End). e.terminal.closed) began;
+      reads = subst (λ (e : DecoderState). decoder_words.Advances old.decoder piece items e) (sym decoder) hands.adds;
+      step =
+          is ∙ ap (λ (e : End). record e { decoder = d }) (g.step ∙ after_lent old held a items began)
+          ∙ ap (λ (x : DecoderState). record (end_after_items old items) { decoder = x }) (sym decoder);
+      said = outs ∙ g.said ∙ ap (λ (xs : List Item). a.out.now.items ++ spells xs) (says_lent old held a items began);
     }
 
 -- what was taken, what was done of the refused call, and what was left of it and after it
@@ -110,16 +147,46 @@ four_parts taken done left unseen item call is =
     ∙ ap (λ (xs : List Item). taken ++ xs) (append_assoc done (item ∷ left) unseen)
     ∙ sym (append_assoc taken done (item ∷ left ++ unseen))
 
+-- the end comes back, and has failed
+halted : (end there new : End) (held d : DecoderState) → IsShut (record end { decoder = held }) there → new ≡ record there { decoder = d; failed = true }
+    → IsHalted end new
+halted end there new held d (inl same) is =
+    let back : new ≡ record end { decoder = d; failed = true } = is ∙ ap (λ (e : End). record e { decoder = d; failed = true }) same in
+    rw back refl
+halted end there new held d (inr shut) is =
+    let back : new ≡ record end { decoder = d; terminal = record (end.terminal) { closed = true }; failed = true } =
+    is ∙ ap (λ (e : End). record e { decoder = d; failed = true }) shut in
+    rw back refl
+
+-- what the next item says, and why it is refused, has no part in the decoder
+first_lent : (end : End) (held : DecoderState) (item : Item) → says_item (record end { decoder = held }) item ≡ says_item end item
+first_lent end held item = item_says held end.failed end.terminal.closed end item
+
+cause_lent : (end : End) (held : DecoderState) (item : Item) (f : ServerFault) → IsRefusedFor (record end { decoder = held }) item f → IsRefusedFor end item f
+cause_lent end held item (Pty f) x = x
+cause_lent end held item Memory (inl some) = inl (λ none. some (first_lent end held item ∙ none))
+cause_lent end held item Memory (inr list) = inr list
+cause_lent end held item Failed x = absurd x
+cause_lent end held item (Char f) x = absurd x
+cause_lent end held item NotOn x = absurd x
+
 halts_at : (old new : End) (held d : DecoderState) (piece after : List ℕ) (a b : Lent) → a.end.now ≡ record old { decoder = held }
     → RefusesRest TakesItems RefusesItems old.decoder piece a b → new ≡ record b.end.now { decoder = d; failed = true } → after ≡ b.out.now.items
     → StopsWithin old piece b.cause a.out.now.items after new
 halts_at old new held d piece after a b began r is outs =
-    let t = r.given_up.stops in
-    let done = all_of r.done ++ t.done in
+    let t = r.given_up in
+    let before = all_of r.done in
+    let done = before ++ t.done in
     let unseen = all_of r.unseen in
-    let g : AdvancesAll a.end.now done a.out.now.items t.between t.mid =
-    gets_both _ _ _ (all_of r.done) t.done _ _ _ (gets_all a r.middle r.done r.taken) t.gets in
-    let stood : (h : History) → LeadsTo h old → LeadsTo (gets h done) t.mid = λ h s. g.leads h (lends h old held a began s) in
+    let g = gets_all a r.middle r.done r.taken in
+    let end = end_after_items old done in
+    let there : end_after_items r.middle.end.now t.done ≡ record end { decoder = held } =
+    ap (λ (e : End). end_after_items e t.done) g.step ∙ sym (after_both a.end.now before t.done) ∙ after_lent old held a done began in
+    let said : says_items a.end.now before ++ says_items r.middle.end.now t.done ≡ says_items old done =
+    ap (λ (e : End). says_items a.end.now before ++ says_items e t.done) g.step ∙ sym (says_both a.end.now before t.done) ∙ says_lent old held a done began in
+    let heard : r.middle.out.now.items ++ spells (says_items r.middle.end.now t.done) ≡ a.out.now.items ++ spells (says_items old done) =
+    spelled_on (says_items a.end.now before) (says_items r.middle.end.now t.done) a.out.now.items r.middle.out.now.items _ g.said refl
+    ∙ ap (λ (xs : List Item). a.out.now.items ++ spells xs) said in
     record {
       front = bytes_of r.parts;
       back = r.back;
@@ -128,14 +195,13 @@ halts_at old new held d piece after a b began r is outs =
       left = t.item ∷ t.left ++ unseen;
       here = r.here;
       reads = subst (λ (xs : List Item). decoder_words.Advances old.decoder (bytes_of r.parts) xs r.here)
-          (refused_items TakesItems RefusesItems old.decoder piece a b r ∙ four_parts (all_of r.done) t.done t.left unseen t.item r.left t.whole) r.adds;
-      said = g.said;
-      part = t.refuses.said;
-      appended = outs ∙ spelled_on g.said t.refuses.said a.out.now.items t.between b.out.now.items g.appended t.refuses.appended;
-      sends = λ h s. g.sends h (lends h old held a began s);
-      begins = λ h s. t.refuses.front (gets h done) (stood h s);
-      cause = λ on h s. t.refuses.cause (gets h done) (stood h s);
-      leads = λ h s. comes_back (gets h done) b d new is (t.refuses.leads (gets h done) (stood h s));
+          (refused_items TakesItems RefusesItems old.decoder piece a b r ∙ four_parts before t.done t.left unseen t.item r.left t.whole) r.adds;
+      part = t.cut.part;
+      rest = t.cut.rest;
+      said = outs ∙ spelled_on (says_items old done) t.cut.part a.out.now.items _ b.out.now.items heard t.cut.appended;
+      begins = sym (ap (λ (e : End). says_item e t.item) there ∙ first_lent end held t.item) ∙ t.cut.whole_is;
+      cause = λ on. cause_lent end held t.item b.cause (subst (λ (e : End). IsRefusedFor e t.item b.cause) there t.cause);
+      step = halted end b.end.now new held d (subst (λ (e : End). IsShut e b.end.now) there t.step) is;
     }
 
 halts_after : (old new : End) (held d : DecoderState) (piece after : List ℕ) (a b : Lent) → a.end.now ≡ record old { decoder = held }
@@ -152,13 +218,14 @@ halts_after old new held d piece after a b began w is outs =
       left = [];
       here = w.here;
       reads = subst (λ (xs : List Item). decoder_words.Advances old.decoder (bytes_of w.parts) xs w.here) (sym (append-nil items)) w.adds;
-      said = g.said;
       part = [];
-      appended = outs ∙ g.appended ∙ ap (λ (xs : List Item). a.out.now.items ++ spells xs) (sym (append-nil g.said));
-      sends = λ h s. g.sends h (lends h old held a began s);
-      begins = λ h s. ([], refl);
-      cause = λ on h s. (refl, w.wanted);
-      leads = λ h s. comes_back (gets h items) b d new is (g.leads h (lends h old held a began s));
+      rest = [];
+      said =
+          outs ∙ g.said
+          ∙ ap (λ (xs : List Item). a.out.now.items ++ spells xs) (says_lent old held a items began ∙ sym (append-nil (says_items old items)));
+      begins = refl;
+      cause = λ on. (refl, w.wanted);
+      step = halted (end_after_items old items) b.end.now new held d (inl (g.step ∙ after_lent old held a items began)) is;
     }
 
 -- a decoder that has failed reads nothing
@@ -172,13 +239,12 @@ halts_unread old new held d piece after a b began dead same is outs = record {
   left = [];
   here = old.decoder;
   reads = λ stream had read. rw (append-nil, append-nil) read;
-  said = [];
   part = [];
-  appended = outs ∙ ap (λ (x : Lent). x.out.now.items) same ∙ sym (append-nil a.out.now.items);
-  sends = λ h s. sym (append-nil (items_said h));
-  begins = λ h s. ([], refl);
-  cause = λ on h s. absurd (on dead);
-  leads = λ h s. comes_back h b d new is (subst (λ (x : Lent). LeadsTo h x.end.now) (sym same) (lends h old held a began s));
+  rest = [];
+  said = outs ∙ ap (λ (x : Lent). x.out.now.items) same ∙ sym (append-nil a.out.now.items);
+  begins = refl;
+  cause = λ on. absurd (on dead);
+  step = halted old b.end.now new held d (inl (ap (λ (x : Lent). x.end.now) same ∙ began)) is;
 }
 
 pub halts_of : (r : Result (Unit {0}) NvtFault) (e : NvtFault) → r ≡ Err e → (old new : End) (held d : DecoderState) (piece after : List ℕ) (a b : Lent)
@@ -190,64 +256,54 @@ halts_of r nvt.Refused e old new held d piece after a b none began refused memor
     halts_at old new held d piece after a b began (refused e) is outs
 halts_of r nvt.Memory e old new held d piece after a b none began refused memory dead same is outs =
     let w = memory e in
-    let cause = cause_all a b (calls_of w.parts) w.taken ∙ none in
+    let cause = (gets_all a b (calls_of w.parts) w.taken).cause ∙ none in
     subst (λ (f : ServerFault). StopsWithin old piece f a.out.now.items after new) (sym cause) (halts_after old new held d piece after a b began w is outs)
 halts_of r nvt.Failed e old new held d piece after a b none began refused memory dead same is outs =
     let cause = ap (λ (x : Lent). x.cause) (same e) ∙ none in
     subst (λ (f : ServerFault). StopsWithin old piece f a.out.now.items after new) (sym cause)
     (halts_unread old new held d piece after a b began (dead.0 e) (same e) is outs)
 
--- why a piece was refused
-record IsCauseOf (old : End) (f : ServerFault) : Type 0 where
-  is_of_item : IsOfItem f
-  shut : f ≡ Pty Closed → old.terminal.closed ≡ true
-
-for_memory : (old : End) (f : ServerFault) → f ≡ Memory → IsCauseOf old f
-for_memory old f is =
-    let here : IsCauseOf old Memory = record { is_of_item = tt; shut = λ e. absurd (cc) } in
-    subst (IsCauseOf old) (sym is) here
-
-for_any : (r : Result (Unit {0}) NvtFault) (e : NvtFault) → r ≡ Err e → (old : DecoderState) (piece : List ℕ) (a b : Lent) → a.cause ≡ Memory
-    → (IsErrOf r nvt.Refused → RefusesRest TakesItems RefusesItems old piece a b) → (IsErrOf r nvt.Memory → StopsForMemory TakesItems old piece a b)
-    → (IsErrOf r nvt.Failed → b ≡ a) → IsCauseOf a.end.now b.cause
-for_any r nvt.Refused e old piece a b none refused memory same =
-    let f = refused e in
-    record { is_of_item = f.given_up.is_of_item; shut = λ c. sym (gets_all a f.middle f.done f.taken).closed ∙ f.given_up.shut c }
-for_any r nvt.Memory e old piece a b none refused memory same =
-    let w = memory e in
-    for_memory a.end.now b.cause (cause_all a b (calls_of w.parts) w.taken ∙ none)
-for_any r nvt.Failed e old piece a b none refused memory same =
-    for_memory a.end.now b.cause (ap (λ (x : Lent). x.cause) (same e) ∙ none)
-
-never_failed : (f : ServerFault) → IsOfItem f → IsErrOf {T = Unit {0}} (Err f) Failed → ⊥
-never_failed (Pty x) of is = cc
-never_failed Memory of is = cc
-never_failed Failed of is = of
-never_failed (Char x) of is = of
-never_failed NotOn of is = of
-
-of_piece : (f : ServerFault) → IsOfItem f → IsOfPiece f
-of_piece (Pty x) of = tt
-of_piece Memory of = tt
-of_piece Failed of = tt
-of_piece (Char x) of = of
-of_piece NotOn of = of
-
-pub true_is_not_false : true ≡ false → ⊥
-true_is_not_false e = cc
-
-same_fault : (f g : ServerFault) → IsErrOf {T = Unit {0}} (Err f) g → f ≡ g
-same_fault f g is = cc
-
--- of any refusal of a piece by an end that had not failed before
+-- WHY A PIECE WAS REFUSED by an end that had not failed before
 pub record IsRefusal (old : End) (f : ServerFault) : Type 0 where
   pub runs : IsErrOf {T = Unit {0}} (Err f) Failed → ⊥
   pub of_piece : IsOfPiece f
   pub shut : IsErrOf {T = Unit {0}} (Err f) (Pty Closed) → old.terminal.closed ≡ true
 
+-- an item was
+closed_before : (end : End) (items : List Item) (item : Item) (f : ServerFault) → IsRefusedFor (end_after_items end items) item f
+    → IsErrOf {T = Unit {0}} (Err f) (Pty Closed) → end.terminal.closed ≡ true
+closed_before end items item f x is =
+    let same : f ≡ Pty Closed = cc in
+    sym (ap (λ (e : End). e.terminal.closed) (items_keep end items))
+    ∙ subst (λ (g : ServerFault). IsRefusedFor (end_after_items end items) item g) same x
+
+for_item : (end : End) (items : List Item) (item : Item) (f : ServerFault) → IsRefusedFor (end_after_items end items) item f → IsRefusal end f
+for_item end items item (Pty x) why = record { runs = λ is. cc; of_piece = tt; shut = closed_before end items item (Pty x) why }
+for_item end items item Memory why = record { runs = λ is. cc; of_piece = tt; shut = λ is. absurd (cc) }
+for_item end items item Failed why = absurd why
+for_item end items item (Char x) why = absurd why
+for_item end items item NotOn why = absurd why
+
+for_memory : (end : End) (f : ServerFault) → f ≡ Memory → IsRefusal end f
+for_memory end f is =
+    let here : IsRefusal end Memory = record { runs = λ e. cc; of_piece = tt; shut = λ e. absurd (cc) } in
+    subst (IsRefusal end) (sym is) here
+
+pub true_is_not_false : true ≡ false → ⊥
+true_is_not_false e = cc
+
 pub is_refusal : (r : Result (Unit {0}) NvtFault) (e : NvtFault) → r ≡ Err e → (old : DecoderState) (piece : List ℕ) (a b : Lent) → a.cause ≡ Memory
     → (IsErrOf r nvt.Refused → RefusesRest TakesItems RefusesItems old piece a b) → (IsErrOf r nvt.Memory → StopsForMemory TakesItems old piece a b)
     → (IsErrOf r nvt.Failed → b ≡ a) → IsRefusal a.end.now b.cause
-is_refusal r e is old piece a b none refused memory same =
-    let c = for_any r e is old piece a b none refused memory same in
-    record { runs = never_failed b.cause c.is_of_item; of_piece = of_piece b.cause c.is_of_item; shut = λ f. c.shut (same_fault b.cause (Pty Closed) f) }
+is_refusal r nvt.Refused e old piece a b none refused memory same =
+    let f = refused e in
+    let t = f.given_up in
+    let step = (gets_all a f.middle f.done f.taken).step in
+    let there : end_after_items f.middle.end.now t.done ≡ end_after_items a.end.now (all_of f.done ++ t.done) =
+    ap (λ (x : End). end_after_items x t.done) step ∙ sym (after_both a.end.now (all_of f.done) t.done) in
+    for_item a.end.now (all_of f.done ++ t.done) t.item b.cause (subst (λ (x : End). IsRefusedFor x t.item b.cause) there t.cause)
+is_refusal r nvt.Memory e old piece a b none refused memory same =
+    let w = memory e in
+    for_memory a.end.now b.cause ((gets_all a b (calls_of w.parts) w.taken).cause ∙ none)
+is_refusal r nvt.Failed e old piece a b none refused memory same =
+    for_memory a.end.now b.cause (ap (λ (x : Lent). x.cause) (same e) ∙ none)

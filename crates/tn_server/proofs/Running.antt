@@ -1,7 +1,5 @@
 -- Bytes of data that come in runs.
-use Rattle.std.proofs.Common.{◌≡◌, inl, inr, ℕ, Bool, true, false, Result, Ok, Err, OnOk, IfErr, IsErrOf, List, [], ◌∷◌, map, refl, sym, ap, ◌∙◌, subst}
-use Rattle.std.proofs.Common.{if◌then◌else◌}
-use Rattle.std.proofs.lemmas.List.{map-append}
+use Rattle.std.proofs.Common.{◌≡◌, inl, inr, ℕ, Bool, true, false, Result, Ok, Err, OnOk, IfErr, List, [], ◌∷◌, map, refl, sym, ap, ◌∙◌, subst, if◌then◌else◌}
 use Rattle.std.proofs.lemmas.Result.{IfErr-weaker}
 use Rattle.tn_discipline.specs.declared.termios.Settings.{Settings}
 use Rattle.tn_discipline.specs.HalfLine.{HalfLine, GivesText, effect_entries}
@@ -18,14 +16,14 @@ use Rattle.tn_pty.specs.declared.pty.Input.{Input}
 use Rattle.tn_pty.specs.declared.pty.Input.TheVariants.{Keys, Edited}
 use Rattle.tn_pty.specs.declared.pty.PtyFault.{PtyFault}
 use Rattle.tn_pty.specs.declared.pty.PtyFault.TheVariants as pty
-use Rattle.tn_pty.proofs.lemmas.Typed.{input-settings, input-closed}
+use Rattle.tn_pty.proofs.lemmas.Typed.{input-settings}
 use Rattle.tn_server.specs.Lines.{role_of_byte}
 use Rattle.tn_server.specs.Screen.{byte_shows}
 use Rattle.tn_server.specs.Terms.{echoes}
-use Rattle.tn_server.specs.Calls.{End, AdvancesAll, StopsWithinItems}
-use Rattle.tn_server.specs.Steps.{IsShut, IsKeyCause, role_of_typed, end_after_byte}
+use Rattle.tn_server.specs.Calls.{End}
+use Rattle.tn_server.specs.Lending.{RefusesByte}
+use Rattle.tn_server.specs.Steps.{IsShut, IsKeyCause, IsRefusedFor, role_of_typed, end_after_byte, end_after_items}
 use Rattle.tn_server.specs.declared.faults.ServerFault.TheVariants.{Pty}
-use Rattle.tn_server.proofs.Passing.{gets_none, gets_one, gets_both, goes_byte, refuses_byte, stops_at, shut_then}
 
 -- how bytes of data come to the terminal of an end
 abbrev pub input_of : Bool → Bool → Input
@@ -47,14 +45,13 @@ byte_by_mode false echo t byte = refl
 abbrev end_after_run : End → List ℕ → End
 end_after_run old bytes = record old { terminal = after_all (input_at old) old.terminal bytes }
 
-run_goes : (bytes : List ℕ) (old : End) (before : List ℕ) → AdvancesAll old (map Byte bytes) before before (end_after_run old bytes)
-run_goes [] old before = gets_none old before
-run_goes (b ∷ bytes) old before =
+run_after : (old : End) (bytes : List ℕ) → end_after_run old bytes ≡ end_after_items old (map Byte bytes)
+run_after old [] = refl
+run_after old (b ∷ bytes) =
     let mid : End = record old { terminal = after_byte (input_at old) old.terminal b } in
     let one : mid ≡ end_after_byte old b = sym (ap (λ (t : Terminal). record old { terminal = t })
     (byte_by_mode (edits old.modes.current) (echoes old.terms.options) old.terminal b)) in
-    gets_both old mid (end_after_run mid bytes) (Byte b ∷ []) (map Byte bytes) before before before
-    (gets_one old mid (Byte b) before before (goes_byte old mid b one before)) (run_goes bytes mid before)
+    run_after mid bytes ∙ ap (λ (e : End). end_after_items e (map Byte bytes)) one
 
 refused_shut : (mid new : End) (r : Role) (f : PtyFault) → Refuses mid.terminal r f new.terminal → new ≡ record mid { terminal = new.terminal } → IsShut mid new
 refused_shut mid new r pty.Closed x same = inl (same ∙ ap (λ (t : Terminal). record mid { terminal = t }) x.1)
@@ -90,36 +87,27 @@ role_there old done byte =
 
 module _ (old new : End) (bytes : List ℕ) (input : Input) (is_input : input ≡ input_at old) (same : new ≡ record old { terminal = new.terminal }) where
   pub run_done : {T E : Type 0} (r : Result T E) → OnOk r (new.terminal ≡ after_all input old.terminal bytes)
-      → OnOk r ((before : List ℕ) → AdvancesAll old (map Byte bytes) before before new)
+      → OnOk r (new ≡ end_after_items old (map Byte bytes))
   run_done (Ok x) is =
-      let whole : new ≡ end_after_run old bytes = same ∙ ap (λ (t : Terminal). record old { terminal = t })
-      (is ∙ ap (λ i. after_all i old.terminal bytes) is_input) in
-      λ before. subst (λ (e : End). AdvancesAll old (map Byte bytes) before before e) (sym whole) (run_goes bytes old before)
+      same ∙ ap (λ (t : Terminal). record old { terminal = t }) (is ∙ ap (λ i. after_all i old.terminal bytes) is_input) ∙ run_after old bytes
   run_done (Err e) is = tt
 
-  stops : (f : PtyFault) → StopsWithin (input_at old) old.terminal bytes f new.terminal → (before : List ℕ)
-      → StopsWithinItems old (map Byte bytes) (Pty f) before before new
-  stops f s before =
+  stops : (f : PtyFault) → StopsWithin (input_at old) old.terminal bytes f new.terminal → RefusesByte old bytes (Pty f) new
+  stops f s =
       let mid = end_after_run old s.done in
       let r = role_of_input (input_at old) old.terminal.settings s.byte in
       let cause : IsKeyCause mid.terminal (role_of_typed mid s.byte) f =
       subst (λ x. IsKeyCause mid.terminal x f) (sym (role_there old s.done s.byte)) (refused_cause mid.terminal new.terminal r f s.refused) in
-      stops_at old mid new (map Byte bytes) (map Byte s.done) (map Byte s.left) (Byte s.byte) (Pty f) before before before
-      (ap (map Byte) s.whole ∙ map-append Byte s.done (s.byte ∷ s.left)) (run_goes s.done old before)
-      (refuses_byte mid new s.byte f (refused_shut mid new r f s.refused same) cause before)
+      record {
+        done = s.done;
+        byte = s.byte;
+        left = s.left;
+        whole = s.whole;
+        cause = subst (λ (e : End). IsRefusedFor e (Byte s.byte) (Pty f)) (run_after old s.done) cause;
+        step = subst (λ (e : End). IsShut e new) (run_after old s.done) (refused_shut mid new r f s.refused same);
+      }
 
   pub run_stops : {T : Type 0} (r : Result T PtyFault) → IfErr r (λ fault. StopsWithin input old.terminal bytes fault new.terminal)
-      → IfErr r (λ fault. (before : List ℕ) → StopsWithinItems old (map Byte bytes) (Pty fault) before before new)
+      → IfErr r (λ fault. RefusesByte old bytes (Pty fault) new)
   run_stops (Ok x) s = tt
-  run_stops (Err f) s = λ before. stops f (subst (λ i. StopsWithin i old.terminal bytes f new.terminal) is_input s) before
-
-  was_shut : (f : PtyFault) → StopsWithin input old.terminal bytes f new.terminal → IsErrOf {T = Unit {0}} (Err f) pty.Closed → old.terminal.closed ≡ true
-  was_shut f s is =
-      let mid : End = record old { terminal = after_all input old.terminal s.done } in
-      let r = role_of_input input old.terminal.settings s.byte in
-      shut_then old mid r f (input-closed input old.terminal s.done) (refused_cause mid.terminal new.terminal r f s.refused) is
-
-  pub run_shut : (r : Result (Unit {0}) PtyFault) → IfErr r (λ fault. StopsWithin input old.terminal bytes fault new.terminal) → IsErrOf r pty.Closed
-      → old.terminal.closed ≡ true
-  run_shut (Ok x) s is = cc
-  run_shut (Err f) s is = was_shut f s is
+  run_stops (Err f) s = stops f (subst (λ i. StopsWithin i old.terminal bytes f new.terminal) is_input s)

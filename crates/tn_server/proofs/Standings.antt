@@ -1,4 +1,4 @@
--- Where an item leads, from a history to the end.
+-- Where an item leads, from a history to the end, by the terms that the end has agreed on.
 use Rattle.std.proofs.Common.{◌≡◌, ℕ, Option, List, ◌++◌, refl, sym, ap, ◌∙◌, append_assoc, arith, subst}
 use Rattle.tn_codes.specs.declared.payloads.Payload.{Payload}
 use Rattle.tn_discipline.specs.Characters.{Characters}
@@ -15,16 +15,51 @@ use Rattle.tn_discipline.proofs.lemmas.Lines.{advances}
 use Rattle.tn_linemode.specs.Modes.{Modes, edits}
 use Rattle.tn_nvt.specs.declared.items.Item.{Item}
 use Rattle.tn_option.specs.Options.{Options}
-use Rattle.tn_pty.specs.Terminal.{queue_with}
-use Rattle.tn_pty.specs.Typing.{gain_of}
-use Rattle.tn_server.specs.Events.{History, next, got}
+use Rattle.tn_pty.specs.Terminal.{Terminal, queue_with}
+use Rattle.tn_pty.specs.Typing.{gain_of, terminal_after}
+use Rattle.tn_server.specs.Events.{Event, History, next, got}
 use Rattle.tn_server.specs.Terms.{Terms, terms_after, asked_mask_of, changes, mask_after, chars_after, payload_at, echoes}
 use Rattle.tn_server.specs.Lines.{roles, role_at, role_of_item}
 use Rattle.tn_server.specs.Screen.{shows, size_after}
 use Rattle.tn_server.specs.Replies.{replies, items_at, list_replies}
 use Rattle.tn_server.specs.Calls.{End, LeadsTo}
-use Rattle.tn_server.specs.Steps.{end_after_item, says_got}
 use Rattle.tn_server.proofs.lemmas.Ends.{line_is}
+
+-- what an item does to the terminal
+abbrev pub terminal_by_terms : End → Item → Option Payload → Terminal
+terminal_by_terms old item payload =
+    let t = old.terminal in
+    let edit = edits old.modes.current in
+    let symbols = shows t.settings edit (echoes old.terms.options) t.line item in
+    record (terminal_after t (role_at t.settings edit item) symbols) {
+      settings = record { flags = t.settings.flags; chars = chars_after old.table payload };
+      width = (size_after (t.width, t.height) payload).0;
+      height = (size_after (t.width, t.height) payload).1;
+    }
+
+-- the terms after an event
+abbrev pub terms_of_event : End → Event → Terms
+terms_of_event old e = terms_after old.terminal.settings.flags old.terms e
+
+-- the end after an item, and what it says to it
+abbrev pub end_by_terms : End → Item → End
+end_by_terms old item =
+    let t = terms_of_event old (got item) in
+    let payload = payload_at old.terms.options item in
+    record old {
+      terms = t;
+      modes = record {
+        asked = asked_mask_of t.options t.wish;
+        current = mask_after (changes old.terms.options t.options) old.modes.current payload;
+      };
+      table = chars_after old.table payload;
+      terminal = terminal_by_terms old item payload;
+    }
+
+abbrev pub says_by_terms : End → Item → List Item
+says_by_terms old item =
+    items_at old.terminal.settings.flags old.table old.terms (got item)
+    ++ list_replies old.table (payload_at old.terms.options item)
 
 same_settings : (f g : Flags) (c d : Characters) (o p : Options) (item : Item) → f ≡ g → c ≡ d → o ≡ p
     → ◌≡◌ {A = Settings} (record { flags = f; chars = chars_after c (payload_at o item) }) (record { flags = g; chars = chars_after d (payload_at p item) })
@@ -64,7 +99,7 @@ same_says f g c d t u item a b e =
 pub role_is : (h : History) (old : End) (item : Item) → LeadsTo h old → role_at old.terminal.settings (edits old.modes.current) item ≡ role_of_item h item
 role_is h old item s = same_role _ _ _ _ item s.settings (ap (λ (m : Modes). m.current) s.modes)
 
-pub stands_got : (h : History) (old : End) (item : Item) → LeadsTo h old → LeadsTo (next h (got item)) (end_after_item old item)
+pub stands_got : (h : History) (old : End) (item : Item) → LeadsTo h old → LeadsTo (next h (got item)) (end_by_terms old item)
 stands_got h old item s =
     let is_flags = ap (λ (x : Settings). x.flags) s.settings in
     let is_options = ap (λ (t : Terms). t.options) s.terms in
@@ -97,5 +132,5 @@ stands_got h old item s =
       due = s.due;
     }
 
-pub replies_got : (h : History) (old : End) (item : Item) → LeadsTo h old → replies h (got item) ≡ says_got old item
+pub replies_got : (h : History) (old : End) (item : Item) → LeadsTo h old → replies h (got item) ≡ says_by_terms old item
 replies_got h old item s = sym (same_says _ _ _ _ _ _ item (ap (λ (x : Settings). x.flags) s.settings) s.table s.terms)

@@ -1,5 +1,5 @@
--- What the code makes of an item is where the item leads.
-use Rattle.std.proofs.Common.{◌≡◌, ℕ, Bool, true, false, Option, Some, None, List, [], ◌++◌, refl, sym, ap, ◌∙◌, if◌then◌else◌, append-nil, subst}
+-- The step of an end at an item is the one by its terms, if the parts that say the same agree.
+use Rattle.std.proofs.Common.{◌≡◌, ℕ, Bool, true, false, Option, Some, None, List, [], ◌++◌, refl, sym, ap, ◌∙◌, if◌then◌else◌, append-nil}
 use Rattle.tn_codes.specs.declared.codes.Verb.{Verb}
 use Rattle.tn_codes.specs.declared.payloads.Payload.{Payload}
 use Rattle.tn_codes.specs.declared.payloads.Payload.TheVariants.{Mode}
@@ -9,27 +9,25 @@ use Rattle.tn_discipline.specs.declared.reads.Entry.{Entry}
 use Rattle.tn_discipline.specs.declared.echo.Symbol.{Symbol}
 use Rattle.tn_discipline.specs.declared.termios.Settings.{Settings}
 use Rattle.tn_linemode.specs.Modes.{Modes, edits, mode_of, is_acknowledged}
-use Rattle.tn_nvt.specs.Spelling.{spells}
 use Rattle.tn_nvt.specs.declared.items.Item.{Item}
 use Rattle.tn_nvt.specs.declared.items.Item.TheVariants.{Neg, Sub}
 use Rattle.tn_option.specs.Options.{Options, options_after_word}
 use Rattle.tn_pty.specs.Terminal.{Terminal, queue_with}
 use Rattle.tn_pty.specs.Typing.{terminal_after}
-use Rattle.tn_server.specs.Events.{History, next, got}
+use Rattle.tn_server.specs.Events.{History, got}
 use Rattle.tn_server.specs.Terms.{Terms, terms_by, mask_told, asks_echo, wants_echo, asked_mask_of, asked_mask_while, changes, mask_after, chars_after}
 use Rattle.tn_server.specs.Terms.{payload_at, wish_in, options_after, linemode, echoes, wish_after}
 use Rattle.tn_linemode.specs.Words.{differ}
 use Rattle.tn_server.specs.Lines.{role_at}
 use Rattle.tn_server.specs.Screen.{shows, size_after}
-use Rattle.tn_server.specs.Replies.{items_at, items_by, reply_items, list_replies}
-use Rattle.tn_server.specs.Calls.{End, LeadsTo, Advances}
-use Rattle.tn_server.specs.Steps.{end_after_item, says_got, terms_of_event, terminal_after_item, end_after_word, says_words, end_after_wish, mask_wished}
-use Rattle.tn_server.specs.Steps.{end_after_mode, with_negotiated, negotiation_after}
+use Rattle.tn_server.specs.Replies.{items_by, reply_items, list_replies}
+use Rattle.tn_server.specs.Calls.{End, LeadsTo}
+use Rattle.tn_server.specs.Steps.{end_after_word, says_words, end_after_wish, mask_wished, end_after_mode, with_negotiated, negotiation_after}
 use Rattle.tn_server.specs.declared.terms.Negotiation.{Negotiation}
 use Rattle.tn_server.specs.declared.wishes.Editing.{Editing}
 use Rattle.tn_server.proofs.lemmas.Terms.{terms_stay, says_nothing, differ_self, echo_keeps_linemode}
 use Rattle.tn_server.proofs.Settling.{Agree, terms_settle, masks_settle, says_settle}
-use Rattle.tn_server.proofs.Standings.{stands_got, replies_got}
+use Rattle.tn_server.proofs.Standings.{terms_of_event, terminal_by_terms, end_by_terms, says_by_terms}
 
 -- the parts of an end that say the same agree
 pub record IsSound (old : End) : Type 0 where
@@ -40,17 +38,6 @@ pub sound : (h : History) (old : End) → LeadsTo h old → IsSound old
 sound h old s = record {
   masks = ap (λ (m : Modes). m.asked) s.modes ∙ ap (λ (t : Terms). asked_mask_of t.options t.wish) (sym s.terms);
   chars = s.table ∙ ap (λ (x : Settings). x.chars) (sym s.settings);
-}
-
-pub goes_from : (old new : End) (item : Item) (before after : List ℕ) (said : List Item) → after ≡ before ++ spells said
-    → (IsSound old → says_got old item ≡ said) → (IsSound old → end_after_item old item ≡ new) → new.terminal.closed ≡ old.terminal.closed
-    → Advances old (got item) before after new
-goes_from old new item before after said appended items_at is closed = record {
-  said = said;
-  appended = appended;
-  replies = λ h s. replies_got h old item s ∙ items_at (sound h old s);
-  leads = λ h s. subst (LeadsTo (next h (got item))) (is (sound h old s)) (stands_got h old item s);
-  closed = closed;
 }
 
 -- the terminal once nothing is typed
@@ -121,20 +108,20 @@ quiet_terms old item payload h p w =
 
 quiet_got : (old : End) (item : Item) (payload : Option Payload) → options_after old.terms.options (got item) ≡ old.terms.options
     → payload_at old.terms.options item ≡ payload → wish_after old.terminal.settings.flags old.terms.wish (wish_in payload) ≡ old.terms.wish → IsSound old
-    → end_after_item old item ≡ record old {
+    → end_by_terms old item ≡ record old {
       modes = record { asked = old.modes.asked; current = mask_after false old.modes.current payload };
       table = chars_after old.table payload;
       terminal = set_by old (typed_by old item) payload;
     }
 quiet_got old item payload h p w s =
-    ap (λ (t : Terms). with_all old t (payload_at old.terms.options item) (terminal_after_item old item (payload_at old.terms.options item)))
+    ap (λ (t : Terms). with_all old t (payload_at old.terms.options item) (terminal_by_terms old item (payload_at old.terms.options item)))
     (quiet_terms old item payload h p w)
-    ∙ ap (λ (x : Option Payload). with_all old old.terms x (terminal_after_item old item x)) p
-    ∙ still old payload (terminal_after_item old item payload) s.masks
+    ∙ ap (λ (x : Option Payload). with_all old old.terms x (terminal_by_terms old item x)) p
+    ∙ still old payload (terminal_by_terms old item payload) s.masks
 
 pub quiet_says : (old : End) (item : Item) (payload : Option Payload) → options_after old.terms.options (got item) ≡ old.terms.options
     → reply_items old.terms.options (got item) ≡ [] → payload_at old.terms.options item ≡ payload
-    → wish_after old.terminal.settings.flags old.terms.wish (wish_in payload) ≡ old.terms.wish → says_got old item ≡ list_replies old.table payload
+    → wish_after old.terminal.settings.flags old.terms.wish (wish_in payload) ≡ old.terms.wish → says_by_terms old item ≡ list_replies old.table payload
 quiet_says old item payload h b p w =
     let f = old.terminal.settings.flags in
     let t = old.terms in
@@ -160,17 +147,9 @@ unset old t settings width height s =
 
 -- a byte, a new line or a command
 pub typed_got : (old : End) (item : Item) → options_after old.terms.options (got item) ≡ old.terms.options → payload_at old.terms.options item ≡ None
-    → IsSound old → end_after_item old item ≡ record old { terminal = typed_by old item }
+    → IsSound old → end_by_terms old item ≡ record old { terminal = typed_by old item }
 typed_got old item h p s = quiet_got old item None h p refl s ∙ ap (λ (t : Terminal). record old { terminal = t })
     (unset old (typed_by old item) refl refl refl s)
-
-pub goes_typed : (old new : End) (item : Item) → ((o : Options) → options_after o (got item) ≡ o) → ((o : Options) → reply_items o (got item) ≡ [])
-    → ((o : Options) → payload_at o item ≡ None) → new ≡ record old { terminal = typed_by old item } → (before : List ℕ)
-    → Advances old (got item) before before new
-goes_typed old new item h b p is before =
-    goes_from old new item before before [] (sym (append-nil before))
-    (λ s. quiet_says old item None (h old.terms.options) (b old.terms.options) (p old.terms.options) refl)
-    (λ s. typed_got old item (h old.terms.options) (p old.terms.options) s ∙ sym is) (ap (λ (e : End). e.terminal.closed) is)
 
 -- the item types nothing
 abbrev pub TypesNothing : End → Item → Type 0
@@ -185,7 +164,7 @@ sub_types_nothing old option params = typed_nothing old.terminal
 -- a payload that asks for no editing
 pub unwished : (old : End) (item : Item) (payload : Option Payload) → options_after old.terms.options (got item) ≡ old.terms.options
     → payload_at old.terms.options item ≡ payload → wish_after old.terminal.settings.flags old.terms.wish (wish_in payload) ≡ old.terms.wish
-    → TypesNothing old item → IsSound old → end_after_item old item
+    → TypesNothing old item → IsSound old → end_by_terms old item
     ≡ record old {
       modes = record { asked = old.modes.asked; current = mask_after false old.modes.current payload };
       table = chars_after old.table payload;
@@ -265,21 +244,15 @@ settled_all old o ed set payload terminal c is m s =
     }) is
 
 -- an option word
-pub words_got : (old : End) (verb : Verb) (option : ℕ) → IsSound old → end_after_item old (Neg verb option) ≡ end_after_word old verb option
+pub words_got : (old : End) (verb : Verb) (option : ℕ) → IsSound old → end_by_terms old (Neg verb option) ≡ end_after_word old verb option
 words_got old verb option s =
     let kept = ap (λ (t : Terminal). set_by old t None) (neg_types_nothing old verb option) ∙ unset old old.terminal refl refl refl s in
     settled_all old (options_after_word old.terms.options verb option) None false None (set_by old (typed_by old (Neg verb option)) None) refl kept refl s
 
-pub words_said : (old : End) (verb : Verb) (option : ℕ) → IsSound old → says_got old (Neg verb option) ≡ says_words old verb option
+pub words_said : (old : End) (verb : Verb) (option : ℕ) → IsSound old → says_by_terms old (Neg verb option) ≡ says_words old verb option
 words_said old verb option s =
     let f = old.terminal.settings.flags in
     let t = old.terms in
     let said = reply_items t.options (got (Neg verb option)) in
     append-nil (said ++ items_by f old.table t (options_after_word t.options verb option) None false)
     ∙ ap (λ (xs : List Item). said ++ xs) (sym (says_settle f old.table t old.modes (options_after_word t.options verb option) None false s.masks))
-
-pub goes_words : (old new : End) (verb : Verb) (option : ℕ) (before after : List ℕ) → new ≡ end_after_word old verb option
-    → after ≡ before ++ spells (says_words old verb option) → Advances old (got (Neg verb option)) before after new
-goes_words old new verb option before after is said =
-    goes_from old new (Neg verb option) before after (says_words old verb option) said (words_said old verb option)
-    (λ s. words_got old verb option s ∙ sym is) (ap (λ (e : End). e.terminal.closed) is)

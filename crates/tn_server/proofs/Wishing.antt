@@ -1,23 +1,22 @@
 -- A wish, as a call or in a MODE, and the other payloads.
-use Rattle.std.proofs.Common.{◌≡◌, ℕ, Bool, true, false, Option, Some, None, List, ◌++◌, refl, sym, ap, ◌∙◌, if◌then◌else◌, append-nil}
+use Rattle.std.proofs.Common.{◌≡◌, ℕ, Bool, true, false, Option, Some, None, is_some, List, ◌++◌, refl, sym, ap, ◌∙◌, if◌then◌else◌, append-nil}
 use Rattle.tn_codes.specs.declared.payloads.Payload.{Payload}
 use Rattle.tn_codes.specs.declared.payloads.Payload.TheVariants.{Naws, Mode, ForwardOn, ForwardOff, ForwardYes, ForwardNo, Slc}
 use Rattle.tn_discipline.specs.Characters.{Characters}
 use Rattle.tn_linemode.specs.Modes.{edits, is_acknowledged, wish_of_mask}
-use Rattle.tn_nvt.specs.Spelling.{spells}
 use Rattle.tn_nvt.specs.declared.items.Item.TheVariants.{Sub}
 use Rattle.tn_pty.specs.Terminal.{Terminal}
-use Rattle.tn_server.specs.Events.{got}
 use Rattle.tn_server.specs.Terms.{Terms, terms_by, changes, mask_after, chars_after, payload_at, wish_in, linemode, wish_after, mask_for, mask_or, editing}
-use Rattle.tn_server.specs.Terms.{editing_of}
+use Rattle.tn_server.specs.Terms.{editing_of, mask_told}
 use Rattle.tn_server.specs.Replies.{items_by, list_replies}
-use Rattle.tn_server.specs.Calls.{End, Advances, ReadsNothing}
-use Rattle.tn_server.specs.Steps.{end_after_item, says_got, end_after_wish, says_wished, mask_wished, end_after_mode_by, says_mode_by, end_after_mode}
+use Rattle.tn_server.specs.Calls.{End}
+use Rattle.tn_server.specs.Steps.{end_after_wish, says_wished, sends_wished, mask_wished, end_after_mode_by, says_mode_by, end_after_mode}
 use Rattle.tn_server.specs.Steps.{says_mode_got, end_after_payload, says_sub, with_negotiated, negotiation_after, negotiation_items}
 use Rattle.tn_server.specs.declared.wishes.Editing.{Editing}
-use Rattle.tn_server.proofs.lemmas.Terms.{terms_stay, says_nothing, differ_self}
-use Rattle.tn_server.proofs.Settling.{says_settle}
-use Rattle.tn_server.proofs.Turning.{IsSound, goes_from, with_all, still, settled_all, set_by, typed_by, unset, own_chars, unwished, mode_acked, quiet_says}
+use Rattle.tn_server.proofs.lemmas.Terms.{terms_stay, says_nothing, differ_self, told_again}
+use Rattle.tn_server.proofs.Settling.{told_settles, says_settle}
+use Rattle.tn_server.proofs.Standings.{end_by_terms, says_by_terms}
+use Rattle.tn_server.proofs.Turning.{IsSound, with_all, still, settled_all, set_by, typed_by, unset, own_chars, unwished, mode_acked, quiet_says}
 use Rattle.tn_server.proofs.Turning.{sub_types_nothing}
 
 -- a wish by the mask that it asks for, where the item brings this payload
@@ -51,6 +50,15 @@ wish_said old ed (Some mask) e s =
     ∙ ap (λ (w : ℕ). negotiation_items (linemode t.options) false f old.table (record { options = t.options; modes = old.modes; wish = w }))
     (ap (mask_or t.wish) e)
 
+pub wish_told : (old : End) (ed : Editing) (mask : Option ℕ) → mask_for old.terminal.settings.flags ed ≡ mask → IsSound old
+    → is_some (mask_told old.terms old.terms.options (wish_after old.terminal.settings.flags old.terms.wish (Some ed))) ≡ sends_wished old mask
+wish_told old ed None e s =
+    let t = old.terms in
+    ap (λ (m : Option ℕ). is_some (mask_told t t.options (mask_or t.wish m))) e ∙ ap is_some (told_again (linemode t.options) t.wish)
+wish_told old ed (Some mask) e s =
+    let t = old.terms in
+    ap (λ (m : Option ℕ). is_some (mask_told t t.options (mask_or t.wish m))) e ∙ ap is_some (sym (told_settles t old.modes t.options mask s.masks))
+
 -- the terminal and its characters as they were
 kept : (old : End) → IsSound old → set_by old old.terminal None ≡ old.terminal
 kept old s = unset old old.terminal refl refl refl s
@@ -58,7 +66,7 @@ kept old s = unset old old.terminal refl refl refl s
 -- a payload that is neither a mode, a list nor a size
 plain : (old : End) (option : ℕ) (params : List ℕ) (payload : Option Payload) → payload_at old.terms.options (Sub option params) ≡ payload
     → wish_after old.terminal.settings.flags old.terms.wish (wish_in payload) ≡ old.terms.wish → mask_after false old.modes.current payload ≡ old.modes.current
-    → chars_after old.table payload ≡ old.table → set_by old old.terminal payload ≡ old.terminal → IsSound old → end_after_item old (Sub option params) ≡ old
+    → chars_after old.table payload ≡ old.table → set_by old old.terminal payload ≡ old.terminal → IsSound old → end_by_terms old (Sub option params) ≡ old
 plain old option params payload p w m c k s =
     unwished old (Sub option params) payload refl p w (sub_types_nothing old option params) s
     ∙ ap (λ (x : ℕ). record old {
@@ -71,7 +79,7 @@ plain old option params payload p w m c k s =
 
 -- a MODE, by whether it acknowledges
 mode_got : (old : End) (option : ℕ) (params : List ℕ) (mask : ℕ) (b : Bool) → is_acknowledged mask ≡ b
-    → payload_at old.terms.options (Sub option params) ≡ Some (Mode mask) → IsSound old → end_after_item old (Sub option params) ≡ end_after_mode old mask
+    → payload_at old.terms.options (Sub option params) ≡ Some (Mode mask) → IsSound old → end_by_terms old (Sub option params) ≡ end_after_mode old mask
 mode_got old option params mask true is p s =
     let wishes : wish_in (Some (Mode mask)) ≡ None = ap (λ (b : Bool). editing_of (if b then None else Some (edits mask))) is in
     unwished old (Sub option params) (Some (Mode mask)) refl p (ap (wish_after old.terminal.settings.flags old.terms.wish) wishes)
@@ -110,7 +118,7 @@ mode_said old mask false is s =
 
 -- a subnegotiation
 pub sub_got : (old : End) (option : ℕ) (params : List ℕ) (payload : Option Payload) → payload_at old.terms.options (Sub option params) ≡ payload → IsSound old
-    → end_after_item old (Sub option params) ≡ end_after_payload old payload
+    → end_by_terms old (Sub option params) ≡ end_after_payload old payload
 sub_got old option params None p s = plain old option params None p refl refl refl (kept old s) s
 sub_got old option params (Some (Naws width height)) p s =
     unwished old (Sub option params) (Some (Naws width height)) refl p refl (sub_types_nothing old option params) s
@@ -123,7 +131,7 @@ sub_got old option params (Some ForwardYes) p s = plain old option params (Some 
 sub_got old option params (Some ForwardNo) p s = plain old option params (Some ForwardNo) p refl refl refl (kept old s) s
 
 pub sub_said : (old : End) (option : ℕ) (params : List ℕ) (payload : Option Payload) → payload_at old.terms.options (Sub option params) ≡ payload → IsSound old
-    → says_got old (Sub option params) ≡ says_sub old payload
+    → says_by_terms old (Sub option params) ≡ says_sub old payload
 sub_said old option params None p s = quiet_says old (Sub option params) None refl refl p refl
 sub_said old option params (Some (Naws width height)) p s = quiet_says old (Sub option params) (Some (Naws width height)) refl refl p refl
 sub_said old option params (Some (Mode mask)) p s =
@@ -136,49 +144,3 @@ sub_said old option params (Some (ForwardOn mask)) p s = quiet_says old (Sub opt
 sub_said old option params (Some ForwardOff) p s = quiet_says old (Sub option params) (Some ForwardOff) refl refl p refl
 sub_said old option params (Some ForwardYes) p s = quiet_says old (Sub option params) (Some ForwardYes) refl refl p refl
 sub_said old option params (Some ForwardNo) p s = quiet_says old (Sub option params) (Some ForwardNo) refl refl p refl
-
--- each payload keeps whether the terminal is shut
-pub wished_closed : (old : End) (mask : Option ℕ) → (end_after_wish old mask).terminal.closed ≡ old.terminal.closed
-wished_closed old None = refl
-wished_closed old (Some mask) = refl
-
-mode_closed : (old : End) (mask : ℕ) (wish : Option Bool) → (end_after_mode_by old mask wish).terminal.closed ≡ old.terminal.closed
-mode_closed old mask None = refl
-mode_closed old mask (Some edit) = wished_closed old (mask_wished old edit)
-
-sub_closed : (old : End) (payload : Option Payload) → (end_after_payload old payload).terminal.closed ≡ old.terminal.closed
-sub_closed old None = refl
-sub_closed old (Some (Mode mask)) = mode_closed old mask (wish_of_mask mask)
-sub_closed old (Some (Naws width height)) = refl
-sub_closed old (Some (Slc triples)) = refl
-sub_closed old (Some (ForwardOn mask)) = refl
-sub_closed old (Some ForwardOff) = refl
-sub_closed old (Some ForwardYes) = refl
-sub_closed old (Some ForwardNo) = refl
-
--- and whether the end has failed
-pub wished_keeps : (old : End) (mask : Option ℕ) → ReadsNothing old (end_after_wish old mask)
-wished_keeps old None = record { decoder = refl; failed = refl }
-wished_keeps old (Some mask) = record { decoder = refl; failed = refl }
-
-pub mode_failed : (old : End) (mask : ℕ) (wish : Option Bool) → (end_after_mode_by old mask wish).failed ≡ old.failed
-mode_failed old mask None = refl
-mode_failed old mask (Some edit) = (wished_keeps old (mask_wished old edit)).failed
-
-pub sub_failed : (old : End) (payload : Option Payload) → (end_after_payload old payload).failed ≡ old.failed
-sub_failed old None = refl
-sub_failed old (Some (Mode mask)) = mode_failed old mask (wish_of_mask mask)
-sub_failed old (Some (Naws width height)) = refl
-sub_failed old (Some (Slc triples)) = refl
-sub_failed old (Some (ForwardOn mask)) = refl
-sub_failed old (Some ForwardOff) = refl
-sub_failed old (Some ForwardYes) = refl
-sub_failed old (Some ForwardNo) = refl
-
-pub goes_sub : (old new : End) (option : ℕ) (params : List ℕ) (before after : List ℕ)
-    → new ≡ end_after_payload old (payload_at old.terms.options (Sub option params))
-    → after ≡ before ++ spells (says_sub old (payload_at old.terms.options (Sub option params))) → Advances old (got (Sub option params)) before after new
-goes_sub old new option params before after is said =
-    let payload = payload_at old.terms.options (Sub option params) in
-    goes_from old new (Sub option params) before after (says_sub old payload) said (sub_said old option params payload refl)
-    (λ s. sub_got old option params payload refl s ∙ sym is) (ap (λ (e : End). e.terminal.closed) is ∙ sub_closed old payload)

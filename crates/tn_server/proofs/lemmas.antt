@@ -7,3 +7,6 @@ pub mod Words
 pub mod Stopping
 pub mod Room
 pub mod Wanting
+pub mod Gathering
+pub mod Leading
+pub mod Causes

@@ -4,6 +4,7 @@ use Rattle.tn_codes.specs.declared.codes.Func.{Func}
 use Rattle.tn_codes.specs.declared.masks.Mask.{Mask}
 use Rattle.tn_discipline.specs.Canon.{Canon}
 use Rattle.tn_discipline.specs.declared.termios.Settings.{Settings}
+use Rattle.tn_linemode.specs.Folding.{after_all}
 use Rattle.tn_nvt.specs.declared.items.Item.{Item}
 use Rattle.tn_server.specs.declared.wishes.Editing.{Editing}
 
@@ -41,5 +42,4 @@ items (next h _) = items h
 
 -- these items came, one after another
 abbrev pub gets : History → List Item → History
-gets h [] = h
-gets h (item ∷ rest) = gets (next h (got item)) rest
+gets h more = after_all (λ k item. next k (got item)) h more

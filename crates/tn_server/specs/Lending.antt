@@ -1,11 +1,22 @@
 -- What a server end takes while it is lent to its decoder.
-use Rattle.std.specs.Prelude.{◌≡◌, IsTrue, List}
+use Rattle.std.specs.Prelude.{◌≡◌, ℕ, List, ◌∷◌, ◌++◌, map}
+use Rattle.tn_linemode.specs.Prefixes.{AppendsPrefix}
+use Rattle.tn_nvt.specs.Spelling.{spells}
 use Rattle.tn_nvt.specs.declared.items.Item.{Item}
-use Rattle.tn_pty.specs.declared.pty.PtyFault.TheVariants.{Closed}
-use Rattle.tn_server.specs.Faults.{IsOfItem}
-use Rattle.tn_server.specs.Calls.{AdvancesAll, StopsWithinItems}
-use Rattle.tn_server.specs.declared.faults.ServerFault.TheVariants.{Pty}
+use Rattle.tn_nvt.specs.declared.items.Item.TheVariants.{Byte}
+use Rattle.tn_server.specs.Calls.{End}
+use Rattle.tn_server.specs.Steps.{IsShut, IsRefusedFor, end_after_items, says_item, says_items}
+use Rattle.tn_server.specs.declared.faults.ServerFault.{ServerFault}
 use Rattle.tn_server.specs.declared.taking.Lent.{Lent}
+
+-- One of these bytes was refused, after those before it were done.
+pub record RefusesByte (old : End) (bytes : List ℕ) (fault : ServerFault) (new : End) : Type 0 where
+  pub done : List ℕ
+  pub byte : ℕ
+  pub left : List ℕ
+  pub whole : bytes ≡ done ++ byte ∷ left
+  pub cause : IsRefusedFor (end_after_items old (map Byte done)) (Byte byte) fault
+  pub step : IsShut (end_after_items old (map Byte done)) new
 
 -- the same end is lent, and what it appends to
 pub record IsSameLoan (old new : Lent) : Type 0 where
@@ -15,13 +26,19 @@ pub record IsSameLoan (old new : Lent) : Type 0 where
 -- the end did these items, one after another
 pub record TakesItems (old : Lent) (items : List Item) (new : Lent) : Type 0 where
   pub same : IsSameLoan old new
-  pub gets : AdvancesAll old.end.now items old.out.now.items new.out.now.items new.end.now
-  pub failed : new.end.now.failed ≡ old.end.now.failed
+  pub step : new.end.now ≡ end_after_items old.end.now items
+  pub said : new.out.now.items ≡ old.out.now.items ++ spells (says_items old.end.now items)
   pub cause : new.cause ≡ old.cause
 
--- one of these items was refused, after those before it were done
+-- One of these items was refused, after those before it were done, when a prefix of what it makes the end say
+-- was said.
 pub record RefusesItems (old : Lent) (items : List Item) (new : Lent) : Type 0 where
   pub same : IsSameLoan old new
-  pub stops : StopsWithinItems old.end.now items new.cause old.out.now.items new.out.now.items new.end.now
-  pub is_of_item : IsOfItem new.cause
-  pub shut : new.cause ≡ Pty Closed → IsTrue old.end.now.terminal.closed
+  pub done : List Item
+  pub item : Item
+  pub left : List Item
+  pub whole : items ≡ done ++ item ∷ left
+  pub cut : AppendsPrefix (says_item (end_after_items old.end.now done) item)
+      (old.out.now.items ++ spells (says_items old.end.now done)) new.out.now.items
+  pub cause : IsRefusedFor (end_after_items old.end.now done) item new.cause
+  pub step : IsShut (end_after_items old.end.now done) new.end.now

@@ -9,5 +9,6 @@ pub mod Course
 pub mod Stopping
 pub mod Steps
 pub mod Lending
+pub mod Answering
 pub mod Bounds
 pub mod OtherClients

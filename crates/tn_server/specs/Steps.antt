@@ -1,37 +1,46 @@
--- One event at a server end, as a step from what the end knows now. `Calls` ties these steps to histories.
-use Rattle.std.specs.Prelude.{◌≡◌, ◌<◌, ◌≢◌, ◌⊎◌, ℕ, Bool, true, IsTrue, false, ◌||◌, Option, Some, None}
-use Rattle.std.specs.Prelude.{is_some}
-use Rattle.std.specs.Prelude.{List, [], ◌++◌, length}
+-- One event at a server end, as a step from what the end knows: the end after it, and what it says. The law
+-- `steps_stand` ties these steps to histories.
+use Rattle.std.specs.Prelude.{◌≡◌, ◌<◌, ◌≢◌, ◌⊎◌, ℕ, nat_lt, Bool, true, IsTrue, false, ◌||◌, Option, Some, None}
+use Rattle.std.specs.Prelude.{is_some, if◌then◌else◌, List, [], ◌∷◌, ◌++◌, length, map, take, drop, Vec}
 use Rattle.tn_codes.specs.declared.codes.Command.{Command}
+use Rattle.tn_codes.specs.declared.codes.Command.TheVariants.{Ga}
 use Rattle.tn_codes.specs.declared.codes.Verb.{Verb}
 use Rattle.tn_codes.specs.declared.payloads.Payload.{Payload}
-use Rattle.tn_codes.specs.declared.payloads.Payload.TheVariants.{Naws, Mode, Slc}
+use Rattle.tn_codes.specs.declared.payloads.Payload.TheVariants as payload
 use Rattle.tn_codes.specs.declared.triples.Triple.{Triple}
 use Rattle.tn_discipline.specs.declared.termios.Settings.{Settings}
-use Rattle.tn_discipline.specs.Characters.{Characters}
+use Rattle.tn_discipline.specs.Characters.{Characters, slot, with_slot}
 use Rattle.tn_discipline.specs.HalfLine.{GivesText}
 use Rattle.tn_discipline.specs.Keys.{gives_entry}
 use Rattle.tn_discipline.specs.declared.keys.Role.{Role}
+use Rattle.tn_discipline.specs.declared.reads.Entry.{Entry}
 use Rattle.tn_discipline.specs.declared.termios.Flags.{Flags}
+use Rattle.tn_linemode.specs.Folding.{after_all, said_all}
 use Rattle.tn_linemode.specs.Modes.{Modes, no_mode, edits, mask_sent, modes_after_wish, modes_after_mode}
 use Rattle.tn_linemode.specs.Modes.{wish_of_mask}
 use Rattle.tn_linemode.specs.Exchange.{server_after}
+use Rattle.tn_linemode.specs.Words.{IsList, differ, word_items, mode_items, payload_items}
+use Rattle.tn_nvt.specs.Room.{LacksRoom}
+use Rattle.tn_nvt.specs.Spelling.{spells}
 use Rattle.tn_nvt.specs.declared.items.Item.{Item}
+use Rattle.tn_nvt.specs.declared.items.Item.TheVariants.{Byte, Newline, Cmd, Neg, Sub}
 use Rattle.tn_option.specs.Options.{options_after_word, reply_to}
-use Rattle.tn_pty.specs.Terminal.{Terminal, shut_terminal, max_waiting}
+use Rattle.tn_pty.specs.Terminal.{Terminal, shut_terminal, max_waiting, fitting_count, output_symbols}
 use Rattle.tn_pty.specs.Typing.{terminal_after, command_role, command_shows}
 use Rattle.tn_pty.specs.declared.pty.PtyFault.{PtyFault}
 use Rattle.tn_pty.specs.declared.pty.PtyFault.TheVariants as pty
-use Rattle.tn_server.specs.Events.{Event, got}
-use Rattle.tn_linemode.specs.Words.{IsList, differ, word_items, mode_items}
-use Rattle.tn_server.specs.Terms.{Terms, terms_after, payload_at, asked_mask_of, changes, mask_after}
-use Rattle.tn_server.specs.Terms.{chars_after, echoes, linemode, options_with_echo, wants_echo, mask_for}
+use Rattle.tn_server.specs.Events.{Event, got, took, wrote, pulled, wished, char_set, echo_set, mask_set}
+use Rattle.tn_server.specs.Terms.{payload_at, echoes, linemode, options_with_echo, wants_echo, mask_for}
 use Rattle.tn_server.specs.Terms.{editing}
 use Rattle.tn_server.specs.Lines.{role_at, role_of_byte}
-use Rattle.tn_server.specs.Screen.{shows, byte_shows, size_after}
-use Rattle.tn_server.specs.Replies.{items_at, list_replies, new_table_items, echo_items}
+use Rattle.tn_server.specs.Screen.{byte_shows, sends_ga}
+use Rattle.tn_server.specs.Replies.{list_replies, new_table_items, echo_items, character_items}
+use Rattle.tn_server.specs.Replies.{forward_payload, data_of}
 use Rattle.tn_server.specs.Calls.{End}
+use Rattle.tn_server.specs.declared.faults.ServerFault.{ServerFault}
+use Rattle.tn_server.specs.declared.faults.ServerFault.TheVariants as fault
 use Rattle.tn_server.specs.declared.terms.Negotiation.{Negotiation}
+use Rattle.tn_server.specs.declared.wishes.Editing.{Editing}
 
 -- the masks and options of an end after LINEMODE changed, a wish was made or the flag ECHO was set, with the
 -- new options before the server's word for ECHO
@@ -147,15 +156,15 @@ end_after_list old triples = with_chars old (server_after old.table triples)
 
 -- the end after a payload, and what it says to it
 abbrev pub end_after_payload : End → Option Payload → End
-end_after_payload old (Some (Naws width height)) =
+end_after_payload old (Some (payload.Naws width height)) =
     record old { terminal = record (old.terminal) { width = width; height = height } }
-end_after_payload old (Some (Mode mask)) = end_after_mode old mask
-end_after_payload old (Some (Slc triples)) = end_after_list old triples
+end_after_payload old (Some (payload.Mode mask)) = end_after_mode old mask
+end_after_payload old (Some (payload.Slc triples)) = end_after_list old triples
 end_after_payload old _ = old
 
 abbrev pub says_sub : End → Option Payload → List Item
-says_sub old (Some (Mode mask)) = says_mode_got old mask
-says_sub old (Some (Slc triples)) = list_replies old.table (Some (Slc triples))
+says_sub old (Some (payload.Mode mask)) = says_mode_got old mask
+says_sub old (Some (payload.Slc triples)) = list_replies old.table (Some (payload.Slc triples))
 says_sub old _ = []
 
 -- a key or command was refused: it had no effect but that the terminal may be shut
@@ -187,39 +196,107 @@ abbrev pub end_after_command : End → Command → End
 end_after_command old command =
     record old { terminal = terminal_after old.terminal (command_role command) (command_shows command) }
 
--- what an item does to the terminal
-abbrev pub terminal_after_item : End → Item → Option Payload → Terminal
-terminal_after_item old item payload =
-    let t = old.terminal in
-    let edit = edits old.modes.current in
-    let symbols = shows t.settings edit (echoes old.terms.options) t.line item in
-    record (terminal_after t (role_at t.settings edit item) symbols) {
-      settings = record { flags = t.settings.flags; chars = chars_after old.table payload };
-      width = (size_after (t.width, t.height) payload).0;
-      height = (size_after (t.width, t.height) payload).1;
-    }
-
--- the terms after an event
-abbrev pub terms_of_event : End → Event → Terms
-terms_of_event old e = terms_after old.terminal.settings.flags old.terms e
-
--- the end after an item
+-- AN ITEM: the end after it, and what it says
 abbrev pub end_after_item : End → Item → End
-end_after_item old item =
-    let t = terms_of_event old (got item) in
-    let payload = payload_at old.terms.options item in
+end_after_item old (Byte byte) = end_after_byte old byte
+end_after_item old Newline = end_after_byte old 10
+end_after_item old (Cmd command) = end_after_command old command
+end_after_item old (Neg verb option) = end_after_word old verb option
+end_after_item old (Sub option params) = end_after_payload old (payload_at old.terms.options (Sub option params))
+
+abbrev pub says_item : End → Item → List Item
+says_item old (Neg verb option) = says_words old verb option
+says_item old (Sub option params) = says_sub old (payload_at old.terms.options (Sub option params))
+says_item old _ = []
+
+-- why it is refused: by the terminal; or memory runs out for what is to be said, or for a list
+abbrev pub IsRefusedFor : End → Item → ServerFault → Type 0
+IsRefusedFor old item (fault.Pty f) =
+    IsKeyCause old.terminal (role_at old.terminal.settings (edits old.modes.current) item) f
+IsRefusedFor old item fault.Memory = (says_item old item ≢ []) ⊎ IsList (payload_at old.terms.options item)
+IsRefusedFor old item _ = ⊥
+
+-- A CALL that takes the first entry: if none waits, GA is said if it is due
+abbrev pub is_none : List Entry → Bool
+is_none [] = true
+is_none (entry ∷ entries) = false
+
+abbrev pub owes_ga : End → List Entry → Bool
+owes_ga old entries = sends_ga (is_none entries) old.terms.options old.pulled
+
+abbrev pub end_after_take : End → List Entry → End
+end_after_take old entries =
     record old {
-      terms = t;
-      modes = record {
-        asked = asked_mask_of t.options t.wish;
-        current = mask_after (changes old.terms.options t.options) old.modes.current payload;
-      };
-      table = chars_after old.table payload;
-      terminal = terminal_after_item old item payload;
+      terminal = record (old.terminal) { entries = drop 1 entries };
+      pulled = if owes_ga old entries then false else old.pulled;
     }
 
--- what it says to the item
-abbrev pub says_got : End → Item → List Item
-says_got old item =
-    items_at old.terminal.settings.flags old.table old.terms (got item)
-    ++ list_replies old.table (payload_at old.terms.options item)
+abbrev pub says_take : End → List Entry → List Item
+says_take old entries = if owes_ga old entries then Cmd Ga ∷ [] else []
+
+-- one that writes output: its first bytes, as many as fit
+abbrev pub end_after_write : End → List ℕ → End
+end_after_write old bytes =
+    let t = old.terminal in
+    let shown = output_symbols t.settings.flags (take (fitting_count t.queue bytes) bytes) in
+    record old { terminal = record t { queue = t.queue ++ shown } }
+
+-- one that pulls so many symbols
+abbrev pub end_after_pull : End → ℕ → End
+end_after_pull old n =
+    record old {
+      terminal = record (old.terminal) { queue = drop n old.terminal.queue };
+      pulled = old.pulled || nat_lt 0 (length (take n old.terminal.queue));
+    }
+
+-- one that sets the flag ECHO
+abbrev pub flags_with_echo : End → Bool → Flags
+flags_with_echo old on = record (old.terminal.settings.flags) { echo = on }
+
+abbrev pub end_after_echo : End → Bool → End
+end_after_echo old on =
+    let f = flags_with_echo old on in
+    let options = options_with_echo true (wants_echo old.modes.asked f) old.terms.options in
+    let settings : Settings = record { flags = f; chars = old.terminal.settings.chars } in
+    record old {
+      terms = record { options = options; wish = old.terms.wish };
+      terminal = record (old.terminal) { settings = settings };
+    }
+
+-- ANY EVENT: the end after it, and what it says
+abbrev pub end_after : End → Event → End
+end_after old (got item) = end_after_item old item
+end_after old took = end_after_take old old.terminal.entries
+end_after old (wrote bytes) = end_after_write old bytes
+end_after old (pulled n) = end_after_pull old n
+end_after old (wished editing) = end_after_wish old (mask_for old.terminal.settings.flags editing)
+end_after old (char_set func value) = with_chars old (with_slot old.table func value)
+end_after old (echo_set on) = end_after_echo old on
+end_after old (mask_set mask) = old
+
+abbrev pub says : End → Event → List Item
+says old (got item) = says_item old item
+says old took = says_take old old.terminal.entries
+says old (wrote bytes) = []
+says old (pulled n) = map data_of (take n old.terminal.queue)
+says old (wished editing) = says_wished old (mask_for old.terminal.settings.flags editing)
+says old (char_set func value) =
+    character_items (linemode old.terms.options) (slot old.table func) func value
+says old (echo_set on) =
+    echo_items true (wants_echo old.modes.asked (flags_with_echo old on)) old.terms.options
+says old (mask_set mask) = payload_items (forward_payload mask)
+
+-- a wish for this sends a MODE
+abbrev pub sends_mode_now : End → Editing → Bool
+sends_mode_now old editing = sends_wished old (mask_for old.terminal.settings.flags editing)
+
+-- what the end says at the event does not fit what is allocated
+abbrev pub LacksRoomFor : {Z : Type 0} → End → Event → Vec ℕ Z → Type 0
+LacksRoomFor old e out = LacksRoom out (length (spells (says old e)))
+
+-- ITEMS, one after another
+abbrev pub end_after_items : End → List Item → End
+end_after_items old items = after_all end_after_item old items
+
+abbrev pub says_items : End → List Item → List Item
+says_items old items = said_all end_after_item says_item old items

@@ -1,7 +1,7 @@
 //! The server end: the calls that its owner makes.
 
-ghost use Rattle.std.specs.Prelude.{◌≡◌, ◌≢◌, ◌↔◌, ◌⊎◌, ◌&&◌, not, ℕ, List, true, IsTrue, false, IsFalse};
-ghost use Rattle.std.specs.Prelude.{Some, None, Err, []};
+ghost use Rattle.std.specs.Prelude.{◌≡◌, ◌≢◌, ◌↔◌, ◌&&◌, not, ℕ, List, true, IsTrue, false, IsFalse, Some, None};
+ghost use Rattle.std.specs.Prelude.{Err, []};
 ghost use Rattle.std.specs.Prelude.{◌++◌, ◌∷◌, ◌*◌, length, min, IfOk, IfErr, OnOk, OnErr, IsErrOf};
 ghost use Rattle.std.specs.Prelude.{MatchOption, option_copied, slice_get};
 ghost use Rattle.tn_codes.specs.OptionCodes as option_code;
@@ -14,15 +14,16 @@ ghost use Rattle.tn_option.specs.declared.q_method.Side.TheVariants.{Us};
 ghost use Rattle.tn_pty.specs.Terminal.{fitting_count, first_signal};
 ghost use Rattle.tn_pty.specs.declared.pty.PtyFault.{PtyFault};
 ghost use Rattle.tn_pty.specs.declared.pty.PtyFault.TheVariants.{Closed};
-ghost use Rattle.tn_server.specs.Events.{History, begun, next, took, wrote, pulled, wished, char_set};
-ghost use Rattle.tn_server.specs.Events.{echo_set, mask_set};
+ghost use Rattle.tn_server.specs.Events.{History, begun, took, pulled, wished, char_set, echo_set, mask_set};
 ghost use Rattle.tn_server.specs.Lines.{half, waiting};
-ghost use Rattle.tn_server.specs.Screen.{queue, size, sends_ga, none_waits, due};
-ghost use Rattle.tn_server.specs.Terms.{mode, asked_mask, chars, settings, options, sends_mode};
+ghost use Rattle.tn_server.specs.Screen.{size};
+ghost use Rattle.tn_server.specs.Terms.{mode, asked_mask, chars, settings, options};
 ghost use Rattle.tn_server.specs.Replies.{opening};
-ghost use Rattle.tn_server.specs.Faults.{IsOfItem, IsOfPiece, IsFault, SaysSomething};
-ghost use Rattle.tn_server.specs.Calls.{LeadsTo, Advances, ReadsNothing, Feeds, StopsWithin, LacksRoomFor};
-ghost use Rattle.tn_server.specs.Calls.{call_fault, char_fault_at, mask_fault};
+ghost use Rattle.tn_server.specs.Faults.{IsOfItem, IsOfPiece, IsFault};
+ghost use Rattle.tn_server.specs.Answering.{Feeds, StopsWithin};
+ghost use Rattle.tn_server.specs.Calls.{LeadsTo, call_fault, char_fault_at, mask_fault};
+ghost use Rattle.tn_server.specs.Steps.{end_after, end_after_write, end_after_pull, says, sends_mode_now};
+ghost use Rattle.tn_server.specs.Steps.{LacksRoomFor};
 
 use crate::faults::ServerFault;
 use crate::screen::{SYMBOL_BYTES, spell_front};
@@ -165,9 +166,8 @@ impl ServerEnd {
 
     /// Writes output of a job to the terminal's screen: the first bytes, as many as fit.
     pub fn write(&mut self, bytes: &[u8]) -> usize
-        ensures goes { (before : List ℕ) → Advances self.old (wrote bytes.now) before before self.new }
-        ensures keeps { ReadsNothing self.old self.new }
-        ensures count { (h : History) → LeadsTo h self.old → result ≡ fitting_count (queue h) bytes.now }
+        ensures step { self.new ≡ end_after_write self.old bytes.now }
+        ensures count { result ≡ fitting_count self.old.terminal.queue bytes.now }
     {
         self.pair.write(bytes)
     }
@@ -175,14 +175,14 @@ impl ServerEnd {
     /// Takes the first entry that waits. Where none waits it may append GA (RFC 858): `Memory` where that
     /// does not fit.
     pub fn take(&mut self, out: &mut Vec<u8>) -> Result<Option<Entry>, ServerFault>
-        ensures ok { OnOk result (Advances self.old took out.old.items out.new.items self.new) }
-        ensures keeps { OnOk result (ReadsNothing self.old self.new) }
-        ensures entry { IfOk result (λ entry. (h : History) → LeadsTo h self.old →
-            MatchOption entry (waiting h ≡ []) (λ e. waiting h ≡ e ∷ waiting (next h took))) }
+        ensures step { OnOk result (self.new ≡ end_after self.old took) }
+        ensures out { OnOk result (out.new.items ≡ out.old.items ++ spells (says self.old took)) }
+        ensures entry { let waits = self.old.terminal.entries in IfOk result (λ entry.
+            MatchOption entry (waits ≡ []) (λ e. waits ≡ e ∷ self.new.terminal.entries)) }
         ensures err { OnErr result (self.new ≡ self.old) }
         ensures err_appends { OnErr result (out.new.items ≡ out.old.items) }
         ensures fault { IfErr result (λ fault. fault ≡ ServerFault.Memory) }
-        ensures grows { OnErr result ((h : History) → LeadsTo h self.old → SaysSomething h took) }
+        ensures grows { OnErr result (says self.old took ≢ []) }
         ensures full { OnErr result (LacksRoomFor self.old took out.old) }
     {
         if let Some(entry) = self.pair.take() {
@@ -207,15 +207,15 @@ impl ServerEnd {
     /// Appends the first symbols of the screen in their spelling, at most `max` of them, and returns
     /// how many symbols.
     pub fn pull(&mut self, max: usize, out: &mut Vec<u8>) -> Result<usize, ServerFault>
-        ensures ok { IfOk result (λ n. Advances self.old (pulled n) out.old.items out.new.items self.new) }
-        ensures keeps { OnOk result (ReadsNothing self.old self.new) }
-        ensures grows { OnErr result ((h : History) → LeadsTo h self.old → SaysSomething h (pulled max)) }
+        ensures step { IfOk result (λ n. self.new ≡ end_after_pull self.old n) }
+        ensures out { IfOk result (λ n.
+            out.new.items ≡ out.old.items ++ spells (says self.old (pulled n))) }
+        ensures count { IfOk result (λ n. n ≡ min max (length self.old.terminal.queue)) }
+        ensures grows { OnErr result (says self.old (pulled max) ≢ []) }
 
         // Two bytes are reserved for each symbol, which is as long as one may be.
-        ensures full { OnErr result ((h : History) → LeadsTo h self.old →
-            LacksRoom out.old (2 * min max (length (queue h)))) }
-        ensures count { IfOk result (λ n. (h : History) → LeadsTo h self.old →
-            n ≡ min max (length (queue h))) }
+        ensures full { let count = min max (length self.old.terminal.queue) in
+            OnErr result (LacksRoom out.old (2 * count)) }
         ensures err { OnErr result (self.new ≡ self.old) }
         ensures err_appends { OnErr result (out.new.items ≡ out.old.items) }
         ensures fault { IfErr result (λ fault. fault ≡ ServerFault.Memory) }
@@ -234,11 +234,12 @@ impl ServerEnd {
     /// mask is not asked for already. Returns whether one was sent. The client acknowledges it before
     /// it is in force. `Failed` after a refused piece, `Memory` where what is said does not fit.
     pub fn wish(&mut self, editing: Editing, out: &mut Vec<u8>) -> Result<bool, ServerFault>
-        ensures ok { OnOk result (Advances self.old (wished editing) out.old.items out.new.items self.new) }
-        ensures keeps { OnOk result (ReadsNothing self.old self.new) }
-        ensures full { IsErrOf result ServerFault.Memory → LacksRoomFor self.old (wished editing) out.old }
-        ensures sent { IfOk result (λ sent. (h : History) → LeadsTo h self.old →
-            sent ≡ sends_mode h editing) }
+        ensures step { OnOk result (self.new ≡ end_after self.old (wished editing)) }
+        ensures out { OnOk result
+            (out.new.items ≡ out.old.items ++ spells (says self.old (wished editing))) }
+        ensures sent { IfOk result (λ sent. sent ≡ sends_mode_now self.old editing) }
+        ensures full { IsErrOf result ServerFault.Memory →
+            LacksRoomFor self.old (wished editing) out.old }
         ensures accepted { OnOk result (call_fault self.old ≡ None) }
         ensures err { OnErr result (self.new ≡ self.old) }
         ensures err_appends { OnErr result (out.new.items ≡ out.old.items) }
@@ -266,9 +267,9 @@ impl ServerEnd {
         value: Option<u8>,
         out: &mut Vec<u8>,
     ) -> Result<(), ServerFault>
-        ensures ok { OnOk result
-            (Advances self.old (char_set func value) out.old.items out.new.items self.new) }
-        ensures keeps { OnOk result (ReadsNothing self.old self.new) }
+        ensures step { OnOk result (self.new ≡ end_after self.old (char_set func value)) }
+        ensures out { OnOk result
+            (out.new.items ≡ out.old.items ++ spells (says self.old (char_set func value))) }
         ensures full { IsErrOf result ServerFault.Memory →
             LacksRoomFor self.old (char_set func value) out.old }
         ensures accepted { OnOk result (char_fault_at self.old func value ≡ None) }
@@ -295,9 +296,11 @@ impl ServerEnd {
     /// Sets or clears the terminal's flag ECHO, and appends the word for the option ECHO, if one is due. It
     /// is refused as `wish` is.
     pub fn set_echo(&mut self, on: bool, out: &mut Vec<u8>) -> Result<(), ServerFault>
-        ensures ok { OnOk result (Advances self.old (echo_set on) out.old.items out.new.items self.new) }
-        ensures keeps { OnOk result (ReadsNothing self.old self.new) }
-        ensures full { IsErrOf result ServerFault.Memory → LacksRoomFor self.old (echo_set on) out.old }
+        ensures step { OnOk result (self.new ≡ end_after self.old (echo_set on)) }
+        ensures out { OnOk result
+            (out.new.items ≡ out.old.items ++ spells (says self.old (echo_set on))) }
+        ensures full { IsErrOf result ServerFault.Memory →
+            LacksRoomFor self.old (echo_set on) out.old }
         ensures accepted { OnOk result (call_fault self.old ≡ None) }
         ensures err { OnErr result (self.new ≡ self.old) }
         ensures err_appends { OnErr result (out.new.items ≡ out.old.items) }
@@ -318,9 +321,11 @@ impl ServerEnd {
     /// Asks the client to send what it holds at each character of this mask, or by `None` at none any more
     /// (RFC 1184, section 2.3). `NotOn` where LINEMODE is not on; else it is refused as `wish` is.
     pub fn set_mask(&mut self, mask: Option<Mask>, out: &mut Vec<u8>) -> Result<(), ServerFault>
-        ensures ok { OnOk result (Advances self.old (mask_set mask) out.old.items out.new.items self.new) }
-        ensures keeps { OnOk result (ReadsNothing self.old self.new) }
-        ensures full { IsErrOf result ServerFault.Memory → LacksRoomFor self.old (mask_set mask) out.old }
+        ensures step { OnOk result (self.new ≡ end_after self.old (mask_set mask)) }
+        ensures out { OnOk result
+            (out.new.items ≡ out.old.items ++ spells (says self.old (mask_set mask))) }
+        ensures full { IsErrOf result ServerFault.Memory →
+            LacksRoomFor self.old (mask_set mask) out.old }
         ensures accepted { OnOk result (mask_fault self.old ≡ None) }
         ensures fault { IfErr result (IsFault (mask_fault self.old)) }
         ensures err { OnErr result (self.new ≡ self.old) }

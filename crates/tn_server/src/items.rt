@@ -10,11 +10,10 @@ ghost use Rattle.tn_nvt.specs.Spelling.{spells};
 ghost use Rattle.tn_nvt.specs.declared.items.Item.TheVariants as item;
 ghost use Rattle.tn_pty.specs.Typing.{command_role};
 ghost use Rattle.tn_pty.specs.declared.pty.PtyFault.{PtyFault};
-ghost use Rattle.tn_server.specs.Events.{got};
 ghost use Rattle.tn_server.specs.Terms.{payload_at, mask_for};
 ghost use Rattle.tn_server.specs.Replies.{list_replies};
-ghost use Rattle.tn_server.specs.Calls.{Advances, AdvancesAll, RefusesItem, StopsWithinItems};
-ghost use Rattle.tn_server.specs.Faults.{IsOfItem};
+ghost use Rattle.tn_server.specs.Lending.{RefusesByte};
+ghost use Rattle.tn_server.specs.Steps.{end_after_item, says_item, end_after_items, IsRefusedFor};
 ghost use Rattle.tn_server.specs.Steps.{role_of_typed, end_after_byte, end_after_command, IsShut, IsKeyCause};
 ghost use Rattle.tn_server.specs.Steps.{MayWantMemory, end_after_word, says_words, end_after_wish};
 ghost use Rattle.tn_server.specs.Steps.{says_wished, sends_wished, end_after_mode, says_mode_got};
@@ -35,13 +34,9 @@ use tn_pty::PtyFault;
 impl ServerEnd {
     /// Takes bytes of data, one after another.
     pub(crate) fn bytes(&mut self, bytes: &[u8]) -> Result<(), PtyFault>
-        ensures ok { OnOk result
-            ((before : List ℕ) → AdvancesAll self.old (map item.Byte bytes.now) before before self.new) }
-        ensures err { IfErr result (λ fault. (before : List ℕ) →
-            StopsWithinItems self.old
-            (map item.Byte bytes.now) (ServerFault.Pty fault) before before self.new) }
-        ensures failed { self.new.failed ≡ self.old.failed }
-        ensures shut { IsErrOf result PtyFault.Closed → IsTrue self.old.terminal.closed }
+        ensures ok { OnOk result (self.new ≡ end_after_items self.old (map item.Byte bytes.now)) }
+        ensures err { IfErr result (λ fault.
+            RefusesByte self.old bytes.now (ServerFault.Pty fault) self.new) }
     {
         let mode = self.terms.modes.current();
         if mode.edit() {
@@ -53,12 +48,11 @@ impl ServerEnd {
 
     /// Takes one item.
     pub(crate) fn item(&mut self, item: Item, out: &mut Vec<u8>) -> Result<(), ServerFault>
-        ensures ok { OnOk result (Advances self.old (got item) out.old.items out.new.items self.new) }
-        ensures err { IfErr result (λ fault.
-            RefusesItem self.old item fault out.old.items out.new.items self.new) }
-        ensures fault { IfErr result IsOfItem }
-        ensures failed { self.new.failed ≡ self.old.failed }
-        ensures shut { IsErrOf result (ServerFault.Pty PtyFault.Closed) → IsTrue self.old.terminal.closed }
+        ensures ok { OnOk result (self.new ≡ end_after_item self.old item) }
+        ensures out { OnOk result (out.new.items ≡ out.old.items ++ spells (says_item self.old item)) }
+        ensures cut { OnErr result (AppendsPrefix (says_item self.old item) out.old.items out.new.items) }
+        ensures cause { IfErr result (IsRefusedFor self.old item) }
+        ensures err { OnErr result (IsShut self.old self.new) }
     {
         match item {
             Item::Byte(byte) => match self.byte(byte) {

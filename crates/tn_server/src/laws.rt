@@ -22,7 +22,8 @@ ghost use Rattle.tn_pty.specs.Terminal.{output_symbols, queue_symbols, max_waiti
 ghost use Rattle.tn_pty.specs.declared.pty.PtyFault.TheVariants.{TooFarAhead};
 ghost use Rattle.tn_server.specs.Course.{Course, started, fed, called, stream, in_parts, IsCall, ReadsAs};
 ghost use Rattle.tn_server.specs.Course.{CourseLeadsTo};
-ghost use Rattle.tn_server.specs.Events.{Event, got, History, begun, items, gets, opening_settings, limit};
+ghost use Rattle.tn_server.specs.Events.{Event, got, took, History, begun, next, items, gets, opening_settings};
+ghost use Rattle.tn_server.specs.Events.{limit};
 ghost use Rattle.tn_server.specs.Lines.{entries, half, waiting};
 ghost use Rattle.tn_server.specs.OtherClients.{StaysRemote, opening_canon, roles_of_items, keys_of};
 ghost use Rattle.tn_server.specs.OtherClients.{IsNoCommand, line_items, AreOrdinary};
@@ -30,10 +31,14 @@ ghost use Rattle.tn_server.specs.Bounds.{max_said, HasAllowedCharacters, max_of_
 ghost use Rattle.tn_linemode.specs.Prefixes.{IsRead};
 ghost use Rattle.tn_server.specs.Replies.{data_of, replies, items_said};
 ghost use Rattle.tn_server.specs.Screen.{queue};
-ghost use Rattle.tn_server.specs.Calls.{End, LeadsTo, Advances, ReadsNothing, Feeds, StopsWithin};
+ghost use Rattle.tn_server.specs.Answering.{Feeds, StopsWithin};
+ghost use Rattle.tn_server.specs.Calls.{End, LeadsTo};
+ghost use Rattle.tn_server.specs.Faults.{IsCause};
+ghost use Rattle.tn_server.specs.Steps.{end_after, says, says_items, sends_mode_now, IsRefusedFor};
 ghost use Rattle.tn_server.specs.Stopping.{StopsBetween};
-ghost use Rattle.tn_server.specs.Terms.{settings, chars, mode};
+ghost use Rattle.tn_server.specs.Terms.{settings, chars, mode, sends_mode};
 ghost use Rattle.tn_server.specs.declared.faults.ServerFault.{ServerFault};
+ghost use Rattle.tn_server.specs.declared.wishes.Editing.{Editing};
 
 use crate::end::ServerEnd;
 use tn_discipline::laws::accepted_characters;
@@ -49,6 +54,44 @@ pub fn items_come()
 /// Whatever an end says can be read again.
 pub fn replies_fit()
     ensures { (h : History) (e : Event) → All Fits (replies h e) }
+{}
+
+/// An end is a function of its history: for every history that led to it, its step at an event leads to the
+/// longer history, and it says what that history says more.
+pub fn steps_stand()
+    ensures leads { (h : History) (end : End) (e : Event) → LeadsTo h end →
+        LeadsTo (next h e) (end_after end e) }
+    ensures said { (h : History) (end : End) (e : Event) → LeadsTo h end →
+        replies h e ≡ says end e }
+{}
+
+/// The items of a piece, one after another, lead to the history that has them more.
+pub fn pieces_stand()
+    ensures leads { (h : History) (old new : End) (piece before after : List ℕ) →
+        (f : Feeds old piece before after new) → LeadsTo h old → LeadsTo (gets h f.items) new }
+    ensures said { (h : History) (end : End) (items : List Item) → LeadsTo h end →
+        items_said (gets h items) ≡ items_said h ++ says_items end items }
+{}
+
+/// After a refused piece the end is at the history that has the items more that were done. The item that was
+/// refused had its cause in the history before it.
+pub fn stops_stand()
+    ensures leads { (h : History) (old new : End) (piece before after : List ℕ)
+        (fault : ServerFault) → (s : StopsWithin old piece fault before after new) →
+        LeadsTo h old → LeadsTo (gets h s.done) new }
+    ensures cause { (h : History) (end : End) (item : Item) (fault : ServerFault) → LeadsTo h end →
+        IsRefusedFor end item fault → IsCause h item fault }
+{}
+
+/// What an end shows is what its history says: the entries that wait, of which the first is taken, the symbols
+/// that wait to be pulled, and whether a wish sends a MODE.
+pub fn ends_show()
+    ensures waiting { (h : History) (end : End) → LeadsTo h end → waiting h ≡ end.terminal.entries }
+    ensures taken { (h : History) (end : End) → LeadsTo h end →
+        waiting (next h took) ≡ (end_after end took).terminal.entries }
+    ensures queue { (h : History) (end : End) → LeadsTo h end → queue h ≡ end.terminal.queue }
+    ensures told { (h : History) (end : End) (editing : Editing) → LeadsTo h end →
+        sends_mode h editing ≡ sends_mode_now end editing }
 {}
 
 /// A course leads to one history.
@@ -68,7 +111,7 @@ pub fn course_fed()
         Feeds old piece before after new → CourseLeadsTo (fed c piece) new }
     ensures said { (c : Course) (old new : End) (piece before after : List ℕ) (h k : History) →
         CourseLeadsTo c old → (f : Feeds old piece before after new) → ReadsAs c h → ReadsAs (fed c piece) k →
-        items_said k ≡ items_said h ++ f.said }
+        items_said k ≡ items_said h ++ says_items old f.items }
 {}
 
 /// A piece that is refused: the first of its items are done, and what was appended begins what all of them
@@ -81,9 +124,8 @@ pub fn course_stopped()
 
 /// One call more.
 pub fn course_called()
-    ensures { (c : Course) (old new : End) (e : Event) (before after : List ℕ) → CourseLeadsTo c old →
-        IsCall e →
-        Advances old e before after new → ReadsNothing old new → CourseLeadsTo (called c e) new }
+    ensures { (c : Course) (old : End) (e : Event) → CourseLeadsTo c old → IsCall e →
+        CourseLeadsTo (called c e) (end_after old e) }
 {}
 
 /// However a stretch of the stream is cut, it leads to the same.

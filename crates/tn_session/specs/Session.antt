@@ -68,7 +68,8 @@ IsRefusal fault.Write = ⊥
 IsRefusal (fault.Server f) = ⊥
 IsRefusal (fault.Client f) = ⊥
 
--- once it has all that it runs on: a thread could not be started, or a channel has no other end
+-- once it has all that it runs on: a thread could not be started, or a channel has no other end; a piece for
+-- which no credit was given counts as such a channel
 abbrev pub IsOfThreads : SessionFault → Type 0
 IsOfThreads f = (f ≡ fault.Start) ⊎ (f ≡ fault.Channel)
 

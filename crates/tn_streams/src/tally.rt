@@ -9,7 +9,7 @@ use std::io::Result;
 
 /// How many calls were made, and how many of them failed. A count that has reached the greatest `u64`
 /// stays there, and tells nothing any more.
-#[derive(Clone, Copy, Debug, PartialEq, Eq)]
+#[derive(Clone, Copy, PartialEq, Eq)]
 pub struct Tally {
     pub(crate) made: u64,
     pub(crate) failed: u64,

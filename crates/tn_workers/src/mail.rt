@@ -3,7 +3,7 @@
 use tn_machines::Message;
 
 /// Who sends a mail.
-#[derive(Clone, Copy, Debug, PartialEq, Eq)]
+#[derive(Clone, Copy, PartialEq, Eq)]
 pub enum Sender {
     /// The thread that reads from the network.
     Net,
@@ -16,7 +16,7 @@ pub enum Sender {
 }
 
 /// A message with its sender.
-#[derive(Debug, Drop)]
+#[derive(Drop)]
 pub struct Mail {
     pub from: Sender,
     pub message: Message,

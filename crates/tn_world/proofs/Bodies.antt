@@ -1,5 +1,5 @@
 -- The invariant of a world after each event, in the words of the calls that it makes.
-use Rattle.std.proofs.Common.{◌≡◌, ◌≢◌, inl, ℕ, Bool, true, false, if◌then◌else◌, Some, None, List, [], take, drop, Vec, refl, sym, ap, ◌∙◌, subst}
+use Rattle.std.proofs.Common.{◌++◌, ◌≡◌, ◌≢◌, inl, ℕ, Bool, true, false, if◌then◌else◌, Some, None, List, [], take, drop, Vec, refl, sym, ap, ◌∙◌, subst}
 use Rattle.std.proofs.lemmas.List.Elements.{All-nil}
 use Rattle.tn_discipline.specs.Canon.{Canon}
 use Rattle.tn_discipline.specs.declared.reads.Entry.{Entry}
@@ -13,7 +13,9 @@ use Rattle.tn_server.specs.Terms.{Terms, opening_options}
 use Rattle.tn_client.specs.Terms as client_terms
 use Rattle.tn_server.specs.Events as server_calls
 use Rattle.tn_server.specs.Replies.{opening}
+use Rattle.tn_server.specs.Answering as server_answers
 use Rattle.tn_server.specs.Calls as server
+use Rattle.tn_server.specs.Steps as server_steps
 use Rattle.tn_server.specs.Faults as faults
 use Rattle.tn_server.specs.declared.faults.ServerFault.{ServerFault}
 use Rattle.tn_server.specs.declared.faults.ServerFault.TheVariants as server_faults
@@ -23,7 +25,7 @@ use Rattle.tn_client.specs.Course as client_courses
 use Rattle.tn_client.specs.Events as client_calls
 use Rattle.tn_client.specs.Calls as client
 use Rattle.tn_client.specs.Answering as answers
-use Rattle.tn_client.specs.Replies as client_says
+use Rattle.tn_client.specs.Steps.{end_after, says, SaysOrShows}
 use Rattle.tn_client.specs.declared.commands.UserCommand.{UserCommand}
 use Rattle.tn_client.specs.declared.faults.ClientFault.{ClientFault}
 use Rattle.tn_client.specs.declared.faults.ClientFault.TheVariants as client_faults
@@ -37,63 +39,67 @@ use Rattle.tn_world.proofs.Soundness.{Lead, made, asked_sound, told_sound, sound
 
 -- a call of the client that is accepted
 pub tells_sound : (old : World) (end : client.End) (e : client_calls.Event) (later : List ℕ) → client_courses.IsCall e → client_fault old.client e ≡ None
-    → answers.Says old.client e old.to_server later end → HasPast old → HasPast (record old { client = end; to_server = later })
-tells_sound old end e later call accepted says s =
-    told_sound old (record old { client = end; to_server = later }) e call says.goes says.keeps says.sends (propose_goes_on old.client e accepted) s
+    → end ≡ end_after old.client e → later ≡ old.to_server ++ spells (says old.client e) → HasPast old
+    → HasPast (record old { client = end; to_server = later })
+tells_sound old end e later call accepted step said s =
+    subst (λ x. HasPast (record old { client = x; to_server = later })) (sym step)
+    (subst (λ x. HasPast (record old { client = end_after old.client e; to_server = x })) (sym said)
+    (told_sound old e call (propose_goes_on old.client e accepted) s))
 
 pub key_sound : (old : World) (end : client.End) (key : ℕ) (later seen keys : List ℕ) → client_fault old.client (client_calls.typed key) ≡ None
-    → answers.TypesKey old.client key old.to_server later old.echoed seen end → HasPast old
+    → end ≡ end_after old.client (client_calls.typed key) → later ≡ old.to_server ++ spells (says old.client (client_calls.typed key)) → HasPast old
     → HasPast (record old { client = end; to_server = later; echoed = seen; typed = keys })
-key_sound old end key later seen keys accepted types s =
+key_sound old end key later seen keys accepted step said s =
     sound_as (record old { client = end; to_server = later }) (record old { client = end; to_server = later; echoed = seen; typed = keys }) refl refl refl refl
-    (tells_sound old end (client_calls.typed key) later tt accepted (record { goes = types.goes; sends = types.sends; keeps = types.keeps }) s)
+    (tells_sound old end (client_calls.typed key) later tt accepted step said s)
 
 pub send_sound : (old : World) (end : client.End) (command : UserCommand) (later keys : List ℕ) → client_fault old.client (client_calls.sent command) ≡ None
-    → answers.Says old.client (client_calls.sent command) old.to_server later end → HasPast old
+    → end ≡ old.client → later ≡ old.to_server ++ spells (says old.client (client_calls.sent command)) → HasPast old
     → HasPast (record old { client = end; to_server = later; typed = keys })
-send_sound old end command later keys accepted says s =
+send_sound old end command later keys accepted step said s =
     sound_as (record old { client = end; to_server = later }) (record old { client = end; to_server = later; typed = keys }) refl refl refl refl
-    (tells_sound old end (client_calls.sent command) later tt accepted says s)
+    (tells_sound old end (client_calls.sent command) later tt accepted step said s)
 
 -- a call of the server that is accepted
-pub asks_sound : (old : World) (end : server.End) (e : server_calls.Event) (later : List ℕ) → server_courses.IsCall e
-    → server.Advances old.server e old.to_client later end → server.ReadsNothing old.server end → HasPast old
-    → HasPast (record old { server = end; to_client = later })
-asks_sound old end e later call goes keeps s = asked_sound old (record old { server = end; to_client = later }) e call goes keeps s
+pub asks_sound : (old : World) (end : server.End) (e : server_calls.Event) (later : List ℕ) → server_courses.IsCall e → end ≡ server_steps.end_after old.server e
+    → later ≡ old.to_client ++ spells (server_steps.says old.server e) → HasPast old → HasPast (record old { server = end; to_client = later })
+asks_sound old end e later call step said s =
+    subst (λ x. HasPast (record old { server = x; to_client = later })) (sym step)
+    (subst (λ x. HasPast (record old { server = server_steps.end_after old.server e; to_client = x })) (sym said) (asked_sound old e call s))
 
-pub takes_sound : (old : World) (end : server.End) (later : List ℕ) (entries : List Entry)
-    → server.Advances old.server server_calls.took old.to_client later end → server.ReadsNothing old.server end → HasPast old
+pub takes_sound : (old : World) (end : server.End) (later : List ℕ) (entries : List Entry) → end ≡ server_steps.end_after old.server server_calls.took
+    → later ≡ old.to_client ++ spells (server_steps.says old.server server_calls.took) → HasPast old
     → HasPast (record old { server = end; to_client = later; taken = entries })
-takes_sound old end later entries goes keeps s =
+takes_sound old end later entries step said s =
     sound_as (record old { server = end; to_client = later }) (record old { server = end; to_client = later; taken = entries }) refl refl refl refl
-    (asks_sound old end server_calls.took later tt goes keeps s)
+    (asks_sound old end server_calls.took later tt step said s)
 
 -- deliveries
 pub reaches_sound : (old : World) (end : server.End) (n : ℕ) (piece left later : List ℕ) → server.call_fault old.server ≡ None → piece ≡ take n old.to_server
-    → left ≡ drop n old.to_server → server.Feeds old.server piece old.to_client later end → HasPast old
+    → left ≡ drop n old.to_server → server_answers.Feeds old.server piece old.to_client later end → HasPast old
     → HasPast (record old { server = end; to_server = left; to_client = later })
 reaches_sound old end n piece left later accepted is rest feeds s =
     sound_reaches old (record old { server = end; to_server = left; to_client = later }) n
     (record {
       accepted = accepted;
-      feeds = subst (λ x. server.Feeds old.server x old.to_client later end) is feeds;
+      feeds = subst (λ x. server_answers.Feeds old.server x old.to_client later end) is feeds;
       rest = ap (λ x. record old { server = end; to_server = x; to_client = later }) rest;
     }) s
 
 pub returns_sound : (old : World) (end : client.End) (n : ℕ) (piece left later seen : List ℕ) → client.call_fault old.client ≡ None
-    → piece ≡ take n old.to_client → left ≡ drop n old.to_client → client.Feeds old.client piece old.to_server later old.shown seen end → HasPast old
+    → piece ≡ take n old.to_client → left ≡ drop n old.to_client → answers.Feeds old.client piece old.to_server later old.shown seen end → HasPast old
     → HasPast (record old { client = end; to_client = left; to_server = later; shown = seen })
 returns_sound old end n piece left later seen accepted is rest feeds s =
     sound_returns old (record old { client = end; to_client = left; to_server = later; shown = seen }) n
     (record {
       accepted = accepted;
-      feeds = subst (λ x. client.Feeds old.client x old.to_server later old.shown seen end) is feeds;
+      feeds = subst (λ x. answers.Feeds old.client x old.to_server later old.shown seen end) is feeds;
       rest = ap (λ x. record old { client = end; to_client = x; to_server = later; shown = seen }) rest;
     }) s
 
 pub breaks_or_again : (old : World) (end : client.End) (piece left later seen : List ℕ) (fault : ClientFault)
     → client.IsFault (client.call_fault old.client) fault → (fault ≡ client_faults.Memory
-    → client.StopsWithin old.client piece old.to_server later old.shown seen)
+    → answers.StopsWithin old.client piece old.to_server later old.shown seen)
     → (fault ≡ client_faults.Failed → answers.Untouched old.client old.to_server later old.shown seen end) → end.failed ≡ true → HasPast old
     → HasPast (record old { client = end; to_client = left; to_server = later; shown = seen })
 breaks_or_again old end piece left later seen fault cause breaks again failed s = by_test old.client.failed refl cause
@@ -106,25 +112,23 @@ breaks_or_again old end piece left later seen fault cause breaks again failed s 
 
 -- a call of the client that is refused
 pub key_refused : (old : World) (end : client.End) (key : ℕ) (later seen keys : List ℕ) (fault : ClientFault) → old.client_stopped ≡ false
-    → client.IsFault (client.call_fault old.client) fault → (fault ≡ client_faults.Memory → (h : client_calls.History) → client.LeadsTo h old.client
-    → client.SaysOrShows h (client_calls.typed key)) → answers.Untouched old.client old.to_server later old.echoed seen end → keys ≡ old.typed
+    → client.IsFault (client.call_fault old.client) fault → (fault ≡ client_faults.Memory → SaysOrShows old.client (client_calls.typed key)) → answers.Untouched old.client old.to_server later old.echoed seen end → keys ≡ old.typed
     → (w : World) → old ≡ w → ClientRefusesEvent w (Key key) fault × (record old { client = end; to_server = later; echoed = seen; typed = keys } ≡ w)
 key_refused old end key later seen keys fault goes cause grows same kept w is =
     subst (λ w. ClientRefusesEvent w (Key key) fault × (record old { client = end; to_server = later; echoed = seen; typed = keys } ≡ w)) is
     ((goes, record { cause = cause; grows = grows }), rw (same.end, same.out, same.screen, kept) refl)
 
 pub resize_refused : (old : World) (end : client.End) (width height : ℕ) (later : List ℕ) (fault : ClientFault) → old.client_stopped ≡ false
-    → client.IsFault (client.call_fault old.client) fault → (fault ≡ client_faults.Memory → (h : client_calls.History) → client.LeadsTo h old.client
-    → client_says.replies h (client_calls.resized width height) ≢ []) → answers.SaysNothing old.client old.to_server later end → (w : World) → old ≡ w
+    → client.IsFault (client.call_fault old.client) fault → (fault ≡ client_faults.Memory → says old.client (client_calls.resized width height) ≢ []) → answers.SaysNothing old.client old.to_server later end → (w : World) → old ≡ w
     → ClientRefusesEvent w (Resize width height) fault × (record old { client = end; to_server = later } ≡ w)
 resize_refused old end width height later fault goes cause grows same w is =
     subst (λ w. ClientRefusesEvent w (Resize width height) fault × (record old { client = end; to_server = later } ≡ w)) is
-    ((goes, record { cause = cause; grows = λ m h s. inl (grows m h s) }), rw (same.end, same.out) refl)
+    ((goes, record { cause = cause; grows = λ m. inl (grows m) }), rw (same.end, same.out) refl)
 
 -- a call of the server that is refused
 pub asks_refused : {Z : Type 0} (old : World) (end : server.End) (e : server_calls.Event) (later : List ℕ) (out : Vec ℕ Z) (fault : ServerFault)
     → old.server_stopped ≡ false → faults.IsFault (server_fault old.server e) fault
-    → (fault ≡ server_faults.Memory → server.LacksRoomFor old.server e out) → end ≡ old.server → later ≡ old.to_client → (w : World) → old ≡ w
+    → (fault ≡ server_faults.Memory → server_steps.LacksRoomFor old.server e out) → end ≡ old.server → later ≡ old.to_client → (w : World) → old ≡ w
     → ((w.server_stopped ≡ false) × ServerRefusesCall w.server e fault) × (record old { server = end; to_client = later } ≡ w)
 asks_refused old end e later out fault goes cause lacks a b w is =
     subst (λ w. ((w.server_stopped ≡ false) × ServerRefusesCall w.server e fault) × (record old { server = end; to_client = later } ≡ w)) is

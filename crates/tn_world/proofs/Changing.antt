@@ -1,6 +1,6 @@
 -- What keys and changes of the mode do to the relation between what was typed, the server once it has read all that
 -- is in flight to it, and the client.
-use Rattle.std.proofs.Common.{◌≡◌, ◌≤◌, inl, inr, ℕ, ◌+◌, Bool, true, false, not, ◌&&◌, List, [], ◌∷◌, ◌++◌, length, refl, sym, ap, ◌∙◌, if◌then◌else◌, subst}
+use Rattle.std.proofs.Common.{◌≡◌, ◌≤◌, inl, inr, ℕ, ◌+◌, ◌==◌, Bool, true, false, not, ◌&&◌, Option, Some, None, List, [], ◌∷◌, ◌++◌, length, refl, sym, ap, ◌∙◌, if◌then◌else◌, subst}
 use Rattle.std.proofs.Common.{arith, append-nil, append_assoc, length-append}
 use Rattle.tn_codes.specs.declared.codes.Command.TheVariants.{Ip}
 use Rattle.tn_discipline.specs.declared.keys.Role.TheVariants as role
@@ -11,15 +11,29 @@ use Rattle.tn_discipline.specs.Admitted.{is_dropped}
 use Rattle.tn_discipline.specs.Canon.{Canon, typed_half}
 use Rattle.tn_discipline.specs.Limits.{max_counted}
 use Rattle.tn_discipline.specs.Steps.{half_after, half_next, gain_next}
-use Rattle.tn_discipline.specs.Keys.{role_of_mapped, role_of_key, roles_of}
+use Rattle.tn_discipline.specs.Keys.{role_of_key, roles_of}
 use Rattle.tn_discipline.specs.declared.termios.Settings.{Settings}
 use Rattle.tn_discipline.proofs.lemmas.Histories.{half_of-fits, length_by_test}
 use Rattle.tn_server.specs.Terms.{allows_local}
 use Rattle.tn_client.specs.Lines.{settings_by}
-use Rattle.tn_world.specs.relation.Machine.{Mode, Item, byte, command, mode_ack, linemode_on, other, Server, Client, Message, mode, forward_at, linemode_asked}
-use Rattle.tn_world.specs.relation.Machine.{chatter, read, read_all, bytes, edit_key, remote_item, count_next, client_after_key, is_same, client_with_mode}
-use Rattle.tn_world.specs.relation.Machine.{client_after_mode, passed_over, where_on, client_turned_on, client_after_message, remote_mode, local_mode}
-use Rattle.tn_world.specs.relation.Machine.{IsAskable}
+use Rattle.tn_discipline.specs.Admitted.{next_count, count_after}
+use Rattle.tn_discipline.specs.Characters.{Characters, is_set_to}
+use Rattle.tn_discipline.specs.HalfLine.{HalfLine}
+use Rattle.tn_discipline.specs.Keys.{standard_flags, mapped_key, signal_of, role_by_signal, role_or_ignored, roles_from}
+use Rattle.tn_discipline.specs.declared.keys.Role.{Role}
+use Rattle.tn_discipline.specs.declared.reads.Sig.{Sig}
+use Rattle.tn_linemode.specs.Modes.{edits, traps}
+use Rattle.tn_nvt.specs.declared.items.Item.TheVariants.{Byte}
+use Rattle.tn_client.specs.Calls.{End}
+use Rattle.tn_client.specs.Lines.{role_of_typed}
+use Rattle.tn_client.specs.Replies.{raw_key_items, edit_items}
+use Rattle.tn_client.specs.Steps.{role_now, line_typed, end_after_key, says_key, with_mode, line_left, count_left, count_told}
+use Rattle.tn_client.specs.Terms.{linemode}
+use Rattle.tn_client.proofs.lemmas.Keying.{end_by, says_by}
+use Rattle.tn_world.specs.relation.Calm.{bits}
+use Rattle.tn_world.specs.relation.Ends.{server_items}
+use Rattle.tn_world.specs.relation.Machine.{Mode, Item, byte, command, mode_ack, linemode_on, Server, read, read_all, bytes, remote_mode, local_mode, IsAskable}
+use Rattle.tn_world.specs.relation.Pictures.{ClientStays}
 use Rattle.tn_world.proofs.Reading.{read-bytes_then, half-typed, entries-typed}
 use Rattle.tn_world.proofs.Typing.{Follows, literal_key, key-follows}
 use Rattle.tn_world.specs.relation.Relation.{Agrees, server_at}
@@ -60,87 +74,140 @@ same_role s key h =
 fits_at : (s : Canon) (typed half held : List ℕ) → typed_half s typed ≡ half ++ held → length (half ++ held) ≤ max_counted s.limit
 fits_at s typed half held line = subst (λ x. length x ≤ max_counted s.limit) line (half_of-fits s.limit (roles_of s.settings typed))
 
+-- A KEY that is sent at once: it is a byte, where no signal is trapped
+raw-tests : (b key : ℕ) (sig : Option Sig) (t u v w x y : Bool) →
+    raw_key_items (if t then role.Nl else (if u then role.Eol b else
+    (if y then role.Eol2 b else (if v then role.Eof else (if w then role.Erase else (if x then role.Kill else role_by_signal false sig b)))))) key ≡ Byte key
+    ∷ []
+raw-tests b key sig true u v w x y = refl
+raw-tests b key sig false true v w x y = refl
+raw-tests b key sig false false v w x true = refl
+raw-tests b key sig false false true w x false = refl
+raw-tests b key sig false false false true x false = refl
+raw-tests b key sig false false false false true false = refl
+raw-tests b key sig false false false false false false = refl
+
+raw-mapped : (c : Characters) (key : ℕ) (mapped : Option ℕ) → raw_key_items
+    (role_or_ignored (record { flags = record standard_flags { isig = false }; chars = c }) mapped) key ≡ Byte key ∷ []
+raw-mapped c key None = refl
+raw-mapped c key (Some b) = raw-tests b key (signal_of c b) (b == 10) (is_set_to c.eol b) (is_set_to c.eof b) (is_set_to c.erase b) (is_set_to c.kill b)
+    (is_set_to c.eol2 b)
+
+raw-key : (mask : ℕ) (c : Characters) (key : ℕ) → traps mask ≡ false → raw_key_items (role_of_typed mask c key) key ≡ Byte key ∷ []
+raw-key mask c key e =
+    ap (λ (b : Bool). raw_key_items (role_of_key (record { flags = record standard_flags { isig = b }; chars = c }) key) key) e
+    ∙ raw-mapped c key (mapped_key (record standard_flags { isig = false }) key)
+
 -- the count at the client, after one more key
-count-step : (limit : ℕ) (s : Settings) (key : ℕ) (trapped plain : ℕ) (half : List ℕ) (b : Bool) → s.flags.isig ≡ b → allows_local s.flags ≡ true
-    → (if b then trapped else plain) ≡ length half → (if b then count_next limit trapped (role_of_key (settings_by true s.chars) key)
-    else count_next limit plain (role_of_key (settings_by false s.chars) key)) ≡ length (half_next limit half (role_of_key s key))
-count-step limit s key trapped plain half true isig allowed count =
-    ap (λ r. count_next limit trapped r) (ap (λ (b : Bool). role_of_key (settings_by b s.chars) key) (sym isig) ∙ same_role s key allowed)
-    ∙ sym (length_by_test (is_dropped limit trapped (role_of_key s key)) half trapped (role_of_key s key) (sym count))
-    ∙ ap (λ n. length (if is_dropped limit n (role_of_key s key) then half else half_after half (role_of_key s key))) count
-count-step limit s key trapped plain half false isig allowed count =
-    ap (λ r. count_next limit plain r) (ap (λ (b : Bool). role_of_key (settings_by b s.chars) key) (sym isig) ∙ same_role s key allowed)
-    ∙ sym (length_by_test (is_dropped limit plain (role_of_key s key)) half plain (role_of_key s key) (sym count))
+counted : (limit n : ℕ) (r : Role) → count_after limit n (roles_from r) ≡ (if is_dropped limit n r then n else next_count n r)
+counted limit n role.Ignored = refl
+counted limit n (role.Ordinary b) = refl
+counted limit n role.Nl = refl
+counted limit n (role.Eol b) = refl
+counted limit n (role.Eol2 b) = refl
+counted limit n role.Eof = refl
+counted limit n (role.Signal sig) = refl
+counted limit n role.Erase = refl
+counted limit n role.Kill = refl
+
+count-one : (limit : ℕ) (s : Settings) (key n : ℕ) (half : List ℕ) (b : Bool) → s.flags.isig ≡ b → allows_local s.flags ≡ true → n ≡ length half
+    → count_after limit n (roles_from (role_of_key (settings_by b s.chars) key)) ≡ length (half_next limit half (role_of_key s key))
+count-one limit s key n half b isig allowed count =
+    ap (λ r. count_after limit n (roles_from r)) (ap (λ (b : Bool). role_of_key (settings_by b s.chars) key) (sym isig) ∙ same_role s key allowed)
+    ∙ counted limit n (role_of_key s key)
+    ∙ sym (length_by_test (is_dropped limit n (role_of_key s key)) half n (role_of_key s key) (sym count))
     ∙ ap (λ n. length (if is_dropped limit n (role_of_key s key) then half else half_after half (role_of_key s key))) count
 
--- a key
-pub key-agrees : (canon : Canon) (typed : List ℕ) (taken : List Entry) (v : Server) (c : Client) (key : ℕ) (e : Bool) → c.mask.edit ≡ e
-    → Agrees canon typed taken v c → Agrees canon (typed ++ key ∷ []) taken (read_all canon v (client_after_key canon e c key).items)
-    (client_after_key canon e c key).client
-key-agrees canon typed taken v c key true is_edit a =
-    let ok = local_of canon.settings c.mask a.askable is_edit in
-    let same : role_of_key (settings_by c.mask.trapsig canon.settings.chars) key ≡ role_of_key canon.settings key =
-    ap (λ (m : Mode). role_of_key (settings_by m.trapsig canon.settings.chars) key) ok.1 ∙ same_role canon.settings key ok.0 in
-    let f : Follows canon c.linemode a.half a.waiting c.held (role_of_key canon.settings key)
-    (edit_key canon.limit c (role_of_key (settings_by c.mask.trapsig canon.settings.chars) key)) =
-    subst (λ r. Follows canon c.linemode a.half a.waiting c.held (role_of_key canon.settings key) (edit_key canon.limit c r)) (sym same)
-    (key-follows canon c.linemode a.half a.waiting c (role_of_key canon.settings key) (literal_key canon.settings key) a.plain (a.ahead is_edit)
-    (fits_at canon typed a.half c.held a.line)) in
+count-step : (limit : ℕ) (s : Settings) (key trapped plain : ℕ) (half : List ℕ) (b : Bool) → s.flags.isig ≡ b → allows_local s.flags ≡ true
+    → (if b then trapped else plain) ≡ length half → (if b then count_after limit trapped (roles_from (role_of_key (settings_by true s.chars) key))
+    else count_after limit plain (roles_from (role_of_key (settings_by false s.chars) key))) ≡ length (half_next limit half (role_of_key s key))
+count-step limit s key trapped plain half true isig allowed count = count-one limit s key trapped half true isig allowed count
+count-step limit s key trapped plain half false isig allowed count = count-one limit s key plain half false isig allowed count
+
+-- a key, by whether it is edited here
+key_by : (canon : Canon) (typed : List ℕ) (taken : List Entry) (v : Server) (c : End) (key : ℕ) (e : Bool) → edits c.mode ≡ e → ClientStays canon c
+    → Agrees canon typed taken v c → Agrees canon (typed ++ key ∷ []) taken (read_all canon v (server_items (says_by e c key))) (end_by e c key)
+key_by canon typed taken v c key true is_edit stays a =
+    let ok = local_of canon.settings (bits c.mode) a.askable is_edit in
+    let l = linemode c.options in
+    let r = role_of_key canon.settings key in
+    let same : role_now c key ≡ r =
+    ap (λ (x : Characters). role_of_typed c.mode x key) stays.chars
+    ∙ ap (λ (m : Mode). role_of_key (settings_by m.trapsig canon.settings.chars) key) ok.1 ∙ same_role canon.settings key ok.0 in
+    let limited : HalfLine = record c.line { limit = canon.limit } in
+    let here : Follows canon l a.half a.waiting c.line.held r (line_typed true c.forward limited r) (edit_items c.forward r limited) =
+    key-follows canon l a.half a.waiting c.line.held c.line.ahead a.plain (a.ahead is_edit) (fits_at canon typed a.half c.line.held a.line)
+    c.forward r (literal_key canon.settings key) in
+    let f : Follows canon l a.half a.waiting c.line.held r (line_typed true c.forward c.line (role_now c key)) (edit_items c.forward (role_now c key) c.line) =
+    subst (λ x. Follows canon l a.half a.waiting c.line.held r (line_typed true c.forward c.line x) (edit_items c.forward x c.line)) (sym same)
+    (subst (λ n. Follows canon l a.half a.waiting c.line.held r (line_typed true c.forward (record c.line { limit = n }) r)
+    (edit_items c.forward r (record c.line { limit = n }))) (sym stays.limit) here) in
     record {
       half = f.half;
-      waiting = a.waiting ++ gain_next canon.limit (a.half ++ c.held) (role_of_key canon.settings key);
+      waiting = a.waiting ++ gain_next canon.limit (a.half ++ c.line.held) r;
       is =
-          ap (λ x. read_all canon x (client_after_key canon true c key).items) a.is
-          ∙ ap (λ e. read_all canon (server_at c.linemode e a.half a.waiting) (client_after_key canon true c key).items) is_edit
+          ap (λ x. read_all canon x (server_items (says_by true c key))) a.is
+          ∙ ap (λ e. read_all canon (server_at l e a.half a.waiting) (server_items (says_by true c key))) is_edit
           ∙ f.reads
-          ∙ ap (λ e. server_at c.linemode e f.half (a.waiting ++ gain_next canon.limit (a.half ++ c.held) (role_of_key canon.settings key))) (sym is_edit);
+          ∙ ap (λ e. server_at l e f.half (a.waiting ++ gain_next canon.limit (a.half ++ c.line.held) r)) (sym is_edit);
       off = a.off;
       entries =
           entries-typed canon typed key
-          ∙ ap (λ x. x ++ gain_next canon.limit (typed_half canon typed) (role_of_key canon.settings key)) a.entries
-          ∙ ap (λ x. (taken ++ a.waiting) ++ gain_next canon.limit x (role_of_key canon.settings key)) a.line
-          ∙ append_assoc taken a.waiting (gain_next canon.limit (a.half ++ c.held) (role_of_key canon.settings key));
-      line = half-typed canon typed key ∙ ap (λ x. half_next canon.limit x (role_of_key canon.settings key)) a.line ∙ f.line;
+          ∙ ap (λ x. x ++ gain_next canon.limit (typed_half canon typed) r) a.entries
+          ∙ ap (λ x. (taken ++ a.waiting) ++ gain_next canon.limit x r) a.line
+          ∙ append_assoc taken a.waiting (gain_next canon.limit (a.half ++ c.line.held) r);
+      line = half-typed canon typed key ∙ ap (λ x. half_next canon.limit x r) a.line ∙ f.line;
       askable = a.askable;
       ahead = λ e. f.ahead;
       none = λ e. absurd (cc);
       plain = f.plain;
       count = λ e allowed. absurd (cc);
     }
-key-agrees canon typed taken v c key false is_remote a =
-    let ok = remote_of canon.settings c.mask a.askable is_remote in
-    let item : remote_item c.mask.trapsig (role_of_mapped (settings_by c.mask.trapsig canon.settings.chars) key) key ≡ byte key =
-    ap (λ (m : Mode). remote_item m.trapsig (role_of_mapped (settings_by m.trapsig canon.settings.chars) key) key) ok in
+key_by canon typed taken v c key false is_remote stays a =
+    let l = linemode c.options in
+    let r = role_of_key canon.settings key in
+    let off : traps c.mode ≡ false = ap (λ (m : Mode). m.trapsig) (remote_of canon.settings (bits c.mode) a.askable is_remote) in
     let whole : typed_half canon typed ≡ a.half = a.line ∙ ap (λ x. a.half ++ x) (a.none is_remote) ∙ append-nil a.half in
+    let counts : (n : ℕ) (isig : Bool) → count_after canon.limit n (roles_from (role_of_key (settings_by isig canon.settings.chars) key))
+    ≡ count_after c.line.limit n (roles_from (role_of_key (settings_by isig c.table) key)) =
+    λ n isig. ap (λ (x : Characters). count_after canon.limit n (roles_from (role_of_key (settings_by isig x) key))) (sym stays.chars)
+    ∙ ap (λ (m : ℕ). count_after m n (roles_from (role_of_key (settings_by isig c.table) key))) (sym stays.limit) in
     record {
-      half = half_next canon.limit a.half (role_of_key canon.settings key);
-      waiting = a.waiting ++ gain_next canon.limit a.half (role_of_key canon.settings key);
+      half = half_next canon.limit a.half r;
+      waiting = a.waiting ++ gain_next canon.limit a.half r;
       is =
-          ap (λ x. read_all canon x (client_after_key canon false c key).items) a.is
-          ∙ ap (λ i. read canon (server_at c.linemode c.mask.edit a.half a.waiting) i) item
-          ∙ ap (λ e. read canon (server_at c.linemode e a.half a.waiting) (byte key)) is_remote
-          ∙ ap (λ e. server_at c.linemode e (half_next canon.limit a.half (role_of_key canon.settings key))
-          (a.waiting ++ gain_next canon.limit a.half (role_of_key canon.settings key))) (sym is_remote);
+          ap (λ xs. read_all canon v (server_items xs)) (raw-key c.mode c.table key off)
+          ∙ ap (λ x. read canon x (byte key)) a.is
+          ∙ ap (λ e. read canon (server_at l e a.half a.waiting) (byte key)) is_remote
+          ∙ ap (λ e. server_at l e (half_next canon.limit a.half r) (a.waiting ++ gain_next canon.limit a.half r)) (sym is_remote);
       off = a.off;
       entries =
           entries-typed canon typed key
-          ∙ ap (λ x. x ++ gain_next canon.limit (typed_half canon typed) (role_of_key canon.settings key)) a.entries
-          ∙ ap (λ x. (taken ++ a.waiting) ++ gain_next canon.limit x (role_of_key canon.settings key)) whole
-          ∙ append_assoc taken a.waiting (gain_next canon.limit a.half (role_of_key canon.settings key));
+          ∙ ap (λ x. x ++ gain_next canon.limit (typed_half canon typed) r) a.entries
+          ∙ ap (λ x. (taken ++ a.waiting) ++ gain_next canon.limit x r) whole
+          ∙ append_assoc taken a.waiting (gain_next canon.limit a.half r);
       line =
           half-typed canon typed key
-          ∙ ap (λ x. half_next canon.limit x (role_of_key canon.settings key)) whole
-          ∙ sym (ap (λ x. half_next canon.limit a.half (role_of_key canon.settings key) ++ x) (a.none is_remote)
-          ∙ append-nil (half_next canon.limit a.half (role_of_key canon.settings key)));
+          ∙ ap (λ x. half_next canon.limit x r) whole
+          ∙ sym (ap (λ x. half_next canon.limit a.half r ++ x) (a.none is_remote) ∙ append-nil (half_next canon.limit a.half r));
       askable = a.askable;
       ahead = λ e. absurd (cc);
       none = a.none;
       plain = a.plain;
-      count = λ e allowed. count-step canon.limit canon.settings key c.trapped c.plain a.half canon.settings.flags.isig refl allowed (a.count e allowed);
+      count = λ e allowed.
+          ap (λ n. if canon.settings.flags.isig then n else count_after c.line.limit c.plain (roles_from (role_of_key (settings_by false c.table) key)))
+          (sym (counts c.trapped true))
+          ∙ ap (λ n. if canon.settings.flags.isig then count_after canon.limit c.trapped (roles_from (role_of_key (settings_by true canon.settings.chars) key))
+          else n) (sym (counts c.plain false))
+          ∙ count-step canon.limit canon.settings key c.trapped c.plain a.half canon.settings.flags.isig refl allowed (a.count e allowed);
     }
 
+pub key-agrees : (canon : Canon) (typed : List ℕ) (taken : List Entry) (v : Server) (c : End) (key : ℕ) → ClientStays canon c → Agrees canon typed taken v c
+    → Agrees canon (typed ++ key ∷ []) taken (read_all canon v (server_items (says_key c key))) (end_after_key c key)
+key-agrees canon typed taken v c key stays a = key_by canon typed taken v c key (edits c.mode) refl stays a
+
 -- a command by which the server interrupts, as a key would
-pub interrupt-agrees : (canon : Canon) (typed : List ℕ) (taken : List Entry) (v : Server) (c : Client) (key : ℕ)
+pub interrupt-agrees : (canon : Canon) (typed : List ℕ) (taken : List Entry) (v : Server) (c : End) (key : ℕ)
     → role_of_key canon.settings key ≡ role.Signal Int → Agrees canon typed taken v c
     → Agrees canon (typed ++ key ∷ []) taken (read_all canon v (command Ip ∷ [])) c
 interrupt-agrees canon typed taken v c key interrupts a =
@@ -166,11 +233,6 @@ same_if : (b : Bool) (n : ℕ) → (if b then n else n) ≡ n
 same_if true n = refl
 same_if false n = refl
 
--- how many bytes are ahead where EDIT begins
-resumed : (s : Settings) (half : List ℕ) (c : Client) (m : Mode) → m ≡ local_mode s → (if s.flags.isig then c.trapped else c.plain) ≡ length half
-    → length half ≡ (if m.trapsig then c.trapped else c.plain)
-resumed s half c m local count = sym count ∙ ap (λ (n : Mode). if n.trapsig then c.trapped else c.plain) (sym local)
-
 -- where LINEMODE is on, an acknowledged mode counts
 acked : (s : Canon) (l edit : Bool) (half : List ℕ) (waiting : List Entry) (m : Mode) → l ≡ true
     → read s (server_at l edit half waiting) (mode_ack m) ≡ server_at l m.edit half waiting
@@ -183,52 +245,72 @@ acked s l edit half waiting m on =
 still_on : (l : Bool) (A : Type 0) → l ≡ true → l ≡ false → A
 still_on l A p q = absurd (cc)
 
--- a mode that changes something
-taken-agrees : (canon : Canon) (typed : List ℕ) (taken : List Entry) (v : Server) (c : Client) (m : Mode) (e f : Bool) → c.linemode ≡ true → c.mask.edit ≡ e
-    → m.edit ≡ f → Agrees canon typed taken v c → IsAskable canon.settings m
-    → Agrees canon typed taken (read_all canon v (client_with_mode canon c m e f).items) (client_with_mode canon c m e f).client
-taken-agrees canon typed taken v c m true false on before after a askable =
+-- A MODE that changes something, by EDIT before and after
+abbrev pub mode_by : Bool → Bool → End → ℕ → End
+mode_by before after c mask =
+    record c {
+      mode = mask;
+      line = line_left before after (count_told mask c.trapped c.plain) c.line;
+      trapped = count_left before after c.line c.trapped;
+      plain = count_left before after c.line c.plain;
+    }
+
+abbrev pub held_told : Bool → Bool → List ℕ → List Item
+held_told true false held = bytes held
+held_told true true held = []
+held_told false after held = []
+
+taken_by : (canon : Canon) (typed : List ℕ) (taken : List Entry) (v : Server) (c : End) (m : ℕ) (e f : Bool) → linemode c.options ≡ true → edits c.mode ≡ e
+    → edits m ≡ f → Agrees canon typed taken v c → IsAskable canon.settings (bits m)
+    → Agrees canon typed taken (read_all canon v (held_told e f c.line.held ++ mode_ack (bits m) ∷ [])) (mode_by e f c m)
+taken_by canon typed taken v c m true false on before after a askable =
+    let l = linemode c.options in
+    let held = c.line.held in
     record {
-      half = a.half ++ c.held;
+      half = a.half ++ held;
       waiting = a.waiting;
       is =
-          ap (λ x. read_all canon x (bytes c.held ++ mode_ack m ∷ [])) a.is
-          ∙ ap (λ e. read_all canon (server_at c.linemode e a.half a.waiting) (bytes c.held ++ mode_ack m ∷ [])) before
-          ∙ read-bytes_then canon c.linemode a.half a.waiting c.held (mode_ack m) a.plain
-          (let fits = fits_at canon typed a.half c.held a.line in omega (arith, length-append a.half c.held))
-          ∙ acked canon c.linemode true (a.half ++ c.held) a.waiting m on;
-      off = λ e. still_on c.linemode (m.edit ≡ false) on e;
+          ap (λ x. read_all canon x (bytes held ++ mode_ack (bits m) ∷ [])) a.is
+          ∙ ap (λ e. read_all canon (server_at l e a.half a.waiting) (bytes held ++ mode_ack (bits m) ∷ [])) before
+          ∙ read-bytes_then canon l a.half a.waiting held (mode_ack (bits m)) a.plain
+          (let fits = fits_at canon typed a.half held a.line in omega (arith, length-append a.half held))
+          ∙ acked canon l true (a.half ++ held) a.waiting (bits m) on;
+      off = λ e. still_on l (edits m ≡ false) on e;
       entries = a.entries;
-      line = a.line ∙ sym (append-nil (a.half ++ c.held));
+      line = a.line ∙ sym (append-nil (a.half ++ held));
       askable = askable;
       ahead = λ e. absurd (cc);
       none = λ e. refl;
       plain = tt;
       count = λ e allowed.
-          same_if canon.settings.flags.isig (c.ahead + length c.held)
-          ∙ ap (λ n. n + length c.held) (sym (a.ahead before))
-          ∙ sym (length-append a.half c.held);
+          same_if canon.settings.flags.isig (c.line.ahead + length held)
+          ∙ ap (λ n. n + length held) (sym (a.ahead before))
+          ∙ sym (length-append a.half held);
     }
-taken-agrees canon typed taken v c m false true on before after a askable =
+taken_by canon typed taken v c m false true on before after a askable =
+    let l = linemode c.options in
     record {
       half = a.half;
       waiting = a.waiting;
-      is = ap (λ x. read canon x (mode_ack m)) a.is ∙ acked canon c.linemode c.mask.edit a.half a.waiting m on;
-      off = λ e. still_on c.linemode (m.edit ≡ false) on e;
+      is = ap (λ x. read canon x (mode_ack (bits m))) a.is ∙ acked canon l (edits c.mode) a.half a.waiting (bits m) on;
+      off = λ e. still_on l (edits m ≡ false) on e;
       entries = a.entries;
       line = a.line ∙ ap (λ x. a.half ++ x) (a.none before);
       askable = askable;
-      ahead = λ e. let ok = local_of canon.settings m askable after in resumed canon.settings a.half c m ok.1 (a.count before ok.0);
+      ahead = λ e.
+          let ok = local_of canon.settings (bits m) askable after in
+          sym (a.count before ok.0) ∙ ap (λ (n : Mode). if n.trapsig then c.trapped else c.plain) (sym ok.1);
       none = λ e. refl;
       plain = tt;
       count = λ e allowed. absurd (cc);
     }
-taken-agrees canon typed taken v c m true true on before after a askable =
+taken_by canon typed taken v c m true true on before after a askable =
+    let l = linemode c.options in
     record {
       half = a.half;
       waiting = a.waiting;
-      is = ap (λ x. read canon x (mode_ack m)) a.is ∙ acked canon c.linemode c.mask.edit a.half a.waiting m on;
-      off = λ e. still_on c.linemode (m.edit ≡ false) on e;
+      is = ap (λ x. read canon x (mode_ack (bits m))) a.is ∙ acked canon l (edits c.mode) a.half a.waiting (bits m) on;
+      off = λ e. still_on l (edits m ≡ false) on e;
       entries = a.entries;
       line = a.line;
       askable = askable;
@@ -237,12 +319,13 @@ taken-agrees canon typed taken v c m true true on before after a askable =
       plain = a.plain;
       count = λ e allowed. absurd (cc);
     }
-taken-agrees canon typed taken v c m false false on before after a askable =
+taken_by canon typed taken v c m false false on before after a askable =
+    let l = linemode c.options in
     record {
       half = a.half;
       waiting = a.waiting;
-      is = ap (λ x. read canon x (mode_ack m)) a.is ∙ acked canon c.linemode c.mask.edit a.half a.waiting m on;
-      off = λ e. still_on c.linemode (m.edit ≡ false) on e;
+      is = ap (λ x. read canon x (mode_ack (bits m))) a.is ∙ acked canon l (edits c.mode) a.half a.waiting (bits m) on;
+      off = λ e. still_on l (edits m ≡ false) on e;
       entries = a.entries;
       line = a.line;
       askable = askable;
@@ -252,31 +335,28 @@ taken-agrees canon typed taken v c m false false on before after a askable =
       count = λ e allowed. a.count before allowed;
     }
 
-mode-agrees : (canon : Canon) (typed : List ℕ) (taken : List Entry) (v : Server) (c : Client) (m : Mode) (b : Bool) → c.linemode ≡ true → is_same c.mask m ≡ b
-    → Agrees canon typed taken v c → IsAskable canon.settings m →
-    Agrees canon typed taken (read_all canon v (client_after_mode canon c m b).items) (client_after_mode canon c m b).client
-mode-agrees canon typed taken v c m true on same a askable = a
-mode-agrees canon typed taken v c m false on differs a askable =
-    taken-agrees canon typed taken v c m c.mask.edit m.edit on refl refl a askable
+pub taken-agrees : (canon : Canon) (typed : List ℕ) (taken : List Entry) (v : Server) (c : End) (m : ℕ) → linemode c.options ≡ true
+    → Agrees canon typed taken v c → IsAskable canon.settings (bits m)
+    → Agrees canon typed taken (read_all canon v (held_told (edits c.mode) (edits m) c.line.held ++ mode_ack (bits m) ∷ [])) (with_mode c m)
+taken-agrees canon typed taken v c m on a askable = taken_by canon typed taken v c m (edits c.mode) (edits m) on refl refl a askable
 
--- the modes of these messages
-abbrev pub IsAskableMessage : Settings → Message → Type 0
-IsAskableMessage s (mode m) = IsAskable s m
-IsAskableMessage s (forward_at f) = Unit
-IsAskableMessage s linemode_asked = Unit
-IsAskableMessage s chatter = Unit
-
--- an item that has no role and changes no mode
-pub skipped : (canon : Canon) (typed : List ℕ) (taken : List Entry) (v : Server) (c new : Client) (item : Item)
-    → ((l e : Bool) (h : List ℕ) (w : List Entry) → read canon (server_at l e h w) item ≡ server_at l e h (w ++ [])) → new ≡ record c { forward = new.forward }
-    → Agrees canon typed taken v c → Agrees canon typed taken (read canon v item) new
-skipped canon typed taken v c new item silent same a =
-    subst (λ x. Agrees canon typed taken (read canon v item) x) (sym same) (record {
+-- what the relation does not look at
+pub beside-agrees : (canon : Canon) (typed : List ℕ) (taken : List Entry) (v : Server) (c new : End) → linemode new.options ≡ linemode c.options
+    → new ≡ record c {
+      decoder = new.decoder;
+      options = new.options;
+      forward = new.forward;
+      table = new.table;
+      width = new.width;
+      height = new.height;
+      failed = new.failed;
+    } → Agrees canon typed taken v c → Agrees canon typed taken v new
+beside-agrees canon typed taken v c new same is a =
+    subst (λ x. Agrees canon typed taken v x) (sym is) (record {
       half = a.half;
       waiting = a.waiting;
-      is = ap (λ x. read canon x item) a.is ∙ silent c.linemode c.mask.edit a.half a.waiting
-          ∙ ap (λ x. server_at c.linemode c.mask.edit a.half x) (append-nil a.waiting);
-      off = a.off;
+      is = a.is ∙ ap (λ (b : Bool). server_at b (edits c.mode) a.half a.waiting) (sym same);
+      off = λ e. a.off (sym same ∙ e);
       entries = a.entries;
       line = a.line;
       askable = a.askable;
@@ -286,23 +366,22 @@ skipped canon typed taken v c new item silent same a =
       count = a.count;
     })
 
-passed-agrees : (canon : Canon) (typed : List ℕ) (taken : List Entry) (v : Server) (c : Client) → Agrees canon typed taken v c
-    → Agrees canon typed taken (read_all canon v (passed_over c).items) (passed_over c).client
-passed-agrees canon typed taken v c a = skipped canon typed taken v c c other (λ l e h w. refl) refl a
-
 -- LINEMODE comes on at the client, and at the server once it reads the answer: no line is edited at the client, as before
-turned-agrees : (canon : Canon) (typed : List ℕ) (taken : List Entry) (v : Server) (c : Client) (b : Bool) → c.linemode ≡ b → Agrees canon typed taken v c
-    → Agrees canon typed taken (read_all canon v (client_turned_on b c).items) (client_turned_on b c).client
-turned-agrees canon typed taken v c true was a = passed-agrees canon typed taken v c a
-turned-agrees canon typed taken v c false was a =
+pub turned-agrees : (canon : Canon) (typed : List ℕ) (taken : List Entry) (v : Server) (c : End) → linemode c.options ≡ false → Agrees canon typed taken v c
+    → (new : End) → linemode new.options ≡ true → new ≡ record (mode_by false false c 0) {
+      options = new.options;
+      forward = new.forward;
+    } → Agrees canon typed taken (read_all canon v (linemode_on ∷ [])) new
+turned-agrees canon typed taken v c was a new on is =
     let raw = a.off was in
-    record {
+    subst (λ x. Agrees canon typed taken (read_all canon v (linemode_on ∷ [])) x) (sym is) (record {
       half = a.half;
       waiting = a.waiting;
       is =
           ap (λ x. read canon x linemode_on) a.is
-          ∙ ap (λ (l : Bool). read canon (server_at l c.mask.edit a.half a.waiting) linemode_on) was
-          ∙ ap (λ x. server_at true false a.half x) (append-nil a.waiting);
+          ∙ ap (λ (l : Bool). read canon (server_at l (edits c.mode) a.half a.waiting) linemode_on) was
+          ∙ ap (λ x. server_at true false a.half x) (append-nil a.waiting)
+          ∙ ap (λ (l : Bool). server_at l false a.half a.waiting) (sym on);
       off = λ e. refl;
       entries = a.entries;
       line = a.line;
@@ -311,22 +390,4 @@ turned-agrees canon typed taken v c false was a =
       none = λ e. a.none raw;
       plain = a.plain;
       count = λ e allowed. a.count raw allowed;
-    }
-
-pub message-agrees : (canon : Canon) (typed : List ℕ) (taken : List Entry) (v : Server) (c : Client) (m : Message) → Agrees canon typed taken v c
-    → IsAskableMessage canon.settings m → Agrees canon typed taken (read_all canon v (client_after_message canon c m).items)
-    (client_after_message canon c m).client
-message-agrees canon typed taken v c (mode m) a askable = by_test c.linemode refl
-  where
-    by_test : (b : Bool) → c.linemode ≡ b → Agrees canon typed taken (read_all canon v (where_on b c (client_after_mode canon c m (is_same c.mask m))).items)
-        (where_on b c (client_after_mode canon c m (is_same c.mask m))).client
-    by_test true on = mode-agrees canon typed taken v c m (is_same c.mask m) on refl a askable
-    by_test false on = passed-agrees canon typed taken v c a
-message-agrees canon typed taken v c (forward_at f) a askable = by_test c.linemode
-  where
-    by_test : (b : Bool) → Agrees canon typed taken (read_all canon v (where_on b c (record { client = record c { forward = f }; items = other ∷ [] })).items)
-        (where_on b c (record { client = record c { forward = f }; items = other ∷ [] })).client
-    by_test true = skipped canon typed taken v c (record c { forward = f }) other (λ l e h w. refl) refl a
-    by_test false = passed-agrees canon typed taken v c a
-message-agrees canon typed taken v c linemode_asked a askable = turned-agrees canon typed taken v c c.linemode refl a
-message-agrees canon typed taken v c chatter a askable = passed-agrees canon typed taken v c a
+    })

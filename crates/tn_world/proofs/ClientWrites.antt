@@ -25,12 +25,12 @@ use Rattle.tn_option.specs.Options.{Options, options_after_word, reply_to, is_ye
 use Rattle.tn_option.specs.QMethod.{side_of, cause_of}
 use Rattle.tn_option.specs.declared.q_method.Side.TheVariants.{Us}
 use Rattle.tn_option.proofs.lemmas.OptionLaws.{LeavesOthers-moved}
-use Rattle.tn_client.specs.Terms.{linemode, tells_size, payload_at, mode_by, mode_at, forward_by, forward_at, chars_by}
+use Rattle.tn_client.specs.Terms.{linemode, tells_size, payload_at, mode_by, mode_at, chars_by}
 use Rattle.tn_linemode.specs.Words.{differ, word_items, list_items}
 use Rattle.tn_client.specs.Replies.{byte_items, size_items, new_size_items, payload_answers, answer_items}
 use Rattle.tn_world.specs.relation.Machine as machine
-use Rattle.tn_world.specs.relation.Machine.{Mode, chatter, Server, read, read_item, read_all, byte, other, bytes, IsAskable}
-use Rattle.tn_world.specs.relation.Calm.{bits, IsCalmToServer, AsksCalmly, seen_word, server_item, heard_payload}
+use Rattle.tn_world.specs.relation.Machine.{Server, read, read_item, read_all, byte, other, bytes, IsAskable}
+use Rattle.tn_world.specs.relation.Calm.{bits, IsCalmToServer, AsksCalmly, seen_word, server_item}
 use Rattle.tn_world.specs.relation.Ends.{server_items, SaysItems}
 use Rattle.tn_world.proofs.Reading.{read_all-append}
 use Rattle.tn_world.proofs.ServerSteps.{Speaks, reply_speaks}
@@ -76,9 +76,6 @@ read-other s v = by_test v.failed refl
 
 pub writes-hushed : (canon : Canon) (out : List Item) → SaysItems canon (other ∷ []) out → SaysItems canon [] out
 writes-hushed canon out h = record { fit = h.fit; calm = h.calm; says_so = λ v. h.says_so v ∙ read-other canon v }
-
-pub writes-other : (canon : Canon) (out : List Item) → SaysItems canon [] out → SaysItems canon (other ∷ []) out
-writes-other canon out h = record { fit = h.fit; calm = h.calm; says_so = λ v. h.says_so v ∙ sym (read-other canon v) }
 
 pub writes-if : (canon : Canon) (b : Bool) (out : List Item) → SaysItems canon [] out → SaysItems canon [] (if b then out else [])
 writes-if canon true out h = h
@@ -150,12 +147,6 @@ chatter-mode m p i = by_chatter (λ p. mode_by m p ≡ m) p i refl (λ _ _. refl
 pub chatter-chars : (c : Characters) (p : Option Payload) → IsChatter p → chars_by c p ≡ c
 chatter-chars c p i = by_chatter (λ p. chars_by c p ≡ c) p i refl (λ _ _. refl) refl refl
 
-pub chatter-heard : (p : Option Payload) → IsChatter p → heard_payload p ≡ chatter
-chatter-heard p i = by_chatter (λ p. heard_payload p ≡ chatter) p i refl (λ _ _. refl) refl refl
-
-pub chatter-forward : (f : Option Mask) (p : Option Payload) → IsChatter p → forward_by f p ≡ f
-chatter-forward f p i = by_chatter (λ p. forward_by f p ≡ f) p i refl (λ _ _. refl) refl refl
-
 -- a forward mask is taken or dropped, and the answer says nothing of lines
 abbrev pub forward_of : Option Mask → Payload
 forward_of (Some mask) = payload.ForwardOn mask
@@ -216,10 +207,6 @@ pub table-mode : (m : ℕ) (b : Bool) → mode_by m (table_if b) ≡ m
 table-mode m true = refl
 table-mode m false = refl
 
-pub table-forward : (f : Option Mask) (b : Bool) → forward_by f (table_if b) ≡ f
-table-forward f true = refl
-table-forward f false = refl
-
 same_table : client_after standard_characters (announcement standard_characters) ≡ standard_characters
 unfolding client_after announcement
 same_table = refl
@@ -276,12 +263,3 @@ pub said-forward : (o : Options) (option : ℕ) (params : List ℕ) (f : Option 
     → payload_at o (Sub option params) ≡ (if linemode o then Some (forward_of f) else None)
 said-forward o option params (Some mask) e = said-on o option params mask e
 said-forward o option params None e = said-off o option params e
-
-pub word-forward : (o : Options) (f : Option Mask) (verb : Verb) (code : ℕ) → (code == 34) ≡ false → forward_at o f (Neg verb code) ≡ f
-word-forward o f verb code e = same_or_dropped (linemode o) (linemode (options_after_word o verb code)) (word-keeps o verb code e)
-  where
-    same_or_dropped : (was on : Bool) → on ≡ was → (if differ was on then None else f) ≡ f
-    same_or_dropped true true e = refl
-    same_or_dropped true false e = cc
-    same_or_dropped false true e = cc
-    same_or_dropped false false e = refl

@@ -5,6 +5,7 @@ use Rattle.tn_client.specs.Calls as client
 use Rattle.tn_client.specs.declared.faults.ClientFault.{ClientFault}
 use Rattle.tn_client.specs.declared.faults.ClientFault.TheVariants as client_faults
 use Rattle.tn_pty.specs.declared.pty.PtyFault.TheVariants.{Closed}
+use Rattle.tn_server.specs.Answering as server_answers
 use Rattle.tn_server.specs.Calls as server
 use Rattle.tn_server.specs.Faults.{IsOfItem, IsOfPiece}
 use Rattle.tn_server.specs.declared.faults.ServerFault.{ServerFault}
@@ -35,14 +36,14 @@ unless false old new happens goes so = so
 module _ (old : World) (n : ℕ) (piece left later : List ℕ) where
   -- at the server
   pub to_server : (end : server.End) → old.server_stopped ≡ false → server.call_fault old.server ≡ None → piece ≡ take n old.to_server
-      → left ≡ drop n old.to_server → server.Feeds old.server piece old.to_client later end → (w : World) → old ≡ w
+      → left ≡ drop n old.to_server → server_answers.Feeds old.server piece old.to_client later end → (w : World) → old ≡ w
       → UnlessStopped w.server_stopped w (record old { server = end; to_server = left; to_client = later })
       (DeliversToServer w n (record old { server = end; to_server = left; to_client = later }))
   to_server end goes accepted front behind feeds w is =
       let new : World = record old { server = end; to_server = left; to_client = later } in
       subst (λ (w : World). UnlessStopped w.server_stopped w new (DeliversToServer w n new)) is (unless old.server_stopped old new _ goes (record {
         accepted = accepted;
-        feeds = subst (λ (x : List ℕ). server.Feeds old.server x old.to_client later end) front feeds;
+        feeds = subst (λ (x : List ℕ). server_answers.Feeds old.server x old.to_client later end) front feeds;
         rest = ap (λ (x : List ℕ). record old { server = end; to_server = x; to_client = later }) behind;
       }))
 
@@ -54,7 +55,7 @@ module _ (old : World) (n : ℕ) (piece left later : List ℕ) where
       → old.server_stopped ≡ false → piece ≡ take n old.to_server → left ≡ drop n old.to_server
       → ((told ≡ Err server_faults.Failed) ↔ (old.server.failed ≡ true)) → (fault ≡ server_faults.Failed → end ≡ old.server)
       → (fault ≡ server_faults.Failed → later ≡ old.to_client)
-      → (IsOfItem fault → server.StopsWithin old.server piece fault old.to_client later end) → IsOfPiece fault
+      → (IsOfItem fault → server_answers.StopsWithin old.server piece fault old.to_client later end) → IsOfPiece fault
       → (fault ≡ server_faults.Pty Closed → old.server.terminal.closed ≡ true) → end.failed ≡ true → (w : World) → old ≡ w
       → ServerRefusesDelivery w n fault (record old { server = end; to_server = left; to_client = later })
   server_refuses end fault told given goes front behind first stays none halts of shut failed w is =
@@ -63,7 +64,7 @@ module _ (old : World) (n : ℕ) (piece left later : List ℕ) where
         first = λ f. let both = sym given ∙ first.1 f in cc;
         is_fault = of;
         again = λ f. (first.0 (given ∙ ap Err f), only_left end (stays f) (none f) behind);
-        halts = λ i. subst (λ (x : List ℕ). server.StopsWithin old.server x fault old.to_client later end) front (halts i);
+        halts = λ i. subst (λ (x : List ℕ). server_answers.StopsWithin old.server x fault old.to_client later end) front (halts i);
         shut = shut;
         failed = failed;
         rest = ap (λ (x : List ℕ). record old { server = end; to_server = x; to_client = later }) behind;
@@ -71,14 +72,14 @@ module _ (old : World) (n : ℕ) (piece left later : List ℕ) where
 
   -- at the client
   pub to_client : (end : client.End) (seen : List ℕ) → old.client_stopped ≡ false → client.call_fault old.client ≡ None → piece ≡ take n old.to_client
-      → left ≡ drop n old.to_client → client.Feeds old.client piece old.to_server later old.shown seen end → (w : World) → old ≡ w
+      → left ≡ drop n old.to_client → answers.Feeds old.client piece old.to_server later old.shown seen end → (w : World) → old ≡ w
       → UnlessStopped w.client_stopped w (record old { client = end; to_client = left; to_server = later; shown = seen })
       (DeliversToClient w n (record old { client = end; to_client = left; to_server = later; shown = seen }))
   to_client end seen goes accepted front behind feeds w is =
       let new : World = record old { client = end; to_client = left; to_server = later; shown = seen } in
       subst (λ (w : World). UnlessStopped w.client_stopped w new (DeliversToClient w n new)) is (unless old.client_stopped old new _ goes (record {
         accepted = accepted;
-        feeds = subst (λ (x : List ℕ). client.Feeds old.client x old.to_server later old.shown seen end) front feeds;
+        feeds = subst (λ (x : List ℕ). answers.Feeds old.client x old.to_server later old.shown seen end) front feeds;
         rest = ap (λ (x : List ℕ). record old { client = end; to_client = x; to_server = later; shown = seen }) behind;
       }))
 
@@ -88,7 +89,7 @@ module _ (old : World) (n : ℕ) (piece left later : List ℕ) where
 
   pub client_refuses : (end : client.End) (seen : List ℕ) (fault : ClientFault) → old.client_stopped ≡ false → piece ≡ take n old.to_client
       → left ≡ drop n old.to_client → client.IsFault (client.call_fault old.client) fault
-      → (fault ≡ client_faults.Memory → client.StopsWithin old.client piece old.to_server later old.shown seen)
+      → (fault ≡ client_faults.Memory → answers.StopsWithin old.client piece old.to_server later old.shown seen)
       → (fault ≡ client_faults.Failed → answers.Untouched old.client old.to_server later old.shown seen end) → end.failed ≡ true → (w : World) → old ≡ w
       → ClientRefusesDelivery w n fault (record old { client = end; to_client = left; to_server = later; shown = seen })
   client_refuses end seen fault goes front behind cause breaks again failed w is =
@@ -96,7 +97,7 @@ module _ (old : World) (n : ℕ) (piece left later : List ℕ) where
         goes_on = goes;
         is_fault = cause;
         again = λ f. untouched end seen (again f) behind;
-        breaks = λ m. subst (λ (x : List ℕ). client.StopsWithin old.client x old.to_server later old.shown seen) front (breaks m);
+        breaks = λ m. subst (λ (x : List ℕ). answers.StopsWithin old.client x old.to_server later old.shown seen) front (breaks m);
         failed = failed;
         rest = ap (λ (x : List ℕ). record old { client = end; to_client = x; to_server = later; shown = seen }) behind;
       })

@@ -62,13 +62,13 @@ unfolding options_after_wish state_of
 echo_keeps_state true wanted o = refl
 echo_keeps_state false wanted o = refl
 
-echo_agrees : (due wanted : Bool) (o : Options) → agrees_to (server_terms.options_with_echo due wanted o) Them 34 ≡ agrees_to o Them 34
+pub echo_agrees : (due wanted : Bool) (o : Options) → agrees_to (server_terms.options_with_echo due wanted o) Them 34 ≡ agrees_to o Them 34
 unfolding options_after_wish agrees_to
 echo_agrees true wanted o = refl
 echo_agrees false wanted o = refl
 
 -- any word
-word_agrees : (o : Options) (side : Side) (verb : Verb) (option : ℕ) → agrees_to (options_after_word o verb option) side 34 ≡ agrees_to o side 34
+pub word_agrees : (o : Options) (side : Side) (verb : Verb) (option : ℕ) → agrees_to (options_after_word o verb option) side 34 ≡ agrees_to o side 34
 unfolding options_after_word
 word_agrees o side verb option = AgreesAsBefore-moved o (side_of verb) option (cause_of verb) side 34
 

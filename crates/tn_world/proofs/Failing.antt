@@ -1,5 +1,5 @@
 -- What holds once an end has failed: the entries that were made still begin those that the keys give.
-use Rattle.std.proofs.Common.{◌≡◌, inl, inr, ℕ, Bool, true, false, Option, Some, None, List, [], ◌∷◌, ◌++◌, take, drop, refl, sym, ap, ◌∙◌, if◌then◌else◌}
+use Rattle.std.proofs.Common.{◌≡◌, inl, inr, ℕ, Bool, true, false, Option, Some, None, List, [], ◌∷◌, ◌++◌, length, min, take, drop, refl, sym, ap, ◌∙◌, if◌then◌else◌}
 use Rattle.std.proofs.Common.{subst, append-nil, append_assoc}
 use Rattle.std.specs.Prelude.{All, option_to_list}
 use Rattle.std.proofs.lemmas.List.{map-append, take-append-drop}
@@ -16,7 +16,10 @@ use Rattle.tn_nvt.specs.Feeding.{DecoderState, Advances}
 use Rattle.tn_nvt.proofs.lemmas.Reading.{delivers}
 use Rattle.tn_server.specs.Events as server_calls
 use Rattle.tn_server.specs.Faults.{IsOfItem, IsOfPiece}
+use Rattle.tn_server.specs.Answering as server_answers
 use Rattle.tn_server.specs.Calls as server
+use Rattle.tn_server.specs.Steps.{end_after_items as end_all_there}
+use Rattle.tn_server.proofs.lemmas.Gathering.{call_keeps}
 use Rattle.tn_server.specs.declared.faults.ServerFault.{ServerFault}
 use Rattle.tn_server.specs.declared.faults.ServerFault.TheVariants as server_faults
 use Rattle.tn_client.specs.Course as client_courses
@@ -29,9 +32,10 @@ use Rattle.tn_world.specs.Headline.{RunsQuietly, IsQuietEvent, PassesQuietly, No
 use Rattle.tn_streams.specs.Prefixes.{IsPrefixOf}
 use Rattle.tn_world.specs.Past.{HasPast}
 use Rattle.tn_world.specs.relation.Calm.{IsCalmToServer, IsCalmToClient, server_item}
-use Rattle.tn_world.specs.relation.Ends.{server_items, client_messages, client_after_messages}
+use Rattle.tn_client.specs.Steps.{end_after_items, says_items}
+use Rattle.tn_world.specs.relation.Ends.{server_items}
 use Rattle.tn_world.specs.relation.Machine.{Server, read_all}
-use Rattle.tn_world.specs.relation.Pictures.{server_core, server_picture, client_core, ServerStays}
+use Rattle.tn_world.specs.relation.Pictures.{server_core, ServerStays}
 use Rattle.tn_world.specs.relation.Relation.{IsRelated, IsBehind}
 use Rattle.tn_world.specs.Worlds.{World, UnlessStopped, TypesKey, SendsCommand, key_sent, CallsClient, DeliversToServer, DeliversToClient, CallsServer, Pulls}
 use Rattle.tn_world.specs.Worlds.{TakesEntry, RunsEvent, ServerRefusesDelivery, ClientRefusesDelivery}
@@ -39,15 +43,15 @@ use Rattle.tn_client.specs.declared.commands.UserCommand.{UserCommand}
 use Rattle.tn_world.specs.declared.events.Event.{Event}
 use Rattle.tn_world.specs.declared.events.Event.TheVariants.{Key, Send, ToServer, ToClient, Write, Pull, Take, Wish, Resize, SetChar, Propose, Echo, Mask}
 use Rattle.tn_world.specs.declared.events.Event.TheVariants.{ServerStops, ClientStops}
-use Rattle.tn_world.proofs.ClientSteps.{stops_done}
+use Rattle.tn_world.proofs.ClientSteps.{items-come, stops_front}
 use Rattle.tn_world.proofs.Cut.{said_behind, cut_at}
 use Rattle.tn_world.proofs.Following.{calls, flight_fits, holds_does, does_keeps}
 use Rattle.tn_world.proofs.Prefixes.{prefix_trans, prefix_after, prefix_same, read-more, agreed, taken-waits}
 use Rattle.tn_world.proofs.Reading.{read_all-append, entries-typed}
-use Rattle.tn_world.proofs.ServerSteps.{KeepsEntries, feeds_core, feeds_stays, stops_waiting, says_core, says_stays, took_core}
-use Rattle.tn_world.proofs.Soundness.{opposite, call_goes_on, halts_sound, breaks_sound, breaks_fit, again_sound, sound_does, Refusal, unchanged, by_server}
+use Rattle.tn_world.proofs.ServerSteps.{KeepsEntries, goes_on, stays_fed, core_call, stays_call}
+use Rattle.tn_world.proofs.Soundness.{opposite, call_goes_on, halts_sound, breaks_sound, again_sound, sound_does, Refusal, unchanged, by_server}
 use Rattle.tn_world.proofs.Soundness.{by_client, refusal_of}
-use Rattle.tn_world.proofs.Tied.{all_parts, all-agree}
+use Rattle.tn_world.proofs.Reading.{all_parts}
 
 -- what was made begins what the keys give
 abbrev pub Begins : Canon → World → Type 0
@@ -97,7 +101,7 @@ related_behind s w h =
       items = h.tied.items;
       flight = h.tied.flight;
       calm = h.tied.calm;
-      begins = prefix_same (w.taken ++ v.waiting) (local_entries s w.typed) (agreed s w.typed w.taken v (client_core w.client) h.tied.agrees);
+      begins = prefix_same (w.taken ++ v.waiting) (local_entries s w.typed) (agreed s w.typed w.taken v w.client h.tied.agrees);
       server = h.server;
       past = h.past;
     }
@@ -142,9 +146,10 @@ behind_reaches s old new n runs sound t h =
     let d = cut_at old.server.decoder new.server.decoder n old.to_server h.items f.items h.flight f.reads in
     let fit = (all_parts Fits f.items d.left (subst (λ l. All Fits l) d.all (flight_fits old.server.decoder old.to_server h.items h.flight))).0 in
     let calm = all_parts (IsCalmToServer s.settings) f.items d.left (subst (λ l. All (IsCalmToServer s.settings) l) d.all h.calm) in
-    let core = feeds_core s h.past.history old.server new.server (take n old.to_server) old.to_client new.to_client h.past.server h.server runs f fit calm.0 in
+    let later = goes_on s old.server f.items h.server runs fit calm.0 in
     let same : read_all s (server_core old.server) (server_items h.items) ≡ read_all s (server_core new.server) (server_items d.left) =
-    read_two s (server_core old.server) h.items f.items d.left d.all ∙ ap (λ v. read_all s v (server_items d.left)) (sym core) in
+    read_two s (server_core old.server) h.items f.items d.left d.all
+    ∙ ap (λ v. read_all s v (server_items d.left)) (sym (ap server_core f.step ∙ later.core)) in
     record {
       items = d.left;
       flight = subst (λ (x : List ℕ). InFlight new.server.decoder x d.left) (ap (λ (w : World). w.to_server) (sym t.rest)) d.flight;
@@ -153,25 +158,25 @@ behind_reaches s old new n runs sound t h =
           subst (λ (w : World). IsPrefixOf (w.taken ++ (read_all s (server_core new.server) (server_items d.left)).waiting) (local_entries s w.typed))
           (sym t.rest)
           (subst (λ (v : Server). IsPrefixOf (old.taken ++ v.waiting) (local_entries s old.typed)) same h.begins);
-      server = feeds_stays s h.past.history old.server new.server (take n old.to_server) old.to_client new.to_client h.past.server h.server runs f fit calm.0;
+      server = stays_fed s (end_all_there old.server f.items) new.server f.step later.stays;
       past = sound;
     }
 
 -- a call of the server that makes no entry and takes none
 behind_asks : (s : Canon) (old new : World) (e : server_calls.Event) → KeepsEntries e → HasPast new → CallsServer old e new → IsBehind s old → IsBehind s new
 behind_asks s old new e plain sound t h =
-    let core = says_core h.past.history old.server new.server e old.to_client new.to_client plain h.past.server t.goes t.keeps in
     record {
       items = h.items;
       flight =
-          subst (λ (x : List ℕ). InFlight new.server.decoder x h.items) (ap (λ (w : World). w.to_server) (sym t.rest))
-          (subst (λ d. InFlight d old.to_server h.items) (sym t.keeps.decoder) h.flight);
+          subst (λ (w : World). InFlight w.server.decoder w.to_server h.items) (sym t.step)
+          (subst (λ d. InFlight d old.to_server h.items) (sym (ap (λ (x : server.End). x.decoder) (call_keeps old.server e))) h.flight);
       calm = h.calm;
       begins =
-          subst (λ (w : World). IsPrefixOf (w.taken ++ (read_all s (server_core new.server) (server_items h.items)).waiting) (local_entries s w.typed))
-          (sym t.rest)
-          (subst (λ (v : Server). IsPrefixOf (old.taken ++ (read_all s v (server_items h.items)).waiting) (local_entries s old.typed)) (sym core) h.begins);
-      server = says_stays s h.past.history old.server new.server e old.to_client new.to_client (calls e plain) h.past.server h.server t.goes;
+          subst (λ (w : World). IsPrefixOf (w.taken ++ (read_all s (server_core w.server) (server_items h.items)).waiting) (local_entries s w.typed))
+          (sym t.step)
+          (subst (λ (v : Server). IsPrefixOf (old.taken ++ (read_all s v (server_items h.items)).waiting) (local_entries s old.typed))
+          (sym (core_call old.server e plain)) h.begins);
+      server = subst (λ (w : World). ServerStays s w.server) (sym t.step) (stays_call s old.server e (calls e plain) h.server);
       past = sound;
     }
 
@@ -179,19 +184,14 @@ behind_asks s old new e plain sound t h =
 behind_takes : (s : Canon) (old new : World) → HasPast new → TakesEntry old new → IsBehind s old → IsBehind s new
 behind_takes s old new sound t h =
     let items = server_items h.items in
-    let first = took_core h.past.history old.server new.server old.to_client new.to_client t.entry h.past.server t.goes t.keeps
-    (t.is_first h.past.history h.past.server) in
-    let side = taken-waits s (server_picture old.server) (server_picture new.server) old.taken (option_to_list t.entry) items first in
     record {
       items = h.items;
-      flight =
-          subst (λ (x : List ℕ). InFlight new.server.decoder x h.items) (ap (λ (w : World). w.to_server) (sym t.rest))
-          (subst (λ d. InFlight d old.to_server h.items) (sym t.keeps.decoder) h.flight);
+      flight = subst (λ (w : World). InFlight w.server.decoder w.to_server h.items) (sym t) h.flight;
       calm = h.calm;
       begins =
-          subst (λ (w : World). IsPrefixOf (w.taken ++ (read_all s (server_core new.server) items).waiting) (local_entries s w.typed)) (sym t.rest)
-          (subst (λ (xs : List Entry). IsPrefixOf xs (local_entries s old.typed)) (sym side) h.begins);
-      server = says_stays s h.past.history old.server new.server server_calls.took old.to_client new.to_client tt h.past.server h.server t.goes;
+          subst (λ (w : World). IsPrefixOf (w.taken ++ (read_all s (server_core w.server) items).waiting) (local_entries s w.typed)) (sym t)
+          (subst (λ (xs : List Entry). IsPrefixOf xs (local_entries s old.typed)) (sym (taken-waits s (server_core old.server) old.taken items)) h.begins);
+      server = subst (λ (w : World). ServerStays s w.server) (sym t) (stays_call s old.server server_calls.took tt h.server);
       past = sound;
     }
 
@@ -208,7 +208,7 @@ front_at old new n flight front back items got f is adds =
 
 -- the server fails: those of its items that were done are the first of those in flight
 halted : (s : Canon) (old new : World) (n : ℕ) (fault : ServerFault) → old.server.failed ≡ false → ServerRefusesDelivery old n fault new → IsBehind s old
-    → server.StopsWithin old.server (take n old.to_server) fault old.to_client new.to_client new.server → Begins s new
+    → server_answers.StopsWithin old.server (take n old.to_server) fault old.to_client new.to_client new.server → Begins s new
 halted s old new n fault runs r h x =
     let v = server_core old.server in
     let f = front_at old.server.decoder x.here n old.to_server x.front x.back h.items (x.done ++ x.left) h.flight x.whole x.reads in
@@ -217,8 +217,8 @@ halted s old new n fault runs r h x =
     let calm = (all_parts (IsCalmToServer s.settings) x.done (x.left ++ f.0) (subst (λ l. All (IsCalmToServer s.settings) l) all h.calm)).0 in
     let here = read_all s v (server_items x.done) in
     let there = read_all s here (server_items (x.left ++ f.0)) in
-    let waits : new.server.terminal.entries ≡ here.waiting = stops_waiting s h.past.history old.server new.server x.done h.past.server h.server runs
-    (x.leads h.past.history h.past.server) fit calm in
+    let waits : new.server.terminal.entries ≡ here.waiting =
+    ap (λ (e : server.End). e.terminal.entries) x.step ∙ ap (λ (u : Server). u.waiting) (goes_on s old.server x.done h.server runs fit calm).core in
     let begins : IsPrefixOf (old.taken ++ there.waiting) (local_entries s old.typed) =
     subst (λ (u : Server). IsPrefixOf (old.taken ++ u.waiting) (local_entries s old.typed)) (read_two s v h.items x.done (x.left ++ f.0) all) h.begins in
     subst (λ (w : World). IsPrefixOf (w.taken ++ new.server.terminal.entries) (local_entries s w.typed)) (sym r.rest)
@@ -247,34 +247,32 @@ behind_breaks s old new n fault none r h =
     let bytes = client_courses.stream c.0 in
     let had = client_calls.items at.history in
     let got = x.done ++ x.left in
-    let said = x.said ++ x.part in
+    let said = says_items old.client x.done ++ x.part in
     let f = front_at old.client.decoder x.here n old.to_client x.front x.back h.tied.messages got h.tied.back x.whole x.reads in
     let calm = (all_parts (IsCalmToClient s.settings) got f.0 (subst (λ l. All (IsCalmToClient s.settings) l) f.1 h.tied.calm_back)).0 in
-    let w = stops_done s at.history old.client (take n old.to_client) old.to_server new.to_server old.shown new.shown bytes had at.leads at.reads h.client
-    none.1 x calm in
-    let fit = breaks_fit at.history old.client (take n old.to_client) old.to_server new.to_server old.shown new.shown bytes had at.leads at.reads x in
-    let hushed = (all_parts (IsCalmToServer s.settings) said w.rest (subst (λ l. All (IsCalmToServer s.settings) l) w.whole w.writes.calm)).0 in
+    let all = items-come s old.client got h.client calm in
+    let w = stops_front old.client x.done x.left x.part x.here x.back (x.cause bytes had at.reads) in
+    let fit = (all_parts Fits said w.0 (subst (λ l. All Fits l) w.1 all.said.fit)).0 in
+    let hushed = (all_parts (IsCalmToServer s.settings) said w.0 (subst (λ l. All (IsCalmToServer s.settings) l) w.1 all.said.calm)).0 in
     let v = read_all s (server_core old.server) (server_items h.tied.items) in
-    let says = (client_after_messages s (client_core old.client) (client_messages got)).items in
     let here = read_all s v (server_items said) in
-    let there = read_all s here (server_items w.rest) in
-    let same : read_all s v says ≡ there = sym (w.writes.says_so v) ∙ read_two s v w.all said w.rest w.whole in
+    let there = read_all s here (server_items w.0) in
     let made : old.taken ++ there.waiting ≡ local_entries s old.typed =
-    ap (λ (u : Server). old.taken ++ u.waiting) (sym same)
-    ∙ agreed s old.typed old.taken (read_all s v says) (client_after_messages s (client_core old.client) (client_messages got)).client
-    (all-agree s old.typed old.taken v (client_core old.client) got h.tied.agrees calm) in
+    ap (λ (u : Server). old.taken ++ u.waiting) (sym (read_two s v (says_items old.client got) said w.0 w.1))
+    ∙ agreed s old.typed old.taken (read_all s v (server_items (says_items old.client got))) (end_after_items old.client got)
+    (all.agrees old.typed old.taken v h.tied.agrees) in
     let end : new.server ≡ old.server = ap (λ (u : World). u.server) r.rest in
     let begins : IsPrefixOf (old.taken ++ (read_all s (server_core old.server) (server_items (h.tied.items ++ said))).waiting) (local_entries s old.typed) =
     subst (λ (u : Server). IsPrefixOf (old.taken ++ u.waiting) (local_entries s old.typed))
     (sym (read_two s (server_core old.server) (h.tied.items ++ said) h.tied.items said refl))
     (prefix_trans (old.taken ++ here.waiting) (old.taken ++ there.waiting) (local_entries s old.typed)
-    (prefix_after old.taken here.waiting there.waiting (read-more s here (server_items w.rest)))
+    (prefix_after old.taken here.waiting there.waiting (read-more s here (server_items w.0)))
     (prefix_same (old.taken ++ there.waiting) (local_entries s old.typed) made)) in
     record {
       items = h.tied.items ++ said;
       flight =
           subst (λ (e : server.End). InFlight e.decoder new.to_server (h.tied.items ++ said)) (sym end)
-          (said_behind old.server.decoder old.to_server new.to_server h.tied.items said x.appended fit h.tied.flight);
+          (said_behind old.server.decoder old.to_server new.to_server h.tied.items said x.said fit h.tied.flight);
       calm = All-append (IsCalmToServer s.settings) h.tied.items said h.tied.calm hushed;
       begins =
           subst (λ (u : World). IsPrefixOf (u.taken ++ (read_all s (server_core u.server) (server_items (h.tied.items ++ said))).waiting)
@@ -306,7 +304,7 @@ behind_does s old new (Write bytes) runs failed sound quiet d h =
     behind_unless s old.server_stopped old new (CallsServer old (server_calls.wrote bytes) new) sound
     (λ t. behind_asks s old new (server_calls.wrote bytes) tt sound t h) d h
 behind_does s old new (Pull n) runs failed sound quiet d h =
-    behind_unless s old.server_stopped old new (Pulls old n new) sound (λ p. behind_asks s old new (server_calls.pulled p.count) tt sound p.asks h) d h
+    behind_unless s old.server_stopped old new (Pulls old n new) sound (λ p. behind_asks s old new (server_calls.pulled (min n (length old.server.terminal.queue))) tt sound p h) d h
 behind_does s old new Take runs failed sound quiet d h = behind_takes s old new sound d h
 behind_does s old new (Wish editing) runs failed sound quiet d h =
     behind_unless s old.server_stopped old new (CallsServer old (server_calls.wished editing) new) sound
@@ -341,7 +339,7 @@ begins_unless s false old new happens done is p = done is
 begins_types : (s : Canon) (old new : World) (key : ℕ) → TypesKey old key new → Begins s old → Begins s new
 begins_types s old new key t p =
     let gain = gain_next s.limit (typed_half s old.typed) (role_of_key s.settings key) in
-    subst (λ (w : World). Begins s w) (sym t.rest)
+    subst (λ (w : World). Begins s w) (sym t.step)
     (prefix_trans (entries_made old) (local_entries s old.typed) (local_entries s (old.typed ++ key ∷ [])) p (gain, sym (entries-typed s old.typed key)))
 
 -- a key more, or none
@@ -352,24 +350,20 @@ begins_keys s typed None = ([], append-nil (local_entries s typed) ∙ ap (local
 begins_sends : (s : Canon) (old new : World) (command : UserCommand) → SendsCommand old command new → Begins s old → Begins s new
 begins_sends s old new command t p =
     let key = key_sent old command in
-    subst (λ (w : World). Begins s w) (sym t.rest)
+    subst (λ (w : World). Begins s w) (sym t.step)
     (prefix_trans (entries_made old) (local_entries s old.typed) (local_entries s (old.typed ++ option_to_list key)) p (begins_keys s old.typed key))
 
 begins_asks : (s : Canon) (old new : World) (e : server_calls.Event) → KeepsEntries e → HasPast old → CallsServer old e new → Begins s old → Begins s new
 begins_asks s old new e plain sound t p =
-    let core = says_core sound.history old.server new.server e old.to_client new.to_client plain sound.server t.goes t.keeps in
     begins_as s old new
-    (ap (λ (w : World). w.taken ++ new.server.terminal.entries) t.rest ∙ ap (λ (v : Server). old.taken ++ v.waiting) core)
-    (ap (λ (w : World). w.typed) t.rest) p
+    (ap (λ (w : World). w.taken ++ w.server.terminal.entries) t.step ∙ ap (λ (v : Server). old.taken ++ v.waiting) (core_call old.server e plain))
+    (ap (λ (w : World). w.typed) t.step) p
 
 begins_takes : (s : Canon) (old new : World) → HasPast old → TakesEntry old new → Begins s old → Begins s new
 begins_takes s old new sound t p =
-    let first = took_core sound.history old.server new.server old.to_client new.to_client t.entry sound.server t.goes t.keeps
-    (t.is_first sound.history sound.server) in
     begins_as s old new
-    (ap (λ (w : World). w.taken ++ new.server.terminal.entries) t.rest
-    ∙ taken-waits s (server_picture old.server) (server_picture new.server) old.taken (option_to_list t.entry) [] first)
-    (ap (λ (w : World). w.typed) t.rest) p
+    (ap (λ (w : World). w.taken ++ w.server.terminal.entries) t ∙ taken-waits s (server_core old.server) old.taken [])
+    (ap (λ (w : World). w.typed) t) p
 
 begins_does : (s : Canon) (old new : World) (e : Event) → old.server.failed ≡ true → HasPast old → IsQuietEvent old e → RunsEvent old e new → Begins s old
     → Begins s new
@@ -386,13 +380,13 @@ begins_does s old new (ToClient n) failed sound quiet d p =
 begins_does s old new (Write bytes) failed sound quiet d p = begins_unless s old.server_stopped old new (CallsServer old (server_calls.wrote bytes) new)
     (λ t. begins_asks s old new (server_calls.wrote bytes) tt sound t p) d p
 begins_does s old new (Pull n) failed sound quiet d p = begins_unless s old.server_stopped old new (Pulls old n new)
-    (λ q. begins_asks s old new (server_calls.pulled q.count) tt sound q.asks p) d p
+    (λ q. begins_asks s old new (server_calls.pulled (min n (length old.server.terminal.queue))) tt sound q p) d p
 begins_does s old new Take failed sound quiet d p = begins_takes s old new sound d p
 begins_does s old new (Wish editing) failed sound quiet d p = begins_unless s old.server_stopped old new (CallsServer old (server_calls.wished editing) new)
     (λ t. begins_asks s old new (server_calls.wished editing) tt sound t p) d p
 begins_does s old new (Resize width height) failed sound quiet d p =
     begins_unless s old.client_stopped old new (CallsClient old (client_calls.resized width height) new)
-    (λ t. begins_as s old new (ap entries_made t.rest) (ap (λ (w : World). w.typed) t.rest) p) d p
+    (λ t. begins_as s old new (ap entries_made t.step) (ap (λ (w : World). w.typed) t.step) p) d p
 begins_does s old new (SetChar func value) failed sound quiet d p = absurd quiet
 begins_does s old new (Propose func value) failed sound quiet d p = absurd quiet
 begins_does s old new (Echo on) failed sound quiet d p = begins_unless s old.server_stopped old new (CallsServer old (server_calls.echo_set on) new)

@@ -1,5 +1,5 @@
 -- From a settled moment at rest the relation of the ends holds after every quiet list of events at which no end failed.
-use Rattle.std.proofs.Common.{◌≡◌, inl, inr, ℕ, Bool, true, false, Option, Some, None, List, [], ◌∷◌, ◌++◌, take, drop, flat_map, refl, sym, ap, ◌∙◌, subst}
+use Rattle.std.proofs.Common.{◌≡◌, inl, inr, ℕ, Bool, true, false, Option, Some, None, List, [], ◌∷◌, ◌++◌, length, min, take, drop, flat_map, refl, sym, ap, ◌∙◌, subst}
 use Rattle.std.proofs.Common.{append-nil}
 use Rattle.std.specs.Prelude.{All, option_to_list}
 use Rattle.std.proofs.lemmas.List.Elements.{All-nil, All-cons}
@@ -10,27 +10,30 @@ use Rattle.tn_discipline.specs.declared.keys.Role.TheVariants as role
 use Rattle.tn_discipline.specs.declared.reads.Sig.TheVariants.{Int}
 use Rattle.tn_discipline.specs.declared.termios.Flags.{Flags}
 use Rattle.tn_discipline.specs.declared.termios.Settings.{Settings}
-use Rattle.tn_nvt.specs.Spelling.{Fits}
+use Rattle.tn_nvt.specs.Spelling.{spells, Fits}
 use Rattle.tn_nvt.specs.Feeding.{DecoderState}
 use Rattle.tn_nvt.specs.Stream.{Segment, spelled, lone_cr, escaped, unread, cut, Splits, gives, Reading}
 use Rattle.tn_codes.specs.declared.codes.Command.TheVariants as command
 use Rattle.tn_nvt.specs.declared.items.Item.{Item}
 use Rattle.tn_nvt.specs.declared.items.Item.TheVariants.{Cmd}
+use Rattle.tn_server.specs.Calls as server
 use Rattle.tn_server.specs.Events as server_calls
+use Rattle.tn_server.specs.Steps.{end_after as end_there, says as says_there, end_after_items as end_all_there, says_items as says_all_there}
+use Rattle.tn_server.proofs.lemmas.Gathering.{call_keeps, items_keep}
 use Rattle.tn_client.specs.Events as client_calls
 use Rattle.tn_client.specs.Replies.{command_sent}
+use Rattle.tn_client.proofs.lemmas.Standings.{fed_failed}
+use Rattle.tn_client.proofs.lemmas.Courses as client_on
 use Rattle.tn_client.specs.declared.commands.UserCommand.{UserCommand}
 use Rattle.tn_client.specs.declared.commands.UserCommand.TheVariants as user
 use Rattle.tn_world.proofs.Interrupting.{interrupts_there}
 use Rattle.tn_world.specs.Past.{HasPast}
 use Rattle.tn_world.specs.Headline.{RunsQuietly, IsQuietEvent, PassesQuietly, NoneFailed}
-use Rattle.tn_world.specs.relation.Calm.{IsCalmToServer, IsCalmToClient}
-use Rattle.tn_world.specs.relation.Ends as ends
+use Rattle.tn_world.specs.relation.Calm.{IsCalmToServer}
 use Rattle.tn_world.specs.relation.Machine as machine
-use Rattle.tn_world.specs.relation.Ends.{AreReplies, ServerFeeds, ServerSays, TakesFirst, SaysItems, ClientKeys, client_after_messages, ClientFeeds, ClientSays}
-use Rattle.tn_world.specs.relation.Ends.{server_items, client_messages, Happens}
+use Rattle.tn_world.specs.relation.Ends.{AreReplies, SaysItems}
 use Rattle.tn_world.specs.Flight.{InFlight}
-use Rattle.tn_world.specs.relation.Pictures.{server_core, server_picture, client_picture, ServerStays, ClientStays}
+use Rattle.tn_world.specs.relation.Pictures.{server_core, server_picture, ServerStays, ClientStays}
 use Rattle.tn_world.specs.Worlds.{World, canon_of, UnlessStopped, TypesKey, key_sent, SendsCommand, CallsClient, DeliversToServer, DeliversToClient}
 use Rattle.tn_world.specs.Worlds.{CallsServer, Pulls, TakesEntry, RunsEvent, Refuses}
 use Rattle.tn_world.specs.declared.events.Event.{Event}
@@ -38,11 +41,13 @@ use Rattle.tn_world.specs.declared.events.Event.TheVariants.{Key, Send, ToServer
 use Rattle.tn_world.specs.declared.events.Event.TheVariants.{ServerStops, ClientStops}
 use Rattle.tn_world.specs.declared.faults.Cause.{Cause}
 use Rattle.tn_world.proofs.ClientSteps as client_steps
+use Rattle.tn_world.proofs.ClientSteps.{key_stays}
 use Rattle.tn_world.proofs.ServerSteps as server_steps
 use Rattle.tn_world.proofs.ServerSteps.{KeepsEntries, IsCall}
-use Rattle.tn_world.proofs.Soundness.{opposite, Refusal, unchanged, by_server, by_client, refusal_of, sound_does}
+use Rattle.tn_world.proofs.Soundness.{asked_fit, feeds_fit, opposite, Refusal, unchanged, by_server, by_client, refusal_of, sound_does}
 use Rattle.tn_world.proofs.Cut.{cut_at}
-use Rattle.tn_world.proofs.Tied.{all_parts, happens-tied}
+use Rattle.tn_world.proofs.Reading.{all_parts}
+use Rattle.tn_world.proofs.Tied.{key-tied, interrupt-tied, aside-tied, resize-tied, client-tied, says-tied, server-tied, took-tied}
 use Rattle.tn_world.specs.relation.Relation.{IsRelated, IsTied, picture}
 
 -- a call that makes no entry and takes none changes no character either
@@ -72,21 +77,12 @@ pub flight_fits : (d : DecoderState) (flight : List ℕ) (items : List Item) →
 flight_fits d flight items f = (all_parts Fits f.had items (reading_fits (f.stream ++ flight) (f.had ++ items) [] f.reads)).1
 
 -- a key
-holds_types : (s : Canon) (old new : World) (key : ℕ) → NoneFailed old → HasPast new → TypesKey old key new → IsRelated s old → IsRelated s new
-holds_types s old new key none sound t h =
-    let c = (h.past.client_course none.1).1 in
-    let k = client_steps.keys_done s c.history old.client new.client key old.to_server new.to_server c.leads h.client h.tied.agrees.askable none.1 t.goes
-    t.keeps t.sends in
+holds_types : (s : Canon) (old new : World) (key : ℕ) → HasPast new → TypesKey old key new → IsRelated s old → IsRelated s new
+holds_types s old new key sound t h =
     record {
-      tied = happens-tied s (picture old) (picture new) (ends.key key) (
-        client_picture new.client,
-        t.sends.said,
-        k,
-        ap picture t.rest ∙ ap (λ x. record (picture old) { typed = old.typed ++ key ∷ []; client = client_picture new.client; to_server = x })
-            t.sends.appended,
-      ) h.tied;
-      server = subst (λ (w : World). ServerStays s w.server) (sym t.rest) h.server;
-      client = client_steps.keys_stay s c.history old.client new.client key c.leads h.client t.goes;
+      tied = subst (λ w. IsTied s (picture w)) (sym t.step) (key-tied s (picture old) key h.client h.tied);
+      server = subst (λ (w : World). ServerStays s w.server) (sym t.step) h.server;
+      client = subst (λ (w : World). ClientStays s w.client) (sym t.step) (key_stays s old.client key h.client);
       past = sound;
     }
 
@@ -99,177 +95,130 @@ role_kept s w key past k =
     ap (λ (c : Characters). role_of_key (record { flags = now.flags; chars = c }) key) chars
     ∙ ap (λ (f : Flags). role_of_key (record { flags = f; chars = s.settings.chars }) key) k.flags
 
-holds_interrupts : (s : Canon) (old new : World) (sending : UserCommand) (key : ℕ) → NoneFailed old → HasPast new → SendsCommand old sending new
+holds_interrupts : (s : Canon) (old new : World) (sending : UserCommand) (key : ℕ) → HasPast new → SendsCommand old sending new
     → key_sent old sending ≡ Some key → role_of_key (canon_of old).settings key ≡ role.Signal Int
     → SaysItems s (machine.command command.Ip ∷ []) (Cmd (command_sent sending) ∷ []) → IsRelated s old → IsRelated s new
-holds_interrupts s old new sending key none sound t is interrupts writes h =
-    let c = (h.past.client_course none.1).1 in
+holds_interrupts s old new sending key sound t is interrupts writes h =
+    let said = Cmd (command_sent sending) ∷ [] in
     record {
-      tied = happens-tied s (picture old) (picture new) (ends.interrupt key) (
-        client_picture new.client,
-        t.sends.said,
-        record {
-          same = client_steps.sent_same c.history old.client new.client sending c.leads none.1 t.goes t.keeps;
-          interrupts = sym (role_kept s old key h.past h.server) ∙ interrupts;
-          writes = client_steps.sent_says s c.history old.client sending (machine.command command.Ip ∷ []) old.to_server new.to_server c.leads t.sends writes;
-        },
-        ap picture t.rest
-            ∙ ap (λ (k : Option ℕ). record (picture old) {
-              typed = old.typed ++ option_to_list k;
-              client = client_picture new.client;
-              to_server = new.to_server;
-            }) is
-            ∙ ap (λ x. record (picture old) { typed = old.typed ++ key ∷ []; client = client_picture new.client; to_server = x }) t.sends.appended,
-      ) h.tied;
-      server = subst (λ (w : World). ServerStays s w.server) (sym t.rest) h.server;
-      client = client_steps.sent_stays s c.history old.client new.client sending c.leads h.client t.goes;
+      tied =
+          subst (λ w. IsTied s (picture w)) (sym t.step)
+          (subst (λ (k : Option ℕ). IsTied s (record (picture old) { typed = old.typed ++ option_to_list k; to_server = old.to_server ++ spells said }))
+          (sym is) (interrupt-tied s (picture old) key said (sym (role_kept s old key h.past h.server) ∙ interrupts) writes h.tied));
+      server = subst (λ (w : World). ServerStays s w.server) (sym t.step) h.server;
+      client = subst (λ (w : World). ClientStays s w.client) (sym t.step) h.client;
       past = sound;
     }
 
 -- a command that is no input
-holds_asides : (s : Canon) (old new : World) (command : UserCommand) → NoneFailed old → HasPast new → SendsCommand old command new → key_sent old command ≡ None
-    → SaysItems s [] (Cmd (command_sent command) ∷ []) → IsRelated s old → IsRelated s new
-holds_asides s old new sending none sound t is writes h =
-    let c = (h.past.client_course none.1).1 in
+holds_asides : (s : Canon) (old new : World) (sending : UserCommand) → HasPast new → SendsCommand old sending new → key_sent old sending ≡ None
+    → SaysItems s [] (Cmd (command_sent sending) ∷ []) → IsRelated s old → IsRelated s new
+holds_asides s old new sending sound t is writes h =
+    let said = Cmd (command_sent sending) ∷ [] in
     record {
-      tied = happens-tied s (picture old) (picture new) ends.client_call (
-        client_picture new.client,
-        t.sends.said,
-        record {
-          same = client_steps.sent_same c.history old.client new.client sending c.leads none.1 t.goes t.keeps;
-          writes = client_steps.sent_says s c.history old.client sending [] old.to_server new.to_server c.leads t.sends writes;
-        },
-        ap picture t.rest
-            ∙ ap (λ (k : Option ℕ). record (picture old) {
-              typed = old.typed ++ option_to_list k;
-              client = client_picture new.client;
-              to_server = new.to_server;
-            }) is
-            ∙ ap (λ x. record (picture old) { typed = x; client = client_picture new.client; to_server = new.to_server }) (append-nil old.typed)
-            ∙ ap (λ x. record (picture old) { client = client_picture new.client; to_server = x }) t.sends.appended,
-      ) h.tied;
-      server = subst (λ (w : World). ServerStays s w.server) (sym t.rest) h.server;
-      client = client_steps.sent_stays s c.history old.client new.client sending c.leads h.client t.goes;
+      tied =
+          subst (λ w. IsTied s (picture w)) (sym t.step)
+          (subst (λ (k : Option ℕ). IsTied s (record (picture old) { typed = old.typed ++ option_to_list k; to_server = old.to_server ++ spells said }))
+          (sym is) (subst (λ (x : List ℕ). IsTied s (record (picture old) { typed = x; to_server = old.to_server ++ spells said })) (sym (append-nil old.typed))
+          (aside-tied s (picture old) said writes h.tied)));
+      server = subst (λ (w : World). ServerStays s w.server) (sym t.step) h.server;
+      client = subst (λ (w : World). ClientStays s w.client) (sym t.step) h.client;
       past = sound;
     }
 
-holds_sends : (s : Canon) (old new : World) (command : UserCommand) → NoneFailed old → HasPast new → IsQuietEvent old (Send command)
+holds_sends : (s : Canon) (old new : World) (command : UserCommand) → HasPast new → IsQuietEvent old (Send command)
     → SendsCommand old command new → IsRelated s old → IsRelated s new
-holds_sends s old new user.Brk none sound quiet t h =
+holds_sends s old new user.Brk sound quiet t h =
     let now = (canon_of old).settings in
-    holds_interrupts s old new user.Brk quiet.0 none sound t quiet.1 (interrupts_there now now.chars.intr quiet.0 quiet.1) (client_steps.brk-writes s) h
-holds_sends s old new user.Ip none sound quiet t h =
+    holds_interrupts s old new user.Brk quiet.0 sound t quiet.1 (interrupts_there now now.chars.intr quiet.0 quiet.1) (client_steps.brk-writes s) h
+holds_sends s old new user.Ip sound quiet t h =
     let now = (canon_of old).settings in
-    holds_interrupts s old new user.Ip quiet.0 none sound t quiet.1 (interrupts_there now now.chars.intr quiet.0 quiet.1) (client_steps.ip-writes s) h
-holds_sends s old new user.Ayt none sound quiet t h = holds_asides s old new user.Ayt none sound t refl (client_steps.ayt-writes s) h
-holds_sends s old new user.Nop none sound quiet t h = holds_asides s old new user.Nop none sound t refl (client_steps.nop-writes s) h
+    holds_interrupts s old new user.Ip quiet.0 sound t quiet.1 (interrupts_there now now.chars.intr quiet.0 quiet.1) (client_steps.ip-writes s) h
+holds_sends s old new user.Ayt sound quiet t h = holds_asides s old new user.Ayt sound t refl (client_steps.ayt-writes s) h
+holds_sends s old new user.Nop sound quiet t h = holds_asides s old new user.Nop sound t refl (client_steps.nop-writes s) h
 
 -- the window's size
-holds_resizes : (s : Canon) (old new : World) (width height : ℕ) → NoneFailed old → HasPast new → CallsClient old (client_calls.resized width height) new
+holds_resizes : (s : Canon) (old new : World) (width height : ℕ) → HasPast new → CallsClient old (client_calls.resized width height) new
     → IsRelated s old → IsRelated s new
-holds_resizes s old new width height none sound t h =
-    let c = (h.past.client_course none.1).1 in
+holds_resizes s old new width height sound t h =
     record {
-      tied = happens-tied s (picture old) (picture new) ends.client_call (
-        client_picture new.client,
-        t.sends.said,
-        client_steps.resized_done s c.history old.client new.client width height old.to_server new.to_server c.leads none.1 t.goes t.keeps t.sends,
-        ap picture t.rest ∙ ap (λ x. record (picture old) { client = client_picture new.client; to_server = x }) t.sends.appended,
-      ) h.tied;
-      server = subst (λ (w : World). ServerStays s w.server) (sym t.rest) h.server;
-      client = client_steps.resized_stays s c.history old.client new.client width height c.leads h.client t.goes;
+      tied = subst (λ w. IsTied s (picture w)) (sym t.step) (resize-tied s (picture old) width height h.tied);
+      server = subst (λ (w : World). ServerStays s w.server) (sym t.step) h.server;
+      client = subst (λ (w : World). ClientStays s w.client) (sym t.step)
+          (record { agreed = h.client.agreed; linemode = h.client.linemode; chars = h.client.chars; limit = h.client.limit });
       past = sound;
     }
+
+-- what a call of the server says
+replies_of : (s : Canon) (w : World) (e : server_calls.Event) → IsCall e → HasPast w → ServerStays s w.server → AreReplies s (says_there w.server e)
+replies_of s w e is past k = record { fit = asked_fit past.history w.server e past.server; calm = server_steps.calm_call s w.server e is k }
 
 -- a call of the server that makes no entry and takes none
 holds_asks : (s : Canon) (old new : World) (e : server_calls.Event) → KeepsEntries e → HasPast new → CallsServer old e new → IsRelated s old → IsRelated s new
 holds_asks s old new e plain sound t h =
+    let end = end_there old.server e in
+    let said = says_there old.server e in
     record {
-      tied = happens-tied s (picture old) (picture new) ends.server_call (
-        server_picture new.server,
-        t.goes.said,
-        record {
-          same = ap (λ d. record { decoder = d; core = server_core new.server }) t.keeps.decoder
-              ∙ ap (λ c. record { decoder = old.server.decoder; core = c })
-              (server_steps.says_core h.past.history old.server new.server e old.to_client new.to_client plain h.past.server t.goes t.keeps);
-          replies = server_steps.says_replies s h.past.history old.server new.server e old.to_client new.to_client
-              (calls e plain) h.past.server h.server t.goes;
-        },
-        ap picture t.rest ∙ ap (λ x. record (picture old) { server = server_picture new.server; to_client = x }) t.goes.appended,
-      ) h.tied;
-      server = server_steps.says_stays s h.past.history old.server new.server e old.to_client new.to_client (calls e plain) h.past.server h.server t.goes;
-      client = subst (λ (w : World). ClientStays s w.client) (sym t.rest) h.client;
+      tied =
+          subst (λ w. IsTied s (picture w)) (sym t.step)
+          (subst (λ v. IsTied s (record (picture old) { server = v; to_client = old.to_client ++ spells said }))
+          (sym (ap (λ d. record { decoder = d; core = server_core end }) (ap (λ (x : server.End). x.decoder) (call_keeps old.server e))
+          ∙ ap (λ c. record { decoder = old.server.decoder; core = c }) (server_steps.core_call old.server e plain)))
+          (says-tied s (picture old) said (replies_of s old e (calls e plain) h.past h.server) h.tied));
+      server = subst (λ (w : World). ServerStays s w.server) (sym t.step) (server_steps.stays_call s old.server e (calls e plain) h.server);
+      client = subst (λ (w : World). ClientStays s w.client) (sym t.step) h.client;
       past = sound;
     }
 
 -- an entry is asked for
 holds_takes : (s : Canon) (old new : World) → HasPast new → TakesEntry old new → IsRelated s old → IsRelated s new
 holds_takes s old new sound t h =
+    let said = says_there old.server server_calls.took in
+    let taken = old.taken ++ take 1 old.server.terminal.entries in
     record {
-      tied = happens-tied s (picture old) (picture new) ends.take_entry (
-        server_picture new.server,
-        t.goes.said,
-        option_to_list t.entry,
-        server_steps.took_core h.past.history old.server new.server old.to_client new.to_client t.entry h.past.server t.goes t.keeps
-            (t.is_first h.past.history h.past.server),
-        server_steps.says_replies s h.past.history old.server new.server server_calls.took old.to_client new.to_client tt h.past.server h.server t.goes,
-        ap picture t.rest ∙ ap (λ x. record (picture old) { taken = old.taken ++ option_to_list t.entry; server = server_picture new.server; to_client = x })
-            t.goes.appended,
-      ) h.tied;
-      server = server_steps.says_stays s h.past.history old.server new.server server_calls.took old.to_client new.to_client tt h.past.server h.server t.goes;
-      client = subst (λ (w : World). ClientStays s w.client) (sym t.rest) h.client;
+      tied =
+          subst (λ w. IsTied s (picture w)) (sym t)
+          (says-tied s (record (picture old) { taken = taken; server = server_picture (end_there old.server server_calls.took) }) said
+          (replies_of s old server_calls.took tt h.past h.server) (took-tied s (picture old) h.tied));
+      server = subst (λ (w : World). ServerStays s w.server) (sym t) (server_steps.stays_call s old.server server_calls.took tt h.server);
+      client = subst (λ (w : World). ClientStays s w.client) (sym t) h.client;
       past = sound;
     }
 
 -- a delivery to the server
 holds_reaches : (s : Canon) (old new : World) (n : ℕ) → NoneFailed old → HasPast new → DeliversToServer old n new → IsRelated s old → IsRelated s new
 holds_reaches s old new n none sound t h =
-    let gains = t.feeds.reads in
-    let d = cut_at old.server.decoder new.server.decoder n old.to_server h.tied.items t.feeds.items h.tied.flight gains in
-    let fit = (all_parts Fits t.feeds.items d.left (subst (λ l. All Fits l) d.all (flight_fits old.server.decoder old.to_server h.tied.items h.tied.flight))).0
-    in
-    let calm = (all_parts (IsCalmToServer s.settings) t.feeds.items d.left (subst (λ l. All (IsCalmToServer s.settings) l) d.all h.tied.calm)).0 in
+    let f = t.feeds in
+    let d = cut_at old.server.decoder new.server.decoder n old.to_server h.tied.items f.items h.tied.flight f.reads in
+    let fit = (all_parts Fits f.items d.left (subst (λ l. All Fits l) d.all (flight_fits old.server.decoder old.to_server h.tied.items h.tied.flight))).0 in
+    let calm = (all_parts (IsCalmToServer s.settings) f.items d.left (subst (λ l. All (IsCalmToServer s.settings) l) d.all h.tied.calm)).0 in
+    let later = server_steps.goes_on s old.server f.items h.server none.0 fit calm in
+    let said = says_all_there old.server f.items in
     record {
-      tied = happens-tied s (picture old) (picture new) (ends.to_server n) (
-        server_picture new.server,
-        t.feeds.said,
-        record {
-          got = t.feeds.items;
-          reads = gains;
-          core = server_steps.feeds_core s h.past.history old.server new.server
-              (take n old.to_server) old.to_client new.to_client h.past.server h.server none.0 t.feeds fit calm;
-          replies = server_steps.feeds_replies s h.past.history old.server new.server
-              (take n old.to_server) old.to_client new.to_client h.past.server h.server none.0 t.feeds fit calm;
-        },
-        ap picture t.rest ∙ ap (λ x. record (picture old) { server = server_picture new.server; to_server = drop n old.to_server; to_client = x })
-            t.feeds.appended,
-      ) h.tied;
-      server = server_steps.feeds_stays s h.past.history old.server new.server
-          (take n old.to_server) old.to_client new.to_client h.past.server h.server none.0 t.feeds fit calm;
+      tied =
+          subst (IsTied s) (sym (ap picture t.rest
+          ∙ ap (λ x. record (picture old) { server = server_picture new.server; to_server = drop n old.to_server; to_client = x }) f.said))
+          (server-tied s (picture old) n (server_picture new.server) said (record {
+            got = f.items;
+            reads = f.reads;
+            core = ap server_core f.step ∙ later.core;
+            replies = record { fit = feeds_fit h.past.history old.server f.items h.past.server; calm = later.calm };
+          }) h.tied);
+      server = server_steps.stays_fed s (end_all_there old.server f.items) new.server f.step later.stays;
       client = subst (λ (w : World). ClientStays s w.client) (sym t.rest) h.client;
       past = sound;
     }
 
 -- a delivery to the client
-holds_returns : (s : Canon) (old new : World) (n : ℕ) → NoneFailed old → HasPast new → DeliversToClient old n new → IsRelated s old → IsRelated s new
-holds_returns s old new n none sound t h =
-    let c = (h.past.client_course none.1).1 in
-    let gains = t.feeds.reads in
-    let d = cut_at old.client.decoder new.client.decoder n old.to_client h.tied.messages t.feeds.items h.tied.back gains in
-    let calm = (all_parts (IsCalmToClient s.settings) t.feeds.items d.left (subst (λ l. All (IsCalmToClient s.settings) l) d.all h.tied.calm_back)).0 in
-    let k = client_steps.feeds_done s c.history old.client new.client
-    (take n old.to_client) old.to_server new.to_server old.shown new.shown c.leads h.client none.1 t.feeds calm in
+holds_returns : (s : Canon) (old new : World) (n : ℕ) → HasPast new → DeliversToClient old n new → IsRelated s old → IsRelated s new
+holds_returns s old new n sound t h =
+    let f = t.feeds in
+    let k = client-tied s (picture old) n f.items new.client f.reads f.step h.client h.tied in
     record {
-      tied = happens-tied s (picture old) (picture new) (ends.to_client n) (
-        client_picture new.client,
-        t.feeds.said,
-        record { got = t.feeds.items; reads = gains; core = k.0; writes = k.1 },
-        ap picture t.rest ∙ ap (λ x. record (picture old) { client = client_picture new.client; to_client = drop n old.to_client; to_server = x })
-            t.feeds.appended,
-      ) h.tied;
+      tied = subst (IsTied s) (sym (ap picture t.rest
+          ∙ ap (λ x. record (picture old) { client = new.client; to_client = drop n old.to_client; to_server = x }) f.said)) k.1;
       server = subst (λ (w : World). ServerStays s w.server) (sym t.rest) h.server;
-      client = client_steps.feeds_stay s c.history old.client new.client
-          (take n old.to_client) old.to_server new.to_server old.shown new.shown c.leads h.client t.feeds calm;
+      client = k.0;
       past = sound;
     }
 
@@ -295,22 +244,22 @@ holds_stops s old new a b is sound h =
 -- an event that is done
 pub holds_does : (s : Canon) (old new : World) (e : Event) → NoneFailed old → HasPast new → IsQuietEvent old e → RunsEvent old e new → IsRelated s old
     → IsRelated s new
-holds_does s old new (Key key) none sound quiet d h = unless s old.client_stopped old new (TypesKey old key new) (holds_types s old new key none sound) d h
+holds_does s old new (Key key) none sound quiet d h = unless s old.client_stopped old new (TypesKey old key new) (holds_types s old new key sound) d h
 holds_does s old new (Send command) none sound quiet d h = unless s old.client_stopped old new (SendsCommand old command new)
-    (holds_sends s old new command none sound quiet) d h
+    (holds_sends s old new command sound quiet) d h
 holds_does s old new (ToServer n) none sound quiet d h = unless s old.server_stopped old new (DeliversToServer old n new)
     (holds_reaches s old new n none sound) d h
 holds_does s old new (ToClient n) none sound quiet d h = unless s old.client_stopped old new (DeliversToClient old n new)
-    (holds_returns s old new n none sound) d h
+    (holds_returns s old new n sound) d h
 holds_does s old new (Write bytes) none sound quiet d h = unless s old.server_stopped old new (CallsServer old (server_calls.wrote bytes) new)
     (holds_asks s old new (server_calls.wrote bytes) tt sound) d h
 holds_does s old new (Pull n) none sound quiet d h =
-    unless s old.server_stopped old new (Pulls old n new) (λ p. holds_asks s old new (server_calls.pulled p.count) tt sound p.asks) d h
+    unless s old.server_stopped old new (Pulls old n new) (holds_asks s old new (server_calls.pulled (min n (length old.server.terminal.queue))) tt sound) d h
 holds_does s old new Take none sound quiet d h = holds_takes s old new sound d h
 holds_does s old new (Wish editing) none sound quiet d h = unless s old.server_stopped old new (CallsServer old (server_calls.wished editing) new)
     (holds_asks s old new (server_calls.wished editing) tt sound) d h
 holds_does s old new (Resize width height) none sound quiet d h =
-    unless s old.client_stopped old new (CallsClient old (client_calls.resized width height) new) (holds_resizes s old new width height none sound) d h
+    unless s old.client_stopped old new (CallsClient old (client_calls.resized width height) new) (holds_resizes s old new width height sound) d h
 holds_does s old new (SetChar func value) none sound quiet d h = absurd (quiet)
 holds_does s old new (Propose func value) none sound quiet d h = absurd (quiet)
 holds_does s old new (Echo on) none sound quiet d h = unless s old.server_stopped old new (CallsServer old (server_calls.echo_set on) new)
@@ -332,24 +281,30 @@ unless_keeps true old new happens done is = as_before old new is
 unless_keeps false old new happens done is = done is
 
 asks_keeps : (old new : World) (e : server_calls.Event) → CallsServer old e new → FailsNone old new
-asks_keeps old new e t = (t.keeps.failed, ap (λ (w : World). w.client.failed) t.rest)
+asks_keeps old new e t = (
+  ap (λ (w : World). w.server.failed) t.step ∙ ap (λ (x : server.End). x.failed) (call_keeps old.server e),
+  ap (λ (w : World). w.client.failed) t.step,
+)
 
 tells_keeps : (old new : World) (e : client_calls.Event) → CallsClient old e new → FailsNone old new
-tells_keeps old new e t = (ap (λ (w : World). w.server.failed) t.rest, t.keeps.failed)
+tells_keeps old new e t = (ap (λ (w : World). w.server.failed) t.step, ap (λ (w : World). w.client.failed) t.step ∙ client_on.call_failed old.client e)
 
 pub does_keeps : (old new : World) (e : Event) → RunsEvent old e new → FailsNone old new
 does_keeps old new (Key key) d = unless_keeps old.client_stopped old new (TypesKey old key new)
-    (λ t. (ap (λ (w : World). w.server.failed) t.rest, t.keeps.failed)) d
+    (λ t. (ap (λ (w : World). w.server.failed) t.step, ap (λ (w : World). w.client.failed) t.step)) d
 does_keeps old new (Send command) d = unless_keeps old.client_stopped old new (SendsCommand old command new)
-    (λ t. (ap (λ (w : World). w.server.failed) t.rest, t.keeps.failed)) d
+    (λ t. (ap (λ (w : World). w.server.failed) t.step, ap (λ (w : World). w.client.failed) t.step)) d
 does_keeps old new (ToServer n) d = unless_keeps old.server_stopped old new (DeliversToServer old n new)
-    (λ t. (t.feeds.failed, ap (λ (w : World). w.client.failed) t.rest)) d
+    (λ t. (
+      ap (λ (x : server.End). x.failed) (t.feeds.step ∙ ap (λ (x : server.End). record x { decoder = new.server.decoder }) (items_keep old.server t.feeds.items)),
+      ap (λ (w : World). w.client.failed) t.rest,
+    )) d
 does_keeps old new (ToClient n) d = unless_keeps old.client_stopped old new (DeliversToClient old n new)
-    (λ t. (ap (λ (w : World). w.server.failed) t.rest, t.feeds.failed)) d
+    (λ t. (ap (λ (w : World). w.server.failed) t.rest, fed_failed old.client new.client _ _ _ _ _ t.feeds)) d
 does_keeps old new (Write bytes) d = unless_keeps old.server_stopped old new (CallsServer old (server_calls.wrote bytes) new)
     (asks_keeps old new (server_calls.wrote bytes)) d
-does_keeps old new (Pull n) d = unless_keeps old.server_stopped old new (Pulls old n new) (λ p. asks_keeps old new (server_calls.pulled p.count) p.asks) d
-does_keeps old new Take d = (d.keeps.failed, ap (λ (w : World). w.client.failed) d.rest)
+does_keeps old new (Pull n) d = unless_keeps old.server_stopped old new (Pulls old n new) (asks_keeps old new (server_calls.pulled (min n (length old.server.terminal.queue)))) d
+does_keeps old new Take d = (ap (λ (w : World). w.server.failed) d, ap (λ (w : World). w.client.failed) d)
 does_keeps old new (Wish editing) d = unless_keeps old.server_stopped old new (CallsServer old (server_calls.wished editing) new)
     (asks_keeps old new (server_calls.wished editing)) d
 does_keeps old new (Resize width height) d = unless_keeps old.client_stopped old new (CallsClient old (client_calls.resized width height) new)

@@ -5,22 +5,22 @@ use Rattle.tn_discipline.specs.declared.reads.Entry.{Entry}
 use Rattle.tn_discipline.specs.Canon.{Canon}
 use Rattle.tn_discipline.specs.declared.termios.Settings.{Settings}
 use Rattle.tn_linemode.specs.Modes.{Modes, edits, mode_of}
-use Rattle.tn_option.specs.Options.{is_yes, state_of}
+use Rattle.tn_option.specs.Options.{Options, agrees_to, is_yes, state_of}
 use Rattle.tn_option.specs.declared.q_method.Side.TheVariants.{Us, Them}
 use Rattle.tn_server.specs.Terms as terms
 use Rattle.tn_server.specs.Terms.{asked_mask_while, allows_local}
-use Rattle.tn_client.specs.Lines.{is_forward}
 use Rattle.tn_client.specs.Terms as client_terms
 use Rattle.tn_world.specs.Headline.{IsMark, AgreeOnLinemode}
 use Rattle.tn_world.specs.relation.Calm.{bits, IsCalmToServer, IsCalmToClient}
 use Rattle.tn_world.specs.Flight.{InFlight}
 use Rattle.tn_world.specs.relation.Machine.{IsAskable}
-use Rattle.tn_world.specs.relation.Pictures.{server_core, NeverEnds, IsOffOrOn}
+use Rattle.tn_world.specs.relation.Pictures.{server_core, NeverEnds, IsAllowed, IsOffOrOn}
 use Rattle.tn_world.specs.Worlds.{World}
 use Rattle.tn_world.proofs.Cut.{no_items}
+use Rattle.tn_world.proofs.Engines.{client_agrees}
 use Rattle.tn_world.proofs.Tied.{rest-agrees}
-use Rattle.tn_world.proofs.Wishes.{IsAllowed, wish_allowed}
-use Rattle.tn_world.specs.relation.Relation.{Agrees, IsRelated, server_at, picture}
+use Rattle.tn_world.proofs.Wishes.{wish_allowed, stays_at}
+use Rattle.tn_world.specs.relation.Relation.{Agrees, IsRelated, server_at}
 
 local_askable : (s : Settings) (isig allows : Bool) (wish : ℕ) → s.flags.isig ≡ isig → allows_local s.flags ≡ allows
     → (if allows then Some (if isig then 3 else 1) else None) ≡ Some wish → IsAskable s (bits (mode_of wish))
@@ -83,7 +83,7 @@ mark_off s w m off =
     ∙ sym (agreed_linemode w m.settled.agreed.linemode) ∙ off in
     ap edits (sym mask) ∙ ap (λ (l : Bool). edits (asked_mask_while l (terms.terms h).wish)) there
 
-core_is : (l k e f b : Bool) (half : List ℕ) (entries : List Entry) → l ≡ k → e ≡ f → half ≡ [] → entries ≡ [] → b ≡ false
+pub core_is : (l k e f b : Bool) (half : List ℕ) (entries : List Entry) → l ≡ k → e ≡ f → half ≡ [] → entries ≡ [] → b ≡ false
     → record { linemode = l; edit = e; half = half; waiting = entries; failed = b } ≡ server_at k f [] []
 core_is l k e f b half entries o p q r t =
     ap (λ x. record { linemode = x; edit = e; half = half; waiting = entries; failed = b }) o
@@ -92,23 +92,17 @@ core_is l k e f b half entries o p q r t =
     ∙ ap (λ x. record { linemode = k; edit = f; half = []; waiting = x; failed = b }) r
     ∙ ap (λ x. record { linemode = k; edit = f; half = []; waiting = []; failed = x }) t
 
-mark_agrees : (s : Canon) (w : World) → IsMark s w → Agrees s w.typed w.taken (server_core w.server) (picture w).client.core
+mark_agrees : (s : Canon) (w : World) → IsMark s w → Agrees s w.typed w.taken (server_core w.server) w.client
 mark_agrees s w m =
-    let c = (picture w).client.core in
+    let c = w.client in
     let settled = m.settled in
-    let l = client_terms.linemode w.client.options in
-    let v = server_at l (edits w.client.mode) [] [] in
+    let l = client_terms.linemode c.options in
     subst (λ x. Agrees s x w.taken (server_core w.server) c) (sym m.typed)
     (subst (λ x. Agrees s [] x (server_core w.server) c) (sym m.taken)
     (subst (λ x. Agrees s [] [] x c) (sym (core_is (terms.linemode w.server.terms.options) l (edits w.server.modes.current)
-    (edits w.client.mode) w.server.failed w.server.terminal.line.held w.server.terminal.entries (sym (agreed_linemode w settled.agreed.linemode))
+    (edits c.mode) w.server.failed w.server.terminal.line.held w.server.terminal.entries (sym (agreed_linemode w settled.agreed.linemode))
     (ap edits settled.agreed.mask.1) settled.empty.half settled.empty.waiting settled.idle.server_failed))
-    (subst (λ (x : List ℕ). Agrees s [] [] v (record c { held = x })) (sym settled.empty.held)
-    (subst (λ (x : ℕ). Agrees s [] [] v (record c { held = []; ahead = x })) (sym settled.empty.ahead)
-    (subst (λ (x : ℕ). Agrees s [] [] v (record c { held = []; ahead = 0; trapped = x })) (sym settled.empty.counts.0)
-    (subst (λ (x : ℕ). Agrees s [] [] v (record c { held = []; ahead = 0; trapped = 0; plain = x })) (sym settled.empty.counts.1)
-    (subst (λ (x : Bool). Agrees s [] [] v (record c { held = []; ahead = 0; trapped = 0; plain = 0; failed = x })) (sym settled.idle.client_failed)
-    (rest-agrees s l (bits w.client.mode) (is_forward w.client.forward) (mark_askable s w m) (mark_off s w m)))))))))
+    (rest-agrees s c (mark_askable s w m) (mark_off s w m) settled.empty.held settled.empty.ahead settled.empty.counts.0 settled.empty.counts.1)))
 
 pub mark_holds : (s : Canon) (w : World) → IsMark s w → IsRelated s w
 mark_holds s w m =
@@ -131,13 +125,11 @@ mark_holds s w m =
         calm_back = All-nil (IsCalmToClient s.settings);
         agrees = mark_agrees s w m;
       };
-      server = record {
-        linemode = server_never w m.settled.agreed.linemode;
-        chars = chars;
-        flags = subst (λ (x : Settings). w.server.terminal.settings.flags ≡ record (x.flags) { echo = w.server.terminal.settings.flags.echo }) is_settings refl;
-        limit = is_limit;
-      };
+      server = stays_at s m.past.history w.server stands (server_never w m.settled.agreed.linemode) (ap (λ (x : Settings). x.chars) is_settings)
+          (subst (λ (x : Settings). w.server.terminal.settings.flags ≡ record (x.flags) { echo = w.server.terminal.settings.flags.echo }) is_settings refl) is_limit;
       client = record {
+        agreed = let c = (m.past.client_course m.settled.idle.client_failed).1 in
+            subst (λ (o : Options). agrees_to o Us 34 ≡ true) (sym c.leads.options) (client_agrees c.history);
         linemode = client_never w m.settled.agreed.linemode;
         chars = sym m.settled.agreed.chars ∙ chars;
         limit = m.past.limit m.settled.idle.client_failed ∙ is_limit;

@@ -1,5 +1,5 @@
 -- Where the special characters are the standard ones, the relation of the ends holds of a world that was just opened.
-use Rattle.std.proofs.Common.{◌≡◌, inl, inr, ℕ, Bool, false, None, List, [], ◌∷◌, refl, sym, ap, ◌∙◌, subst, arith}
+use Rattle.std.proofs.Common.{◌≡◌, inl, inr, ℕ, false, List, [], ◌∷◌, refl, sym, ap, ◌∙◌, subst}
 use Rattle.std.specs.Prelude.{All}
 use Rattle.std.proofs.lemmas.List.Elements.{All-nil, All-cons}
 use Rattle.tn_discipline.specs.Canon.{Canon}
@@ -9,7 +9,7 @@ use Rattle.tn_codes.specs.declared.codes.Verb.TheVariants.{Will, DoIt}
 use Rattle.tn_nvt.specs.Feeding as nvt
 use Rattle.tn_nvt.specs.declared.items.Item.TheVariants.{Neg}
 use Rattle.tn_option.specs.QMethod.{cell}
-use Rattle.tn_option.specs.Options.{new_options, options_after_wish, state_of}
+use Rattle.tn_option.specs.Options.{Options, agrees_to, new_options, options_after_wish, state_of}
 use Rattle.tn_option.specs.declared.q_method.Side.TheVariants.{Us, Them}
 use Rattle.tn_server.specs.Calls as server
 use Rattle.tn_server.specs.Events as server_calls
@@ -18,20 +18,24 @@ use Rattle.tn_server.specs.Terms as server_terms
 use Rattle.tn_server.proofs.lemmas.Fitting.{sent-fit}
 use Rattle.tn_client.specs.Calls as client
 use Rattle.tn_client.specs.Events as client_calls
-use Rattle.tn_client.specs.Lines.{is_forward}
+use Rattle.tn_client.proofs.lemmas.Ends.{held_is}
+use Rattle.tn_discipline.specs.HalfLine.{HalfLine}
+use Rattle.tn_linemode.specs.Modes.{Modes, edits}
 use Rattle.tn_client.specs.Terms as client_terms
 use Rattle.tn_world.specs.Opened.{IsOpened}
 use Rattle.tn_world.specs.Past.{HasPast}
 use Rattle.tn_world.specs.Flight.{InFlight}
 use Rattle.tn_world.specs.Worlds.{World}
-use Rattle.tn_world.specs.relation.Calm.{IsCalmToServer, IsCalmToClient}
-use Rattle.tn_world.specs.relation.Machine.{Server, Client, remote_mode}
-use Rattle.tn_world.specs.relation.Pictures.{server_core, client_core, NeverEnds, IsOffOrOn}
-use Rattle.tn_world.specs.relation.Relation.{Agrees, IsRelated, server_at}
+use Rattle.tn_world.specs.relation.Calm.{bits, IsCalmToServer, IsCalmToClient}
+use Rattle.tn_world.specs.relation.Machine.{Server}
+use Rattle.tn_world.specs.relation.Pictures.{server_core, NeverEnds, IsFlagged, IsOffOrOn, ServerStays, ClientStays}
+use Rattle.tn_world.specs.relation.Relation.{Agrees, IsRelated}
 use Rattle.tn_world.proofs.Bodies.{open_sound}
-use Rattle.tn_world.proofs.ClientSteps as client_steps
+use Rattle.tn_world.proofs.Engines.{client_agrees}
 use Rattle.tn_world.proofs.Cut.{said_behind, start}
-use Rattle.tn_world.proofs.ServerSteps as server_steps
+use Rattle.tn_world.proofs.Marking.{core_is}
+use Rattle.tn_world.proofs.Wishes.{stays_at}
+use Rattle.tn_server.proofs.lemmas.Ends.{line_is, waits_are}
 use Rattle.tn_world.proofs.Tied.{rest-agrees}
 
 -- LINEMODE is asked for, and off at both
@@ -60,35 +64,34 @@ opening_calm s is =
     (All-cons P (Neg DoIt 3) (Neg Will 1 ∷ []) (inl refl)
     (All-cons P (Neg Will 1) [] (inl refl) (All-nil P)))))
 
-server_begun : (s : Canon) → server_steps.core_of (server_calls.begun s) false ≡ server_at false false [] []
-server_begun s = ap (λ (l : Bool). server_at l false [] []) off_there
-
-client_begun : (width height limit : ℕ) → client_steps.core_of (client_calls.begun width height limit)
-    ≡ record { linemode = false; mask = remote_mode; held = []; ahead = 0; forward = is_forward None; trapped = 0; plain = 0; failed = false }
-client_begun width height limit = ap (λ (l : Bool). record {
-  linemode = l;
-  mask = remote_mode;
-  held = [];
-  ahead = 0;
-  forward = is_forward None;
-  trapped = 0;
-  plain = 0;
-  failed = false;
-}) off_here
-
 -- what is so before anything came
-pub server_kept : (s : Canon) → server_steps.IsKept s (server_calls.begun s)
-server_kept s = record { on = asked_for; characters = refl; others = refl; line = refl; fits = omega arith }
+pub server_kept : (s : Canon) (end : server.End) → server.LeadsTo (server_calls.begun s) end → ServerStays s end
+server_kept s end begins =
+    stays_at s (server_calls.begun s) end begins (subst (λ (t : server_terms.Terms). NeverEnds (state_of t.options Them 34)) (sym begins.terms) asked_for)
+    (ap (λ (x : Settings). x.chars) begins.settings) (subst (λ (x : Settings). IsFlagged s x) (sym begins.settings) refl) begins.limit
 
-pub client_kept : (s : Canon) (width height : ℕ) → s.settings.chars ≡ standard_characters → client_steps.IsKept s (client_calls.begun width height s.limit)
-client_kept s width height standard = record { on = not_begun; characters = sym standard; limit = refl }
+pub client_kept : (s : Canon) (width height : ℕ) (c : client.End) → client.LeadsTo (client_calls.begun width height s.limit) c
+    → s.settings.chars ≡ standard_characters → ClientStays s c
+client_kept s width height c begins standard = record {
+  agreed = ap (λ (o : Options). agrees_to o Us 34) begins.options ∙ client_agrees (client_calls.begun width height s.limit);
+  linemode = subst (λ (o : Options). IsOffOrOn (state_of o Us 34)) (sym begins.options) not_begun;
+  chars = begins.table ∙ sym standard;
+  limit = begins.limit;
+}
 
-pub begun_agrees : (s : Canon) (width height : ℕ) → Agrees s [] [] (server_steps.core_of (server_calls.begun s) false)
-    (client_steps.core_of (client_calls.begun width height s.limit))
-begun_agrees s width height =
-    subst (λ (x : Server). Agrees s [] [] x (client_steps.core_of (client_calls.begun width height s.limit))) (sym (server_begun s))
-    (subst (λ (x : Client). Agrees s [] [] (server_at false false [] []) x) (sym (client_begun width height s.limit))
-    (rest-agrees s false remote_mode (is_forward None) (inl refl) (λ e. refl)))
+pub begun_agrees : (s : Canon) (width height : ℕ) (v : server.End) (c : client.End) → server.LeadsTo (server_calls.begun s) v → v.failed ≡ false
+    → client.LeadsTo (client_calls.begun width height s.limit) c → Agrees s [] [] (server_core v) c
+begun_agrees s width height v c stands works begins =
+    let h = client_calls.begun width height s.limit in
+    let start = server_calls.begun s in
+    let off : client_terms.linemode c.options ≡ false = ap client_terms.linemode begins.options ∙ off_here in
+    let raw : edits c.mode ≡ false = ap edits begins.mode in
+    let none : server_terms.linemode v.terms.options ≡ false = ap (λ (t : server_terms.Terms). server_terms.linemode t.options) stands.terms ∙ off_there in
+    subst (λ (x : Server). Agrees s [] [] x c)
+    (sym (core_is (server_terms.linemode v.terms.options) (client_terms.linemode c.options) (edits v.modes.current) (edits c.mode) v.failed
+    v.terminal.line.held v.terminal.entries (none ∙ sym off) (ap (λ (m : Modes). edits m.current) stands.modes ∙ sym raw)
+    (ap (λ (l : HalfLine). l.held) (line_is start v stands)) (sym (waits_are start v stands)) works))
+    (rest-agrees s c (inl (ap bits begins.mode)) (λ e. raw) (held_is h c begins) begins.ahead begins.trapped begins.plain)
 
 -- the ends of a world that was just opened
 pub record Fresh (s : Canon) (width height : ℕ) (w : World) : Type 0 where
@@ -113,16 +116,12 @@ opened_past s width height w o =
     let f = fresh s width height w o in
     open_sound s width height w f.there f.reads f.here f.hears (ap (λ (x : World). x.to_server) o.rest) (ap (λ (x : World). x.to_client) o.rest) o.takes_keys
 
-opened_agrees : (s : Canon) (width height : ℕ) (w : World) → IsOpened s width height w → Agrees s w.typed w.taken (server_core w.server) (client_core w.client)
+opened_agrees : (s : Canon) (width height : ℕ) (w : World) → IsOpened s width height w → Agrees s w.typed w.taken (server_core w.server) w.client
 opened_agrees s width height w o =
     let f = fresh s width height w o in
-    let v : server_core w.server ≡ server_steps.core_of (server_calls.begun s) false =
-    server_steps.core_at (server_calls.begun s) w.server f.there ∙ ap (server_steps.core_of (server_calls.begun s)) o.server_runs in
-    let c = client_steps.core_at (client_calls.begun width height s.limit) w.client f.here o.client_runs in
-    subst (λ x. Agrees s x w.taken (server_core w.server) (client_core w.client)) (sym (ap (λ (x : World). x.typed) o.rest))
-    (subst (λ x. Agrees s [] x (server_core w.server) (client_core w.client)) (sym (ap (λ (x : World). x.taken) o.rest))
-    (subst (λ (x : Server). Agrees s [] [] x (client_core w.client)) (sym v)
-    (subst (λ (x : Client). Agrees s [] [] (server_steps.core_of (server_calls.begun s) false) x) (sym c) (begun_agrees s width height))))
+    subst (λ x. Agrees s x w.taken (server_core w.server) w.client) (sym (ap (λ (x : World). x.typed) o.rest))
+    (subst (λ x. Agrees s [] x (server_core w.server) w.client) (sym (ap (λ (x : World). x.taken) o.rest))
+    (begun_agrees s width height w.server w.client f.there o.server_runs f.here))
 
 pub opened_holds : (s : Canon) (width height : ℕ) (w : World) → s.settings.chars ≡ standard_characters → IsOpened s width height w → IsRelated s w
 opened_holds s width height w standard o =
@@ -138,7 +137,7 @@ opened_holds s width height w standard o =
         calm_back = opening_calm s.settings standard;
         agrees = opened_agrees s width height w o;
       };
-      server = server_steps.stays_at s (server_calls.begun s) w.server f.there (server_kept s);
-      client = client_steps.stays_at s (client_calls.begun width height s.limit) w.client f.here (client_kept s width height standard);
+      server = server_kept s w.server f.there;
+      client = client_kept s width height w.client f.here standard;
       past = opened_past s width height w o;
     }

@@ -1,12 +1,12 @@
 -- What the relation says of entries: those that were made are the first of those that the keys give.
-use Rattle.std.proofs.Common.{◌≡◌, ℕ, Bool, true, false, List, [], ◌∷◌, ◌++◌, refl, sym, ap, ◌∙◌, if◌then◌else◌, append-nil, append_assoc}
+use Rattle.std.proofs.Common.{◌≡◌, ℕ, Bool, true, false, List, [], ◌∷◌, ◌++◌, take, drop, refl, sym, ap, ◌∙◌, if◌then◌else◌, append-nil, append_assoc}
 use Rattle.tn_discipline.specs.declared.reads.Entry.{Entry}
 use Rattle.tn_discipline.specs.Canon.{Canon, typed_entries}
 use Rattle.tn_discipline.specs.Steps.{gain_next}
-use Rattle.tn_world.specs.relation.Ends.{ServerEnd, TakesFirst}
-use Rattle.tn_world.specs.relation.Machine.{Item, Server, item_role, read, read_item, read_all, Client}
+use Rattle.tn_client.specs.Calls.{End}
+use Rattle.tn_world.specs.relation.Machine.{Item, Server, item_role, read, read_item, read_all}
 use Rattle.tn_streams.specs.Prefixes.{IsPrefixOf}
-use Rattle.tn_world.specs.relation.Relation.{Agrees, server_at}
+use Rattle.tn_world.specs.relation.Relation.{Agrees}
 
 -- prefixes
 pub prefix_trans : (xs ys zs : List Entry) → IsPrefixOf xs ys → IsPrefixOf ys zs → IsPrefixOf xs zs
@@ -41,7 +41,7 @@ read-fronted : (s : Canon) (x : Entry) (v : Server) (items : List Item) → read
 read-fronted s x v [] = refl
 read-fronted s x v (i ∷ items) = ap (λ u. read_all s u items) (fronted_by_test s x v i v.failed) ∙ read-fronted s x (read s v i) items
 
-pub agreed : (canon : Canon) (typed : List ℕ) (taken : List Entry) (v : Server) (c : Client) → Agrees canon typed taken v c
+pub agreed : (canon : Canon) (typed : List ℕ) (taken : List Entry) (v : Server) (c : End) → Agrees canon typed taken v c
     → taken ++ v.waiting ≡ typed_entries canon typed
 agreed canon typed taken v c a = ap (λ (x : Server). taken ++ x.waiting) a.is ∙ sym a.entries
 
@@ -51,31 +51,54 @@ pub popped : (s : Canon) (v : Server) (items : List Item) (x : Entry) (entries :
 popped s v items x entries is =
     ap (λ l. read_all s (record v { waiting = l }) items) is ∙ read-fronted s x (record v { waiting = entries }) items
 
--- whether one is taken or none waits, those taken and those that wait stay as they are side by side
-pub taken-waits : (s : Canon) (old new : ServerEnd) (taken entry : List Entry) (items : List Item) → TakesFirst old entry new
-    → (taken ++ entry) ++ (read_all s new.core items).waiting ≡ taken ++ (read_all s old.core items).waiting
-taken-waits s old new taken [] items h =
-    ap (λ (xs : List Entry). xs ++ (read_all s new.core items).waiting) (append-nil taken)
-    ∙ ap (λ (v : ServerEnd). taken ++ (read_all s v.core items).waiting) h.1
-taken-waits s old new taken (x ∷ none) items h =
-    let later = read_all s (record (old.core) { waiting = h.0 }) items in
-    ap (λ (v : ServerEnd). (taken ++ x ∷ none) ++ (read_all s v.core items).waiting) h.3
-    ∙ ap (λ (l : List Entry). (taken ++ x ∷ l) ++ later.waiting) h.2
-    ∙ append_assoc taken (x ∷ []) later.waiting
-    ∙ ap (λ (v : Server). taken ++ v.waiting) (sym (popped s old.core items x h.0 h.1))
+-- the first entry is taken, if one waits: those taken and those that wait stay the same entries
+abbrev pub without_first : Server → Server
+without_first v = record v { waiting = drop 1 v.waiting }
 
-pub take-agrees : (canon : Canon) (typed : List ℕ) (taken : List Entry) (v : Server) (c : Client) (items : List Item) (x : Entry) (entries : List Entry)
-    → v.waiting ≡ x ∷ entries → Agrees canon typed taken (read_all canon v items) c
-    → Agrees canon typed (taken ++ x ∷ []) (read_all canon (record v { waiting = entries }) items) c
-take-agrees canon typed taken v c items x entries is a =
-    let later = read_all canon (record v { waiting = entries }) items in
-    let front_is : fronted x later ≡ server_at c.linemode c.mask.edit a.half a.waiting = sym (popped canon v items x entries is) ∙ a.is in
+pub taken-waits : (s : Canon) (v : Server) (taken : List Entry) (items : List Item)
+    → (taken ++ take 1 v.waiting) ++ (read_all s (without_first v) items).waiting ≡ taken ++ (read_all s v items).waiting
+taken-waits s v taken items = go v.waiting refl
+  where
+    go : (es : List Entry) → v.waiting ≡ es → (taken ++ take 1 v.waiting) ++ (read_all s (without_first v) items).waiting
+        ≡ taken ++ (read_all s v items).waiting
+    go [] is =
+        let same : without_first v ≡ v = ap (λ (l : List Entry). record v { waiting = drop 1 l }) is ∙ ap (λ (l : List Entry). record v { waiting = l }) (sym is) in
+        ap (λ (l : List Entry). (taken ++ take 1 l) ++ (read_all s (without_first v) items).waiting) is
+        ∙ ap (λ (l : List Entry). l ++ (read_all s (without_first v) items).waiting) (append-nil taken)
+        ∙ ap (λ (u : Server). taken ++ (read_all s u items).waiting) same
+    go (x ∷ entries) is =
+        let later = read_all s (record v { waiting = entries }) items in
+        ap (λ (l : List Entry). (taken ++ take 1 l) ++ (read_all s (record v { waiting = drop 1 l }) items).waiting) is
+        ∙ append_assoc taken (x ∷ []) later.waiting
+        ∙ ap (λ (u : Server). taken ++ u.waiting) (sym (popped s v items x entries is))
+
+-- nothing else depends on those that wait
+one-others : (s : Canon) (v : Server) (entries : List Entry) (i : Item) (b : Bool)
+    → (if b then record v { waiting = entries } else read_item s (record v { waiting = entries }) i)
+    ≡ record (if b then v else read_item s v i)
+    { waiting = (if b then record v { waiting = entries } else read_item s (record v { waiting = entries }) i).waiting }
+one-others s v entries i true = refl
+one-others s v entries i false = refl
+
+read-others : (s : Canon) (v : Server) (entries : List Entry) (items : List Item) → read_all s (record v { waiting = entries }) items
+    ≡ record (read_all s v items) { waiting = (read_all s (record v { waiting = entries }) items).waiting }
+read-others s v entries [] = refl
+read-others s v entries (i ∷ items) =
+    let one = one-others s v entries i v.failed in
+    let later = (read s (record v { waiting = entries }) i).waiting in
+    ap (λ u. read_all s u items) one ∙ read-others s (read s v i) later items
+    ∙ ap (λ u. record (read_all s (read s v i) items) { waiting = (read_all s u items).waiting }) (sym one)
+
+pub take-agrees : (canon : Canon) (typed : List ℕ) (taken : List Entry) (v : Server) (c : End) (items : List Item)
+    → Agrees canon typed taken (read_all canon v items) c → Agrees canon typed (taken ++ take 1 v.waiting) (read_all canon (without_first v) items) c
+take-agrees canon typed taken v c items a =
+    let later = (read_all canon (without_first v) items).waiting in
     record {
       half = a.half;
-      waiting = later.waiting;
-      is = ap (λ (u : Server). record u { waiting = later.waiting }) front_is;
+      waiting = later;
+      is = read-others canon v (drop 1 v.waiting) items ∙ ap (λ (u : Server). record u { waiting = later }) a.is;
       off = a.off;
-      entries = a.entries ∙ ap (λ (u : Server). taken ++ u.waiting) (sym front_is) ∙ sym (append_assoc taken (x ∷ []) later.waiting);
+      entries = a.entries ∙ ap (λ (u : Server). taken ++ u.waiting) (sym a.is) ∙ sym (taken-waits canon v taken items);
       line = a.line;
       askable = a.askable;
       ahead = a.ahead;

@@ -1,6 +1,8 @@
 -- What the server makes of items.
 use Rattle.std.proofs.Common.{◌≡◌, ◌≤◌, ◌<◌, ℕ, zero, suc, ◌+◌, ◌==◌, Bool, true, false, List, [], ◌∷◌, ◌++◌, length, take, refl, sym, ap, ◌∙◌, if◌then◌else◌}
 use Rattle.std.proofs.Common.{arith, append-nil, append_assoc, length-append}
+use Rattle.std.specs.Prelude.{All}
+use Rattle.std.proofs.lemmas.List.Elements.{All-nil, All-cons, All-head, All-tail}
 use Rattle.tn_discipline.specs.declared.reads.Entry.{Entry}
 use Rattle.tn_discipline.specs.Canon.{Canon, typed_entries, typed_half}
 use Rattle.tn_discipline.specs.Limits.{max_counted}
@@ -15,6 +17,13 @@ use Rattle.tn_discipline.proofs.lemmas.Histories.{half-next, entries-next}
 use Rattle.tn_discipline.proofs.lemmas.KeyRoles.{roles_of-append, roles_of-one}
 use Rattle.tn_world.specs.relation.Machine.{Item, byte, Server, read, read_all, bytes}
 use Rattle.tn_world.specs.relation.Relation.{AreOrdinary, server_at}
+
+-- both parts
+pub all_parts : {X : Type 0} (P : X → Type 0) (xs ys : List X) → All P (xs ++ ys) → All P xs × All P ys
+all_parts P [] ys h = (All-nil P, h)
+all_parts P (x ∷ xs) ys h =
+    let rest = all_parts P xs ys (All-tail P x (xs ++ ys) h) in
+    (All-cons P x xs (All-head P x (xs ++ ys) h) rest.0, rest.1)
 
 pub read_all-append : (s : Canon) (v : Server) (xs ys : List Item) → read_all s v (xs ++ ys) ≡ read_all s (read_all s v xs) ys
 read_all-append s v [] ys = refl

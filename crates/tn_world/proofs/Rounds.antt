@@ -15,11 +15,15 @@ use Rattle.tn_nvt.specs.Spelling.{spells}
 use Rattle.tn_nvt.specs.declared.items.Item.{Item}
 use Rattle.tn_nvt.specs.declared.items.Item.TheVariants.{Sub}
 use Rattle.tn_linemode.specs.OptionWords.{words_in}
+use Rattle.tn_server.specs.Steps.{says_items as says_there}
+use Rattle.tn_server.proofs.lemmas.Leading.{stands_fed, says_all as says_all_there}
 use Rattle.tn_server.specs.Calls as server
 use Rattle.tn_server.specs.Replies as server_says
 use Rattle.tn_server.specs.Terms as server_terms
 use Rattle.tn_server.specs.declared.faults.ServerFault.TheVariants as server_faults
 use Rattle.tn_server.proofs.lemmas.Words.{pair}
+use Rattle.tn_client.specs.Steps.{says_items}
+use Rattle.tn_client.proofs.lemmas.Standings.{says_all, fed_failed}
 use Rattle.tn_client.specs.Events as client_calls
 use Rattle.tn_client.specs.Replies as client_says
 use Rattle.tn_world.specs.Flight.{InFlight}
@@ -30,7 +34,7 @@ use Rattle.tn_world.proofs.Cut.{said_behind, cut_at, no_items}
 use Rattle.tn_world.proofs.Hearing.{IsNoList, AsksNothing, HasRead, all_read, all_silent}
 use Rattle.tn_world.proofs.Quieting.{IsWaiting, all_heard, is_pending, none_pending, IsCalm, calms_down}
 use Rattle.tn_world.proofs.Saying.{answers_all}
-use Rattle.tn_world.proofs.Soundness.{call_goes_on, came_fit, sound_returns}
+use Rattle.tn_world.proofs.Soundness.{call_goes_on, items_fit, sound_returns}
 use Rattle.tn_world.proofs.Stages.{at_stage}
 
 server_goes_on : (end : server.End) → server.call_fault end ≡ None → end.failed ≡ false
@@ -60,7 +64,7 @@ module _ (w0 w1 w2 : World) (n m : ℕ) (s0 : HasPast w0) (back : DeliversToClie
   server_runs = server_goes_on w1.server there.accepted
 
   client_runs : w1.client.failed ≡ false
-  client_runs = back.feeds.failed ∙ call_goes_on w0.client back.accepted
+  client_runs = fed_failed w0.client w1.client _ _ _ _ _ back.feeds ∙ call_goes_on w0.client back.accepted
 
   none_back : w1.to_client ≡ []
   none_back = ap (λ (w : World). w.to_client) back.rest ∙ drop_all n w0.to_client all_back
@@ -92,7 +96,8 @@ module _ (w0 w1 w2 : World) (n m : ℕ) (s0 : HasPast w0) (back : DeliversToClie
 
   pub first_none : is_pending w2.server.terms.options ≡ false
   first_none =
-      ap (λ (t : server_terms.Terms). is_pending t.options) (there.feeds.leads s1.history s1.server).terms
+      ap (λ (t : server_terms.Terms). is_pending t.options)
+      (stands_fed s1.history w1.server w2.server (take m w1.to_server) w1.to_client w2.to_client there.feeds s1.server).terms
       ∙ none_pending _ has_read.waits refl
 
   pub first_empty : w2.to_server ≡ []
@@ -138,7 +143,7 @@ module _ (answered : (c s : Characters) (ts : List Triple) → server_answers s 
     client_ran = call_goes_on w2.client back.accepted
 
     last_client_runs : w3.client.failed ≡ false
-    last_client_runs = back.feeds.failed ∙ client_ran
+    last_client_runs = fed_failed w2.client w3.client _ _ _ _ _ back.feeds ∙ client_ran
 
     same : w3.server ≡ w2.server
     same = ap (λ (w : World). w.server) back.rest
@@ -157,25 +162,26 @@ module _ (answered : (c s : Characters) (ts : List Triple) → server_answers s 
         all_delivered w3.server.decoder w4.server.decoder m w3.to_server x.0 there.feeds.items all_there x.1 there.feeds.reads
 
     -- what is read are the client's answers
-    all_said : there.feeds.items ≡ back.feeds.said
+    all_said : there.feeds.items ≡ says_items w2.client back.feeds.items
     all_said =
         let at = (s2.client_course client_ran).1 in
         let z = s2.to_server (sym (ap (λ (e : server.End). e.failed) same) ∙ last_server_runs) in
         let f = back.feeds in
         let none : z.0 ≡ [] = no_items w2.server.decoder z.0 (subst (λ (x : List ℕ). InFlight w2.server.decoder x z.0) empty z.1) in
-        let flight : InFlight w2.server.decoder w3.to_server (z.0 ++ f.said) =
-        said_behind w2.server.decoder w2.to_server w3.to_server z.0 f.said f.appended
-        (came_fit at.history w2.client w3.client (take n w2.to_client) w2.to_server w3.to_server w2.shown w3.shown at.leads f) z.1 in
-        sym (all_delivered w3.server.decoder w4.server.decoder m w3.to_server (z.0 ++ f.said) there.feeds.items all_there
-        (subst (λ (e : server.End). InFlight e.decoder w3.to_server (z.0 ++ f.said)) (sym same) flight) there.feeds.reads)
-        ∙ ap (λ (x : List Item). x ++ f.said) none
+        let said = says_items w2.client f.items in
+        let flight : InFlight w2.server.decoder w3.to_server (z.0 ++ said) =
+        said_behind w2.server.decoder w2.to_server w3.to_server z.0 said f.said (items_fit at.history w2.client f.items at.leads) z.1 in
+        sym (all_delivered w3.server.decoder w4.server.decoder m w3.to_server (z.0 ++ said) there.feeds.items all_there
+        (subst (λ (e : server.End). InFlight e.decoder w3.to_server (z.0 ++ said)) (sym same) flight) there.feeds.reads)
+        ∙ ap (λ (x : List Item). x ++ said) none
 
     asks : All AsksNothing there.feeds.items
     asks =
         let at = (s2.client_course client_ran).1 in
         let a = all_answered back.feeds.items at.history in
-        let is : a.said ≡ back.feeds.said = append_cancel_left (client_says.items_said at.history) a.said back.feeds.said
-        (sym a.sends ∙ back.feeds.sends at.history at.leads) in
+        let said = says_items w2.client back.feeds.items in
+        let is : a.said ≡ said = append_cancel_left (client_says.items_said at.history) a.said said
+        (sym a.sends ∙ says_all at.history w2.client back.feeds.items at.leads) in
         subst (All AsksNothing) (is ∙ sym all_said) a.asks
 
     calm : IsCalm (engines w3 (s3.to_server last_server_runs).0 (s3.to_client last_client_runs).0)
@@ -192,11 +198,11 @@ module _ (answered : (c s : Characters) (ts : List Triple) → server_answers s 
         (subst (λ (y : List Item). IsCalm (pair w3.server.terms.options w3.client.options (words_in (s3.to_server last_server_runs).0) (words_in y))) last_quiet
         calm))
 
-    none_said : there.feeds.said ≡ []
+    none_said : says_there w3.server there.feeds.items ≡ []
     none_said =
         let h = s3.history in
-        append_cancel_left (server_says.items_said h) there.feeds.said []
-        (sym (there.feeds.sends h s3.server)
+        append_cancel_left (server_says.items_said h) (says_there w3.server there.feeds.items) []
+        (sym (says_all_there h w3.server there.feeds.items s3.server)
         ∙ all_silent there.feeds.items h w3.client.options [] (subst (All WishesNothing) last_all_got (s3.unwished last_server_runs last_client_runs)) asks
         calm_as
         ∙ sym (append-nil (server_says.items_said h)))
@@ -204,5 +210,6 @@ module _ (answered : (c s : Characters) (ts : List Triple) → server_answers s 
     pub second_empty : NothingInFlight w4
     second_empty = (
       ap (λ (w : World). w.to_server) there.rest ∙ drop_all m w3.to_server all_there,
-      there.feeds.appended ∙ ap (λ (x : List ℕ). x ++ spells there.feeds.said) last_none_back ∙ ap (λ (x : List Item). spells x) none_said,
+      there.feeds.said ∙ ap (λ (x : List ℕ). x ++ spells (says_there w3.server there.feeds.items)) last_none_back
+          ∙ ap (λ (x : List Item). spells x) none_said,
     )

@@ -32,21 +32,18 @@ use Rattle.tn_client.specs.Replies.{new_size_items, payload_answers, answer_item
 use Rattle.tn_client.specs.Terms.{options, mode, forward, chars, size, tells_size, payload_at, options_after, mode_at}
 use Rattle.tn_world.specs.Past.{IsNoWish, WishesNothing}
 
-small : (mask : ℕ) → mode_of mask < 4
+pub small : (mask : ℕ) → mode_of mask < 4
 small mask = omega (arith, and_mask mask 2)
 
-is-ack : (n : ℕ) → n < 4 → is_acknowledged (bit_or n 4) ≡ true
+pub is-ack : (n : ℕ) → n < 4 → is_acknowledged (bit_or n 4) ≡ true
 is-ack zero h = refl
 is-ack (suc zero) h = refl
 is-ack (suc (suc zero)) h = refl
 is-ack (suc (suc (suc zero))) h = refl
 is-ack (suc (suc (suc (suc n)))) h = absurd (omega arith)
 
--- WHATEVER HOLDS OF EACH KIND OF ITEM
-module _ (P : Item → Type 0) (byte : (b : ℕ) → P (Byte b)) (newline : P Newline) (command : (c : Command) → P (Cmd c)) (word : (v : Verb) (o : ℕ) → P (Neg v o))
-    (window : (w h : ℕ) → P (Sub 31 (parameters_of (payload.Naws w h)))) (ack : (n : ℕ) → n < 4 → P (Sub 34 (parameters_of (payload.Mode (bit_or n 4)))))
-    (yes : P (Sub 34 (parameters_of payload.ForwardYes))) (no : P (Sub 34 (parameters_of payload.ForwardNo)))
-    (list : (c : Characters) (ts : List Triple) → P (Sub 34 (parameters_of (payload.Slc (client_answers c ts))))) where
+-- WHATEVER HOLDS OF BYTES, NEW LINES AND COMMANDS holds of what a key makes the client say
+module _ (P : Item → Type 0) (byte : (b : ℕ) → P (Byte b)) (newline : P Newline) (command : (c : Command) → P (Cmd c)) where
   one_all : (item : Item) → P item → All P (item ∷ [])
   one_all item p = All-cons P item [] p (All-nil P)
 
@@ -61,9 +58,6 @@ module _ (P : Item → Type 0) (byte : (b : ℕ) → P (Byte b)) (newline : P Ne
   if_all : (b : Bool) (xs : List Item) → All P xs → All P (if b then xs else [])
   if_all true xs all = all
   if_all false xs all = All-nil P
-
-  size_all : (z : ℕ × ℕ) → All P (size_items z)
-  size_all (w, h) = one_all (Sub 31 (parameters_of (payload.Naws w h))) (window w h)
 
   edited_all : (r : Role) (l : HalfLine) → All P (edited_key_items r l)
   edited_all role.Nl l = All-append P (byte_items l.held) (Newline ∷ []) (bytes_all l.held) (one_all Newline newline)
@@ -91,29 +85,37 @@ module _ (P : Item → Type 0) (byte : (b : ℕ) → P (Byte b)) (newline : P Ne
   ahead_all true l = bytes_all l.held
   ahead_all false l = All-nil P
 
-  key_all : (edit : Bool) (forward : Option Mask) (r : Role) (l : HalfLine) (key : ℕ) → All P (key_items edit forward r l key)
+  pub key_all : (edit : Bool) (forward : Option Mask) (r : Role) (l : HalfLine) (key : ℕ) → All P (key_items edit forward r l key)
   key_all true forward r l key =
       let sends = sends_ahead forward l.limit (line_length l) r in
       All-append P (edited_key_items r l) (sent_ahead_items sends (line_after l r)) (edited_all r l) (ahead_all sends (line_after l r))
   key_all false forward r l key = raw_all r key
 
+-- WHATEVER HOLDS OF EACH KIND OF ITEM
+module _ (P : Item → Type 0) (byte : (b : ℕ) → P (Byte b)) (newline : P Newline) (command : (c : Command) → P (Cmd c)) (word : (v : Verb) (o : ℕ) → P (Neg v o))
+    (window : (w h : ℕ) → P (Sub 31 (parameters_of (payload.Naws w h)))) (ack : (n : ℕ) → n < 4 → P (Sub 34 (parameters_of (payload.Mode (bit_or n 4)))))
+    (yes : P (Sub 34 (parameters_of payload.ForwardYes))) (no : P (Sub 34 (parameters_of payload.ForwardNo)))
+    (list : (c : Characters) (ts : List Triple) → P (Sub 34 (parameters_of (payload.Slc (client_answers c ts))))) where
+  size_all : (z : ℕ × ℕ) → All P (size_items z)
+  size_all (w, h) = one_all P byte newline command (Sub 31 (parameters_of (payload.Naws w h))) (window w h)
+
   word_all : (w : Option (Verb × ℕ)) → All P (word_items w)
   word_all None = All-nil P
-  word_all (Some w) = one_all (Neg w.0 w.1) (word w.0 w.1)
+  word_all (Some w) = one_all P byte newline command (Neg w.0 w.1) (word w.0 w.1)
 
   mode_if : (b : Bool) (n : ℕ) → n < 4 → All P (mode_items (if b then None else Some (bit_or n 4)))
   mode_if true n fits = All-nil P
-  mode_if false n fits = one_all (Sub 34 (parameters_of (payload.Mode (bit_or n 4)))) (ack n fits)
+  mode_if false n fits = one_all P byte newline command (Sub 34 (parameters_of (payload.Mode (bit_or n 4)))) (ack n fits)
 
   listed : (xs : List Triple) → P (Sub 34 (parameters_of (payload.Slc xs))) → All P (list_items xs)
   listed [] p = All-nil P
-  listed (t ∷ ts) p = one_all (Sub 34 (parameters_of (payload.Slc (t ∷ ts)))) p
+  listed (t ∷ ts) p = one_all P byte newline command (Sub 34 (parameters_of (payload.Slc (t ∷ ts)))) p
 
   payload_all : (m : ℕ) (c : Characters) (p : Option Payload) → All P (payload_answers m c p)
   payload_all m c None = All-nil P
   payload_all m c (Some (payload.Mode mask)) = mode_if (is_acknowledged mask || mode_of mask == m) (mode_of mask) (small mask)
-  payload_all m c (Some (payload.ForwardOn mask)) = one_all (Sub 34 (parameters_of payload.ForwardYes)) yes
-  payload_all m c (Some payload.ForwardOff) = one_all (Sub 34 (parameters_of payload.ForwardNo)) no
+  payload_all m c (Some (payload.ForwardOn mask)) = one_all P byte newline command (Sub 34 (parameters_of payload.ForwardYes)) yes
+  payload_all m c (Some payload.ForwardOff) = one_all P byte newline command (Sub 34 (parameters_of payload.ForwardNo)) no
   payload_all m c (Some (payload.Slc triples)) = listed (client_answers c triples) (list c triples)
   payload_all m c (Some payload.ForwardYes) = All-nil P
   payload_all m c (Some payload.ForwardNo) = All-nil P
@@ -122,14 +124,14 @@ module _ (P : Item → Type 0) (byte : (b : ℕ) → P (Byte b)) (newline : P Ne
   answer_all : (o : Options) (m : ℕ) (c : Characters) (z : ℕ × ℕ) (item : Item) → All P (answer_items o m c z item)
   answer_all o m c z (Neg verb option) =
       All-append P (word_items (reply_to o verb option)) (new_size_items (tells_size o) (tells_size (options_after o (Neg verb option))) z)
-      (word_all (reply_to o verb option)) (if_all (tells_size (options_after o (Neg verb option)) && not (tells_size o)) (size_items z) (size_all z))
+      (word_all (reply_to o verb option)) (if_all P byte newline command (tells_size (options_after o (Neg verb option)) && not (tells_size o)) (size_items z) (size_all z))
   answer_all o m c z (Sub option params) = payload_all m c (payload_at o (Sub option params))
   answer_all o m c z (Byte b) = All-nil P
   answer_all o m c z Newline = All-nil P
   answer_all o m c z (Cmd command) = All-nil P
 
   ending_all : (before after : Bool) (bytes : List ℕ) → All P (end_of_edit_items before after bytes)
-  ending_all true false bytes = bytes_all bytes
+  ending_all true false bytes = bytes_all P byte newline command bytes
   ending_all true true bytes = All-nil P
   ending_all false after bytes = All-nil P
 
@@ -140,12 +142,12 @@ module _ (P : Item → Type 0) (byte : (b : ℕ) → P (Byte b)) (newline : P Ne
       (ending_all (edits (mode h)) (edits (mode_at (options h) (mode h) item)) (line h).held) (answer_all (options h) (mode h) (chars h) (size h) item)
 
   replies_all : (h : History) (e : Event) → ((f : Func) (v : Option ℕ) → P (Sub 34 (parameters_of (payload.Slc (triple_of f v ∷ []))))) → All P (replies h e)
-  replies_all h (typed key) p = key_all (edits (mode h)) (forward h) (role_at h key) (line h) key
+  replies_all h (typed key) p = key_all P byte newline command (edits (mode h)) (forward h) (role_at h key) (line h) key
   replies_all h (got item) p = answers_all h item
-  replies_all h (resized width height) p = if_all (tells_size (options h) && not (is_same_size (size h) (width, height))) (size_items (width, height))
+  replies_all h (resized width height) p = if_all P byte newline command (tells_size (options h) && not (is_same_size (size h) (width, height))) (size_items (width, height))
       (size_all (width, height))
-  replies_all h (proposed func value) p = one_all (Sub 34 (parameters_of (payload.Slc (triple_of func value ∷ [])))) (p func value)
-  replies_all h (sent c) p = one_all (Cmd (command_sent c)) (command (command_sent c))
+  replies_all h (proposed func value) p = one_all P byte newline command (Sub 34 (parameters_of (payload.Slc (triple_of func value ∷ [])))) (p func value)
+  replies_all h (sent c) p = one_all P byte newline command (Cmd (command_sent c)) (command (command_sent c))
 
 -- NO WISH
 pub list_no_wish : (ts : List Triple) → WishesNothing (Sub 34 (parameters_of (payload.Slc ts)))

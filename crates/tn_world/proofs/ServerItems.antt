@@ -2,7 +2,6 @@
 use Rattle.std.proofs.Common.{◌≡◌, ℕ, ◌+◌, nat_le, Bool, true, false, not, ◌&&◌, Option, Some, None, Result, Ok, Err, List, [], ◌∷◌, ◌++◌, length, take, refl}
 use Rattle.std.proofs.Common.{sym, ap, ◌∙◌, if◌then◌else◌, append-nil, append_assoc}
 use Rattle.std.proofs.lemmas.Grind.{flat_map-append}
-use Rattle.std.proofs.lemmas.List.{append_cancel_left}
 use Rattle.tn_codes.specs.declared.codes.Command.TheVariants.{Ga}
 use Rattle.tn_codes.specs.declared.codes.Func.{Func}
 use Rattle.tn_codes.specs.declared.codes.Verb.{Verb}
@@ -14,25 +13,27 @@ use Rattle.tn_discipline.specs.Characters.{Characters, slot}
 use Rattle.tn_discipline.specs.declared.echo.Symbol.{Symbol}
 use Rattle.tn_discipline.specs.declared.termios.Flags.{Flags}
 use Rattle.tn_linemode.specs.Exchange.{announcement, server_answers, server_is_asked, is_same_value}
-use Rattle.tn_linemode.specs.Modes.{edits}
+use Rattle.tn_linemode.specs.Modes.{edits, wish_of_mask}
 use Rattle.tn_linemode.specs.Triples.{triple_of}
+use Rattle.tn_linemode.specs.Words.{word_items, payload_items, list_items, mode_items}
 use Rattle.tn_nvt.specs.declared.items.Item.{Item}
 use Rattle.tn_nvt.specs.declared.items.Item.TheVariants.{Byte, Newline, Cmd, Neg, Sub}
 use Rattle.tn_option.specs.Options.{Options, reply_to, answer_to}
 use Rattle.tn_option.specs.declared.q_method.AskFault.{AskFault}
 use Rattle.tn_option.specs.declared.q_method.Side.TheVariants.{Us}
 use Rattle.tn_pty.specs.Terminal.{queue_symbols, output_symbols, fitting_count}
-use Rattle.tn_server.specs.Events.{Event, History, next, got, took, wrote, pulled, wished, char_set, echo_set, mask_set, gets}
-use Rattle.tn_server.specs.Terms.{Terms, terms, options, flags, chars, settings, mode, linemode, echoes, payload_at, options_after, wish_at, is_echo_set}
-use Rattle.tn_server.specs.Terms.{wish_after, mask_told, asks_echo, asked_mask_of, wants_echo, chars_after}
-use Rattle.tn_server.specs.Lines.{line}
-use Rattle.tn_server.specs.Screen.{queue, shows, sends_ga, none_waits, due}
-use Rattle.tn_server.specs.Replies.{asked_word_items, reply_items, opening, table_items, new_table_items, echo_items, items_by, items_at, list_replies}
-use Rattle.tn_server.specs.Replies.{triple_items, forward_payload, replies, items_said}
-use Rattle.tn_linemode.specs.Words.{word_items, payload_items, list_items, mode_items}
-use Rattle.tn_server.specs.Calls.{End, LeadsTo, Advances, Feeds, StopsWithin, first_replies}
+use Rattle.tn_pty.specs.Typing.{command_shows}
+use Rattle.tn_server.specs.Answering.{StopsWithin, first_said}
+use Rattle.tn_server.specs.Calls.{End}
+use Rattle.tn_server.specs.Events.{Event, got, took, wrote, pulled, wished, char_set, echo_set, mask_set}
+use Rattle.tn_server.specs.Replies.{asked_word_items, opening, table_items, echo_items, triple_items, forward_payload}
+use Rattle.tn_server.specs.Screen.{byte_shows}
+use Rattle.tn_server.specs.Steps.{masks_by, told_now, is_due, negotiation_items, negotiation_heard, negotiation_wishing, end_after_wish}
+use Rattle.tn_server.specs.Steps.{says_wished, mask_wished, end_after_mode_by, says_mode_by, end_after_payload, says_sub, says_item, end_after_item, owes_ga}
+use Rattle.tn_server.specs.Steps.{flags_with_echo, end_after, says, end_after_items, says_items}
+use Rattle.tn_server.specs.Terms.{linemode, echoes, payload_at, mask_for, chars_after, wants_echo}
 use Rattle.tn_server.specs.declared.faults.ServerFault.{ServerFault}
-use Rattle.tn_server.specs.declared.wishes.Editing.{Editing}
+use Rattle.tn_server.specs.declared.terms.Negotiation.{Negotiation}
 use Rattle.tn_client.specs.Screen.{item_shown}
 use Rattle.tn_world.specs.Output.{text_of}
 
@@ -68,39 +69,36 @@ echo_none : (due wanted : Bool) (o : Options) → text_of (echo_items due wanted
 echo_none true wanted o = asked_none (answer_to o Us 1 wanted)
 echo_none false wanted o = refl
 
-settled_none : (f : Flags) (c : Characters) (t : Terms) (o : Options) (ed : Option Editing) (set : Bool) → text_of (items_by f c t o ed set) ≡ []
-settled_none f c t o ed set =
-    let wish = wish_after f t.wish ed in
-    let told = mask_told t o wish in
-    let echo = echo_items (asks_echo t.options o told set) (wants_echo (asked_mask_of o wish) f) o in
-    both_none (new_table_items (linemode t.options) (linemode o) c) (mode_items told ++ echo) (table_none (linemode o && not (linemode t.options)) c)
-    (both_none (mode_items told) echo (mode_none told) (echo_none (asks_echo t.options o told set) (wants_echo (asked_mask_of o wish) f) o))
+negotiated_none : (was set : Bool) (f : Flags) (c : Characters) (n : Negotiation) → text_of (negotiation_items was set f c n) ≡ []
+negotiated_none was set f c n =
+    let echo = echo_items (is_due was set n) (wants_echo (masks_by was n).asked f) n.options in
+    both_none (table_items (linemode n.options && not was) c) (mode_items (told_now was n) ++ echo) (table_none (linemode n.options && not was) c)
+    (both_none (mode_items (told_now was n)) echo (mode_none (told_now was n)) (echo_none (is_due was set n) (wants_echo (masks_by was n).asked f) n.options))
 
-back_none : (o : Options) (e : Event) → text_of (reply_items o e) ≡ []
-back_none o (got (Neg verb option)) = word_none (reply_to o verb option)
-back_none o (got (Byte b)) = refl
-back_none o (got Newline) = refl
-back_none o (got (Cmd command)) = refl
-back_none o (got (Sub option params)) = refl
-back_none o took = refl
-back_none o (wrote bytes) = refl
-back_none o (pulled n) = refl
-back_none o (wished editing) = refl
-back_none o (char_set func value) = refl
-back_none o (echo_set on) = refl
-back_none o (mask_set mask) = refl
+wished_none : (old : End) (mask : Option ℕ) → text_of (says_wished old mask) ≡ []
+wished_none old None = refl
+wished_none old (Some mask) = negotiated_none (linemode old.terms.options) false old.terminal.settings.flags old.table (negotiation_wishing old mask)
 
-says_none : (f : Flags) (c : Characters) (t : Terms) (e : Event) → text_of (items_at f c t e) ≡ []
-says_none f c t e =
-    both_none (reply_items t.options e) (items_by f c t (options_after t.options e) (wish_at t.options e) (is_echo_set e)) (back_none t.options e)
-    (settled_none f c t (options_after t.options e) (wish_at t.options e) (is_echo_set e))
+mode_got_none : (old : End) (wish : Option Bool) → text_of (says_mode_by old wish) ≡ []
+mode_got_none old None = refl
+mode_got_none old (Some edit) = wished_none old (mask_wished old edit)
 
-list_none : (c : Characters) (p : Option Payload) → text_of (list_replies c p) ≡ []
-list_none c None = refl
-list_none c (Some (payload.Slc triples)) =
-    both_none (list_items (server_answers c triples)) (table_items (server_is_asked triples) (chars_after c (Some (payload.Slc triples))))
-    (listed_none (server_answers c triples)) (table_none (server_is_asked triples) (chars_after c (Some (payload.Slc triples))))
-list_none c (Some p) = refl
+sub_none : (old : End) (p : Option Payload) → text_of (says_sub old p) ≡ []
+sub_none old None = refl
+sub_none old (Some (payload.Mode mask)) = mode_got_none old (wish_of_mask mask)
+sub_none old (Some (payload.Slc triples)) =
+    both_none (list_items (server_answers old.table triples)) (table_items (server_is_asked triples) (chars_after old.table (Some (payload.Slc triples))))
+    (listed_none (server_answers old.table triples)) (table_none (server_is_asked triples) (chars_after old.table (Some (payload.Slc triples))))
+sub_none old (Some p) = refl
+
+item_none : (old : End) (item : Item) → text_of (says_item old item) ≡ []
+item_none old (Byte byte) = refl
+item_none old Newline = refl
+item_none old (Cmd command) = refl
+item_none old (Neg verb option) =
+    both_none (word_items (reply_to old.terms.options verb option)) _ (word_none (reply_to old.terms.options verb option))
+    (negotiated_none (linemode old.terms.options) false old.terminal.settings.flags old.table (negotiation_heard old verb option))
+item_none old (Sub option params) = sub_none old (payload_at old.terms.options (Sub option params))
 
 triple_none : (told : Bool) (func : Func) (value : Option ℕ) → text_of (triple_items told func value) ≡ []
 triple_none true func value = listed_none (triple_of func value ∷ [])
@@ -114,38 +112,23 @@ mask_none : (mask : Option Mask) → text_of (payload_items (forward_payload mas
 mask_none (Some mask) = refl
 mask_none None = refl
 
-pub replies_none : (h : History) (e : Event) → IsUnpulled e → text_of (replies h e) ≡ []
-replies_none h (got item) is =
-    both_none (items_at (flags h) (chars h) (terms h) (got item)) (list_replies (chars h) (payload_at (options h) item))
-    (says_none (flags h) (chars h) (terms h) (got item)) (list_none (chars h) (payload_at (options h) item))
-replies_none h took is = ga_none (sends_ga (none_waits h) (options h) (due h))
-replies_none h (wrote bytes) is = refl
-replies_none h (pulled n) is = absurd is
-replies_none h (wished editing) is = says_none (flags h) (chars h) (terms h) (wished editing)
-replies_none h (char_set func value) is = triple_none (linemode (options h) && not (is_same_value (slot (chars h) func) value)) func value
-replies_none h (echo_set on) is = says_none (flags (next h (echo_set on))) (chars h) (terms h) (echo_set on)
-replies_none h (mask_set mask) is = mask_none mask
+pub says_none : (old : End) (e : Event) → IsUnpulled e → text_of (says old e) ≡ []
+says_none old (got item) is = item_none old item
+says_none old took is = ga_none (owes_ga old old.terminal.entries)
+says_none old (wrote bytes) is = refl
+says_none old (pulled n) is = absurd is
+says_none old (wished editing) is = wished_none old (mask_for old.terminal.settings.flags editing)
+says_none old (char_set func value) is = triple_none (linemode old.terms.options && not (is_same_value (slot old.table func) value)) func value
+says_none old (echo_set on) is = echo_none true (wants_echo old.modes.asked (flags_with_echo old on)) old.terms.options
+says_none old (mask_set mask) is = mask_none mask
 
 pub opening_none : text_of opening ≡ []
 opening_none = refl
 
 -- items that came, one after another
-gets_none : (h : History) (items : List Item) → (said : List Item) × (items_said (gets h items) ≡ items_said h ++ said) × (text_of said ≡ [])
-gets_none h [] = ([], sym (append-nil (items_said h)), refl)
-gets_none h (item ∷ items) =
-    let later = gets_none (next h (got item)) items in (
-      replies h (got item) ++ later.0,
-      later.1 ∙ append_assoc (items_said h) (replies h (got item)) later.0,
-      both_none (replies h (got item)) later.0 (replies_none h (got item) tt) later.2,
-    )
-
-said_none : (h : History) (items said : List Item) → items_said (gets h items) ≡ items_said h ++ said → text_of said ≡ []
-said_none h items said is =
-    let all = gets_none h items in
-    ap text_of (append_cancel_left (items_said h) said all.0 (sym is ∙ all.1)) ∙ all.2
-
-pub feeds_none : (h : History) (old new : End) (piece before after : List ℕ) → LeadsTo h old → (f : Feeds old piece before after new) → text_of f.said ≡ []
-feeds_none h old new piece before after s f = said_none h f.items f.said (f.sends h s)
+pub items_none : (old : End) (items : List Item) → text_of (says_items old items) ≡ []
+items_none old [] = refl
+items_none old (item ∷ items) = both_none (says_item old item) (says_items (end_after_item old item) items) (item_none old item) (items_none (end_after_item old item) items)
 
 -- a prefix of what shows nothing
 front_none : (part rest : List Item) → text_of (part ++ rest) ≡ [] → text_of part ≡ []
@@ -155,59 +138,68 @@ front_none part rest none = empty (text_of part) (text_of rest) (sym (flat_map-a
     empty [] ys e = refl
     empty (x ∷ xs) ys e = absurd (cc)
 
-first_none : (h : History) (left : List Item) → text_of (first_replies h left) ≡ []
-first_none h [] = refl
-first_none h (item ∷ left) = replies_none h (got item) tt
+first_none : (end : End) (left : List Item) → text_of (first_said end left) ≡ []
+first_none end [] = refl
+first_none end (item ∷ left) = item_none end item
 
-pub halts_none : (h : History) (old new : End) (piece before after : List ℕ) (fault : ServerFault) → LeadsTo h old
-    → (x : StopsWithin old piece fault before after new) → text_of (x.said ++ x.part) ≡ []
-halts_none h old new piece before after fault s x =
-    let b = x.begins h s in
-    both_none x.said x.part (said_none h x.done x.said (x.sends h s))
-    (front_none x.part b.0 (ap text_of (sym b.1) ∙ first_none (gets h x.done) x.left))
+pub halts_none : (old new : End) (piece before after : List ℕ) (fault : ServerFault) → (x : StopsWithin old piece fault before after new)
+    → text_of (says_items old x.done ++ x.part) ≡ []
+halts_none old new piece before after fault x =
+    both_none (says_items old x.done) x.part (items_none old x.done)
+    (front_none x.part x.rest (ap text_of (sym x.begins) ∙ first_none (end_after_items old x.done) x.left))
 
 -- WHAT WAITS TO BE PULLED only grows, but for what is pulled
 fitted_more : (b : Bool) (q symbols : List Symbol) → (more : List Symbol) × ((if b then q ++ symbols else q) ≡ q ++ more)
 fitted_more true q symbols = (symbols, refl)
 fitted_more false q symbols = ([], sym (append-nil q))
 
-pub queue_grows : (h : History) (e : Event) → IsUnpulled e → (more : List Symbol) × (queue (next h e) ≡ queue h ++ more)
-queue_grows h (got item) is =
-    let symbols = shows (settings h) (edits (mode h)) (echoes (options h)) (line h) item in
-    fitted_more (nat_le (length (queue h) + length symbols) queue_symbols) (queue h) symbols
-queue_grows h took is = ([], sym (append-nil (queue h)))
-queue_grows h (wrote bytes) is = (output_symbols (settings h).flags (take (fitting_count (queue h) bytes) bytes), refl)
-queue_grows h (pulled n) is = absurd is
-queue_grows h (wished ed) is = ([], sym (append-nil (queue h)))
-queue_grows h (char_set func value) is = ([], sym (append-nil (queue h)))
-queue_grows h (echo_set on) is = ([], sym (append-nil (queue h)))
-queue_grows h (mask_set mask) is = ([], sym (append-nil (queue h)))
+wished_queue : (old : End) (mask : Option ℕ) → (end_after_wish old mask).terminal.queue ≡ old.terminal.queue
+wished_queue old None = refl
+wished_queue old (Some mask) = refl
 
-gets_grow : (h : History) (items : List Item) → (more : List Symbol) × (queue (gets h items) ≡ queue h ++ more)
-gets_grow h [] = ([], sym (append-nil (queue h)))
-gets_grow h (item ∷ items) =
-    let first = queue_grows h (got item) tt in
-    let later = gets_grow (next h (got item)) items in
-    (first.0 ++ later.0, later.1 ∙ ap (λ (q : List Symbol). q ++ later.0) first.1 ∙ append_assoc (queue h) first.0 later.0)
+mode_queue : (old : End) (mask : ℕ) (wish : Option Bool) → (end_after_mode_by old mask wish).terminal.queue ≡ old.terminal.queue
+mode_queue old mask None = refl
+mode_queue old mask (Some edit) = wished_queue old (mask_wished old edit)
 
-pub feeds_queue : (h : History) (old new : End) (piece before after : List ℕ) → LeadsTo h old → Feeds old piece before after new → (more : List Symbol)
-    × (new.terminal.queue ≡ old.terminal.queue ++ more)
-feeds_queue h old new piece before after s f =
-    let later = gets_grow h f.items in
-    let stands = f.leads h s in
-    (later.0, stands.queue ∙ later.1 ∙ ap (λ (q : List Symbol). q ++ later.0) (sym s.queue))
+sub_queue : (old : End) (p : Option Payload) → (end_after_payload old p).terminal.queue ≡ old.terminal.queue
+sub_queue old None = refl
+sub_queue old (Some (payload.Mode mask)) = mode_queue old mask (wish_of_mask mask)
+sub_queue old (Some (payload.Naws width height)) = refl
+sub_queue old (Some (payload.Slc triples)) = refl
+sub_queue old (Some p) = refl
 
--- the same for a call
-pub goes_queue : (h : History) (old new : End) (e : Event) (before after : List ℕ) → IsUnpulled e → LeadsTo h old → Advances old e before after new
-    → (more : List Symbol) × (new.terminal.queue ≡ old.terminal.queue ++ more)
-goes_queue h old new e before after is s g =
-    let later = queue_grows h e is in
-    let stands = g.leads h s in
-    (later.0, stands.queue ∙ later.1 ∙ ap (λ (q : List Symbol). q ++ later.0) (sym s.queue))
+-- nothing may join it too
+as_it_was : (old new : List Symbol) → new ≡ old → (more : List Symbol) × (new ≡ old ++ more)
+as_it_was old new is = ([], is ∙ sym (append-nil old))
 
-pub halts_queue : (h : History) (old new : End) (piece before after : List ℕ) (fault : ServerFault) → LeadsTo h old
-    → StopsWithin old piece fault before after new → (more : List Symbol) × (new.terminal.queue ≡ old.terminal.queue ++ more)
-halts_queue h old new piece before after fault s x =
-    let later = gets_grow h x.done in
-    let stands = x.leads h s in
-    (later.0, stands.queue ∙ later.1 ∙ ap (λ (q : List Symbol). q ++ later.0) (sym s.queue))
+item_grows : (old : End) (item : Item) → (more : List Symbol) × ((end_after_item old item).terminal.queue ≡ old.terminal.queue ++ more)
+item_grows old (Byte byte) =
+    let q = old.terminal.queue in
+    let symbols = byte_shows old.terminal.settings (edits old.modes.current) (echoes old.terms.options) old.terminal.line byte in
+    fitted_more (nat_le (length q + length symbols) queue_symbols) q symbols
+item_grows old Newline =
+    let q = old.terminal.queue in
+    let symbols = byte_shows old.terminal.settings (edits old.modes.current) (echoes old.terms.options) old.terminal.line 10 in
+    fitted_more (nat_le (length q + length symbols) queue_symbols) q symbols
+item_grows old (Cmd command) =
+    let q = old.terminal.queue in
+    fitted_more (nat_le (length q + length (command_shows command)) queue_symbols) q (command_shows command)
+item_grows old (Neg verb option) = as_it_was old.terminal.queue _ refl
+item_grows old (Sub option params) = as_it_was old.terminal.queue _ (sub_queue old (payload_at old.terms.options (Sub option params)))
+
+pub queue_grows : (old : End) (e : Event) → IsUnpulled e → (more : List Symbol) × ((end_after old e).terminal.queue ≡ old.terminal.queue ++ more)
+queue_grows old (got item) is = item_grows old item
+queue_grows old took is = as_it_was old.terminal.queue _ refl
+queue_grows old (wrote bytes) is = (output_symbols old.terminal.settings.flags (take (fitting_count old.terminal.queue bytes) bytes), refl)
+queue_grows old (pulled n) is = absurd is
+queue_grows old (wished editing) is = as_it_was old.terminal.queue _ (wished_queue old (mask_for old.terminal.settings.flags editing))
+queue_grows old (char_set func value) is = as_it_was old.terminal.queue _ refl
+queue_grows old (echo_set on) is = as_it_was old.terminal.queue _ refl
+queue_grows old (mask_set mask) is = as_it_was old.terminal.queue _ refl
+
+pub items_grow : (old : End) (items : List Item) → (more : List Symbol) × ((end_after_items old items).terminal.queue ≡ old.terminal.queue ++ more)
+items_grow old [] = as_it_was old.terminal.queue _ refl
+items_grow old (item ∷ items) =
+    let first = item_grows old item in
+    let later = items_grow (end_after_item old item) items in
+    (first.0 ++ later.0, later.1 ∙ ap (λ (q : List Symbol). q ++ later.0) first.1 ∙ append_assoc old.terminal.queue first.0 later.0)

@@ -1,11 +1,9 @@
 -- What a server end does after a mark: with items that are calm, and with its owner's calls.
-use Rattle.std.proofs.Common.{◌≡◌, ◌≢◌, ◌≤◌, inl, inr, ℕ, ◌+◌, ◌==◌, nat_lt, nat_le, Bool, true, false, not, ◌&&◌, Option, Some, None, Result, Ok, Err}
-use Rattle.std.proofs.Common.{option_to_list, List, [], ◌∷◌, ◌++◌, length, take, drop, refl, sym, ap, ◌∙◌, if◌then◌else◌, subst, arith, append-nil}
-use Rattle.std.proofs.Common.{append_assoc, length-append, map}
-use Rattle.std.specs.Prelude.{All, MatchOption}
-use Rattle.std.proofs.lemmas.Bool.{eqb-false, ltb-true}
+use Rattle.std.proofs.Common.{◌≡◌, ◌≢◌, ◌≤◌, inl, inr, ℕ, ◌+◌, ◌==◌, nat_lt, nat_le, Bool, true, false, not, ◌&&◌, Option, Some, None, Result, Ok, Err, List, []}
+use Rattle.std.proofs.Common.{◌∷◌, ◌++◌, length, take, map, refl, sym, ap, ◌∙◌, if◌then◌else◌, subst, arith, append-nil}
+use Rattle.std.specs.Prelude.{All}
+use Rattle.std.proofs.lemmas.Bool.{eqb-false, lt-ltb}
 use Rattle.std.proofs.lemmas.Bool.Decides.{nat_tests}
-use Rattle.std.proofs.lemmas.List.{append_cancel_left, drop-append-le, drop-drop}
 use Rattle.std.proofs.lemmas.List.Elements.{All-nil, All-cons, All-head, All-tail, All-append}
 use Rattle.std.proofs.lemmas.Nat.{and_assoc}
 use Rattle.tn_codes.specs.Masks.{filled_octets, trimmed_octets}
@@ -16,19 +14,25 @@ use Rattle.tn_codes.specs.declared.codes.Verb.TheVariants.{Will}
 use Rattle.tn_codes.specs.declared.masks.Mask.{Mask}
 use Rattle.tn_codes.specs.declared.payloads.Payload.{Payload}
 use Rattle.tn_codes.specs.declared.payloads.Payload.TheVariants as payload
-use Rattle.tn_codes.proofs.lemmas.Telling.{says}
+use Rattle.tn_codes.proofs.lemmas.Telling.{says as says_of}
 use Rattle.tn_discipline.specs.Canon.{Canon}
 use Rattle.tn_discipline.specs.Characters.{Characters, standard_characters}
-use Rattle.tn_discipline.specs.Steps.{half_next, gain_next}
+use Rattle.tn_discipline.specs.HalfLine.{HalfLine, line_after, effect_entries}
+use Rattle.tn_discipline.specs.Limits.{max_counted}
+use Rattle.tn_discipline.specs.Steps.{front, half_next, gain_next}
 use Rattle.tn_discipline.specs.declared.echo.Symbol.{Symbol}
 use Rattle.tn_discipline.specs.declared.echo.Symbol.TheVariants as symbol
+use Rattle.tn_discipline.specs.declared.half_line.Effect.{Effect}
+use Rattle.tn_discipline.specs.declared.half_line.Effect.TheVariants as effect
 use Rattle.tn_discipline.specs.declared.keys.Role.{Role}
 use Rattle.tn_discipline.specs.declared.keys.Role.TheVariants as role
 use Rattle.tn_discipline.specs.declared.reads.Entry.{Entry}
 use Rattle.tn_discipline.specs.declared.termios.Flags.{Flags}
 use Rattle.tn_discipline.specs.declared.termios.Settings.{Settings}
+use Rattle.tn_discipline.proofs.lemmas.Lines.{advances}
 use Rattle.tn_linemode.specs.Exchange.{announcement}
 use Rattle.tn_linemode.specs.Modes.{Modes, mode_of, is_acknowledged, edits}
+use Rattle.tn_linemode.specs.Words.{differ, word_items, payload_items, mode_items, list_items}
 use Rattle.tn_nvt.specs.Spelling.{Fits}
 use Rattle.tn_nvt.specs.declared.items.Item.{Item}
 use Rattle.tn_nvt.specs.declared.items.Item.TheVariants.{Byte, Newline, Cmd, Neg, Sub}
@@ -45,29 +49,28 @@ use Rattle.tn_option.specs.declared.q_method.Side.{Side}
 use Rattle.tn_option.specs.declared.q_method.QState.TheVariants.{Yes}
 use Rattle.tn_option.specs.declared.q_method.Side.TheVariants.{Us, Them}
 use Rattle.tn_option.proofs.lemmas.OptionLaws.{LeavesOthers-moved}
-use Rattle.tn_server.specs.Events.{Event, History, next, got, took, wrote, pulled, wished, char_set, echo_set, mask_set, gets, limit}
-use Rattle.tn_server.specs.Terms.{Terms, terms, options, flags, chars, settings, mode, linemode, payload_at, options_after, wish_in, wish_after, mask_for}
-use Rattle.tn_server.specs.Terms.{mask_or, asked_mask_of, asked_mask_while, mode_sent, mask_told, asks_echo, wants_echo, terms_by, mask_after, chars_after}
-use Rattle.tn_server.specs.Terms.{allows_local}
-use Rattle.tn_linemode.specs.Words.{differ, word_items, payload_items, mode_items, list_items}
-use Rattle.tn_server.specs.Lines.{role_at, roles, entries, half, taken_count, waiting}
-use Rattle.tn_server.specs.Screen.{queue, sends_ga, none_waits, due}
-use Rattle.tn_server.specs.Replies.{asked_word_items, reply_items, table_items, new_table_items, echo_items, items_by, items_at, list_replies, forward_payload}
-use Rattle.tn_server.specs.Replies.{data_of, replies, items_said}
-use Rattle.tn_server.specs.Calls.{End, LeadsTo, Advances, ReadsNothing, Feeds}
+use Rattle.tn_pty.specs.Typing.{terminal_after, gain_of, command_role, command_shows}
+use Rattle.tn_server.specs.Calls.{End}
+use Rattle.tn_server.specs.Events.{Event, got, took, wrote, pulled, wished, char_set, echo_set, mask_set}
+use Rattle.tn_server.specs.Lines.{role_at}
+use Rattle.tn_server.specs.Screen.{byte_shows}
+use Rattle.tn_server.specs.Replies.{asked_word_items, table_items, new_table_items, echo_items, forward_payload, data_of}
+use Rattle.tn_server.specs.Steps.{modes_before, modes_told, modes_asked, masks_by, is_due, negotiation_after, negotiation_items, with_negotiated}
+use Rattle.tn_server.specs.Steps.{negotiation_heard, negotiation_wishing, end_after_word, end_after_wish, says_wished, end_after_mode_by, says_mode_by}
+use Rattle.tn_server.specs.Steps.{end_after_payload, says_sub, end_after_item, says_item, owes_ga, flags_with_echo, end_after, says, end_after_items, says_items}
+use Rattle.tn_server.specs.Terms.{Terms, linemode, echoes, payload_at, mask_for, wants_echo, allows_local}
+use Rattle.tn_server.specs.declared.terms.Negotiation.{Negotiation}
 use Rattle.tn_server.specs.declared.wishes.Editing.{Editing}
 use Rattle.tn_server.specs.declared.wishes.Editing.TheVariants.{Remote, Local}
-use Rattle.tn_server.proofs.lemmas.Ends.{line_is, waits_are}
-use Rattle.tn_server.proofs.lemmas.Terms.{differ_self, told_again, table_again, echo_keeps_linemode}
+use Rattle.tn_server.proofs.lemmas.Gathering.{call_keeps}
+use Rattle.tn_server.proofs.lemmas.Terms.{differ_self, table_again, echo_keeps_linemode}
 use Rattle.tn_world.specs.relation.Calm.{bits, SaysCalmly, IsCalmToServer, AsksCalmly, IsCalmToClient, seen_payload, seen_word, server_item}
-use Rattle.tn_world.specs.relation.Ends.{server_items, AreReplies, TakesFirst}
+use Rattle.tn_world.specs.relation.Ends.{server_items}
 use Rattle.tn_world.specs.relation.Machine as machine
-use Rattle.tn_world.specs.relation.Machine.{Server, item_role, linemode_after, edit_after, read, read_all, local_mode, IsAskable}
-use Rattle.tn_world.specs.relation.Pictures.{server_core, server_picture, NeverEnds, ServerStays}
-use Rattle.tn_world.proofs.Engines.{server_turned, server_asks, echo_keeps_state, word_keeps_state, server_agrees}
-use Rattle.tn_world.proofs.Reading.{half-role, entries-role}
-use Rattle.tn_world.proofs.Soundness.{goes_fit, feeds_fit}
-use Rattle.tn_world.proofs.Wishes.{IsAllowed, wish_allowed}
+use Rattle.tn_world.specs.relation.Machine.{Server, item_role, read, read_item, read_all, local_mode, IsAskable}
+use Rattle.tn_world.specs.relation.Pictures.{server_core, NeverEnds, IsAllowed, IsFlagged, ServerStays}
+use Rattle.tn_world.proofs.Engines.{server_turned, server_asks, echo_keeps_state, word_keeps_state, echo_agrees, word_agrees}
+use Rattle.tn_world.proofs.Wishes.{allowed_wish}
 
 -- ITEMS of which each is such as is said
 nothing : (P : Item → Type 0) → All P []
@@ -82,10 +85,6 @@ both P xs ys a b = All-append P xs ys a b
 -- nothing, seen otherwise
 none_made : (P : Item → Type 0) (word_of_answer : List Item) → word_of_answer ≡ [] → All P word_of_answer
 none_made P word_of_answer e = subst (All P) (sym e) (nothing P)
-
-replies_of : (canon : Canon) (word_of_answer : List Item) → All Fits word_of_answer → All (IsCalmToClient canon.settings) word_of_answer
-    → AreReplies canon word_of_answer
-replies_of canon word_of_answer fit calm = record { fit = fit; calm = calm }
 
 -- OPTION WORDS answer with the option that they were asked about
 abbrev pub Speaks : ℕ → Option (Verb × ℕ) → Type 0
@@ -148,14 +147,6 @@ pub echo_made : (P : Item → Type 0) (due wanted : Bool) (o : Options) → ((ve
 echo_made P true wanted o p = asked_made P 1 (answer_to o Us 1 wanted) (wish_speaks o Us 1 wanted) p
 echo_made P false wanted o p = nothing P
 
--- what is said once the options and perhaps a wish are new: the table, the mode, the server's ECHO
-pub settled_made : (P : Item → Type 0) (f : Flags) (c : Characters) (t : Terms) (o : Options) (ed : Option Editing) (set : Bool)
-    → All P (new_table_items (linemode t.options) (linemode o) c) → All P (mode_items (mask_told t o (wish_after f t.wish ed)))
-    → ((verb : Verb) → P (Neg verb 1)) → All P (items_by f c t o ed set)
-settled_made P f c t o ed set table told p =
-    let wish = wish_after f t.wish ed in
-    both P _ _ table (both P _ _ told (echo_made P (asks_echo t.options o (mask_told t o wish) set) (wants_echo (asked_mask_of o wish) f) o p))
-
 -- an option word on another option leaves LINEMODE as it is
 other_code : (option : ℕ) → (option == 34) ≡ false → 34 ≢ option
 other_code option e same = eqb-false option 34 e (sym same)
@@ -165,64 +156,136 @@ unfolding options_after_word
 words_keep_linemode o verb option e =
     ap is_yes (LeavesOthers-moved o (side_of verb) option (cause_of verb) Them 34 (inl (other_code option e)))
 
--- WHAT STAYS AS IT WAS AT THE MARK, said of a history
-pub record IsKept (canon : Canon) (h : History) : Type 0 where
-  pub on : NeverEnds (state_of (options h) Them 34)
-  pub characters : chars h ≡ canon.settings.chars
-  pub others : flags h ≡ record (canon.settings.flags) { echo = (flags h).echo }
-  pub line : limit h ≡ canon.limit
-  pub fits : taken_count h ≤ length (entries h)
-
-pub kept_at : (canon : Canon) (h : History) (end : End) → LeadsTo h end → ServerStays canon end → IsKept canon h
-kept_at canon h end s k = record {
-  on = subst (λ (t : Terms). NeverEnds (state_of t.options Them 34)) s.terms k.linemode;
-  characters = sym s.table ∙ k.chars;
-  others =
-      let P : Flags → Type 0 = λ f. f ≡ record (canon.settings.flags) { echo = f.echo } in
-      subst P (ap (λ (x : Settings). x.flags) s.settings) k.flags;
-  line = sym s.limit ∙ k.limit;
-  fits = let e = ap length s.waits in omega (arith, e, s.count, length-append s.read end.terminal.entries);
+-- WHAT STAYS AS IT WAS AT THE MARK
+-- the rest of an end has no part in it
+pub stays_aside : (canon : Canon) (old new : End) → new.terms ≡ old.terms → new.table ≡ old.table → new.terminal.settings ≡ old.terminal.settings
+    → new.terminal.line ≡ old.terminal.line → ServerStays canon old → ServerStays canon new
+stays_aside canon old new terms table settings line k = record {
+  agreed = ap (λ (t : Terms). agrees_to t.options Them 34) terms ∙ k.agreed;
+  linemode = subst (λ (t : Terms). NeverEnds (state_of t.options Them 34)) (sym terms) k.linemode;
+  wish =
+      subst (λ (t : Terms). IsAllowed new.terminal.settings.flags t.wish) (sym terms)
+      (subst (λ (x : Settings). IsAllowed x.flags old.terms.wish) (sym settings) k.wish);
+  chars = table ∙ k.chars;
+  own = ap (λ (x : Settings). x.chars) settings ∙ k.own;
+  flags = subst (λ (x : Settings). IsFlagged canon x) (sym settings) k.flags;
+  limit = ap (λ (l : HalfLine). l.limit) line ∙ k.limit;
+  ahead = ap (λ (l : HalfLine). l.ahead) line ∙ k.ahead;
 }
 
-pub stays_at : (canon : Canon) (h : History) (end : End) → LeadsTo h end → IsKept canon h → ServerStays canon end
-stays_at canon h end s k = record {
-  linemode = subst (λ (t : Terms). NeverEnds (state_of t.options Them 34)) (sym s.terms) k.on;
-  chars = s.table ∙ k.characters;
-  flags =
-      let P : Flags → Type 0 = λ f. f ≡ record (canon.settings.flags) { echo = f.echo } in
-      subst P (sym (ap (λ (x : Settings). x.flags) s.settings)) k.others;
-  limit = s.limit ∙ k.line;
-}
+-- a key of this role
+stays_typed : (canon : Canon) (old : End) (r : Role) (symbols : List Symbol) → ServerStays canon old
+    → ServerStays canon (record old { terminal = terminal_after old.terminal r symbols })
+stays_typed canon old r symbols k =
+    let moves = advances old.terminal.line r in
+    record {
+      agreed = k.agreed;
+      linemode = k.linemode;
+      wish = k.wish;
+      chars = k.chars;
+      own = k.own;
+      flags = k.flags;
+      limit = moves.limit ∙ k.limit;
+      ahead = omega (arith, moves.ahead, k.ahead);
+    }
 
--- the server of a history
-abbrev pub core_of : History → Bool → Server
-core_of h failed = record { linemode = linemode (options h); edit = edits (mode h); half = half h; waiting = waiting h; failed = failed }
+-- new options, and perhaps a wish
+stays_negotiated : (canon : Canon) (old : End) (was set : Bool) (f : Flags) (n : Negotiation) → agrees_to n.options Them 34 ≡ true
+    → NeverEnds (state_of n.options Them 34) → IsAllowed old.terminal.settings.flags n.wish → ServerStays canon old
+    → ServerStays canon (with_negotiated old (negotiation_after was set f n))
+stays_negotiated canon old was set f n agrees never allowed k =
+    let wanted = wants_echo (masks_by was n).asked f in
+    record {
+      agreed = echo_agrees (is_due was set n) wanted n.options ∙ agrees;
+      linemode = subst NeverEnds (sym (echo_keeps_state (is_due was set n) wanted n.options)) never;
+      wish = allowed;
+      chars = k.chars;
+      own = k.own;
+      flags = k.flags;
+      limit = k.limit;
+      ahead = k.ahead;
+    }
 
-pub core_at : (h : History) (end : End) → LeadsTo h end → server_core end ≡ core_of h end.failed
-core_at h end s =
-    ap (λ (t : Terms). record {
-      linemode = linemode t.options;
-      edit = edits end.modes.current;
-      half = end.terminal.line.held;
-      waiting = end.terminal.entries;
-      failed = end.failed;
-    }) s.terms
-    ∙ ap (λ (m : Modes). record {
-      linemode = linemode (options h);
-      edit = edits m.current;
-      half = end.terminal.line.held;
-      waiting = end.terminal.entries;
-      failed = end.failed;
-    }) s.modes
-    ∙ ap (λ (held : List ℕ). record {
-      linemode = linemode (options h);
-      edit = edits (mode h);
-      half = held;
-      waiting = end.terminal.entries;
-      failed = end.failed;
-    }) (ap (λ l. l.held) (line_is h end s))
-    ∙ ap (λ (w : List Entry). record { linemode = linemode (options h); edit = edits (mode h); half = half h; waiting = w; failed = end.failed })
-    (sym (waits_are h end s))
+-- THE CORE after a key
+plus_none : (n : ℕ) → 0 + n ≡ n
+plus_none n = omega arith
+
+held_if : (b : Bool) (one other : HalfLine) → (if◌then◌else◌ {A = HalfLine} b one other).held ≡ (if b then one.held else other.held)
+held_if true one other = refl
+held_if false one other = refl
+
+next_held : (held : List ℕ) (n : ℕ) (r : Role) → (line_after (record { held = held; ahead = 0; limit = n }) r).held ≡ half_next n held r
+next_held held n role.Ignored = refl
+next_held held n role.Nl = refl
+next_held held n (role.Eol b) = refl
+next_held held n (role.Eol2 b) = refl
+next_held held n role.Eof = refl
+next_held held n (role.Signal sig) = refl
+next_held held n role.Kill = refl
+next_held [] n role.Erase = refl
+next_held (x ∷ held) n role.Erase =
+    let one : HalfLine = record { held = front (x ∷ held); ahead = 0; limit = n } in
+    let other : HalfLine = record { held = []; ahead = 0; limit = n } in
+    ap (λ (b : Bool). (if◌then◌else◌ {A = HalfLine} b one other).held) (lt-ltb 0 (length (x ∷ held)) (omega arith))
+next_held held n (role.Ordinary byte) =
+    let one : HalfLine = record { held = held; ahead = 0; limit = n } in
+    let other : HalfLine = record { held = held ++ byte ∷ []; ahead = 0; limit = n } in
+    ap (λ (m : ℕ). (if◌then◌else◌ {A = HalfLine} (m == max_counted n) one other).held) (plus_none (length held)) ∙ held_if (length held == max_counted n) one other
+
+gives_none : (b : Bool) (one other : Effect) → effect_entries one ≡ [] → effect_entries other ≡ [] → effect_entries (if b then one else other) ≡ []
+gives_none true one other p q = p
+gives_none false one other p q = q
+
+none_if : (b : Bool) → ◌≡◌ {A = List Entry} [] (if◌then◌else◌ {A = List Entry} b [] [])
+none_if true = refl
+none_if false = refl
+
+next_gain : (held : List ℕ) (n : ℕ) (r : Role) → gain_of (record { held = held; ahead = 0; limit = n }) r ≡ gain_next n held r
+next_gain held n role.Ignored = refl
+next_gain held n role.Nl = refl
+next_gain held n (role.Eol b) = refl
+next_gain held n (role.Eol2 b) = refl
+next_gain held n role.Eof = refl
+next_gain held n (role.Signal sig) = refl
+next_gain held n role.Kill = refl
+next_gain held n role.Erase = gives_none (nat_lt 0 (length held)) effect.Erased effect.Nothing refl refl
+next_gain held n (role.Ordinary byte) =
+    gives_none (0 + length held == max_counted n) effect.Dropped effect.Kept refl refl ∙ none_if (length held == max_counted n)
+
+core_typed : (canon : Canon) (old : End) (r : Role) (symbols : List Symbol) → ServerStays canon old
+    → server_core (record old { terminal = terminal_after old.terminal r symbols })
+    ≡ record (server_core old) {
+      half = half_next canon.limit old.terminal.line.held r;
+      waiting = old.terminal.entries ++ gain_next canon.limit old.terminal.line.held r;
+    }
+core_typed canon old r symbols k =
+    let l = old.terminal.line in
+    let here : l ≡ record { held = l.held; ahead = 0; limit = canon.limit } =
+    ap (λ (n : ℕ). record l { ahead = n }) k.ahead ∙ ap (λ (n : ℕ). record { held = l.held; ahead = 0; limit = n }) k.limit in
+    ap (λ (x : HalfLine). record (server_core old) { half = (line_after x r).held; waiting = old.terminal.entries ++ gain_of x r }) here
+    ∙ ap (λ (bytes : List ℕ). record (server_core old)
+    { half = bytes; waiting = old.terminal.entries ++ gain_of (record { held = l.held; ahead = 0; limit = canon.limit }) r }) (next_held l.held canon.limit r)
+    ∙ ap (λ (es : List Entry). record (server_core old) { half = half_next canon.limit l.held r; waiting = old.terminal.entries ++ es })
+    (next_gain l.held canon.limit r)
+
+-- and after new options and perhaps a wish
+asked_current : (on : Bool) (m : Modes) (wish : ℕ) → (modes_asked on m wish).current ≡ m.current
+asked_current true m wish = refl
+asked_current false m wish = refl
+
+abbrev turned : End → Bool → Modes → Bool → Server
+turned old was m on = record (server_core old) { linemode = on; edit = edits (modes_before (differ was on) m).current }
+
+core_negotiated : (old : End) (was set : Bool) (f : Flags) (n : Negotiation)
+    → server_core (with_negotiated old (negotiation_after was set f n)) ≡ turned old was n.modes (linemode n.options)
+core_negotiated old was set f n =
+    ap (λ (b : Bool). record (server_core old) { linemode = b; edit = edits (masks_by was n).current })
+    (echo_keeps_linemode (is_due was set n) (wants_echo (masks_by was n).asked f) n.options)
+    ∙ ap (λ (m : ℕ). record (server_core old) { linemode = linemode n.options; edit = edits m })
+    (asked_current (linemode n.options) (modes_before (differ was (linemode n.options)) n.modes) n.wish)
+
+turned_same : (old : End) (was : Bool) → turned old was old.modes was ≡ record (server_core old) { linemode = was }
+turned_same old was = ap (λ (b : Bool). record (server_core old) { linemode = was; edit = edits (modes_before b old.modes).current }) (differ_self was)
 
 -- A CALM ITEM brings no wish and no character
 calm_if : (b : Bool) (p : Option Payload) → SaysCalmly p → SaysCalmly (if b then p else None)
@@ -235,22 +298,6 @@ calm_at s o Newline c = tt
 calm_at s o (Cmd command) c = tt
 calm_at s o (Neg verb option) c = tt
 calm_at s o (Sub option params) c = calm_if (is_yes (state_of o Them option) && nat_le (length params) 512) (payload_of option params) c
-
-wish_none : (p : Option Payload) → SaysCalmly p → wish_in p ≡ None
-wish_none None c = refl
-wish_none (Some (payload.Mode mask)) c = rw c refl
-wish_none (Some (payload.Slc triples)) c = absurd c
-wish_none (Some p) c = refl
-
-same_characters : (cs : Characters) (p : Option Payload) → SaysCalmly p → chars_after cs p ≡ cs
-same_characters cs None c = refl
-same_characters cs (Some (payload.Slc triples)) c = absurd c
-same_characters cs (Some p) c = refl
-
-no_answers : (cs : Characters) (p : Option Payload) → SaysCalmly p → list_replies cs p ≡ []
-no_answers cs None c = refl
-no_answers cs (Some (payload.Slc triples)) c = absurd c
-no_answers cs (Some p) c = refl
 
 -- what it says, where it is a word
 other_word : (option : ℕ) → (option == 34) ≡ false → server_item (Neg Will option) ≡ machine.other
@@ -265,62 +312,6 @@ turned_after : (o : Options) (verb : Verb) (option : ℕ) → agrees_to o Them 3
 turned_after o verb option a n v c =
     ap (λ (x : Verb). state_of (options_after_word o x option) Them 34) v ∙ ap (λ (x : ℕ). state_of (options_after_word o Will x) Them 34) c
     ∙ server_turned o a n
-
--- LINEMODE comes on with the one word that says so
-seen_keeps : (l : Bool) (p : Option Payload) → linemode_after l (seen_payload p) ≡ l
-seen_keeps l None = refl
-seen_keeps l (Some (payload.Mode mask)) = refl
-seen_keeps l (Some p) = refl
-
-heard_linemode : (s : Settings) (o : Options) (item : Item) → agrees_to o Them 34 ≡ true → NeverEnds (state_of o Them 34) → IsCalmToServer s item
-    → linemode (options_after o (got item)) ≡ linemode_after (linemode o) (server_item item)
-heard_linemode s o (Byte b) a n c = refl
-heard_linemode s o Newline a n c = refl
-heard_linemode s o (Cmd command) a n c = refl
-heard_linemode s o (Neg verb option) a n (inl e) = words_keep_linemode o verb option e ∙ ap (linemode_after (linemode o)) (sym (other_word option e))
-heard_linemode s o (Neg verb option) a n (inr t) =
-    ap is_yes (turned_after o verb option a n t.0 t.1) ∙ ap (linemode_after (linemode o)) (sym (turning_word option t.1))
-heard_linemode s o (Sub option params) a n c = sym (seen_keeps (linemode o) (payload_of option params))
-
-pub linemode_got : (canon : Canon) (h : History) (item : Item) → IsKept canon h → IsCalmToServer canon.settings item
-    → linemode (options (next h (got item))) ≡ linemode_after (linemode (options h)) (server_item item)
-linemode_got canon h item k c =
-    let o = options_after (options h) (got item) in
-    let wish = wish_after (flags h) (terms h).wish (wish_in (payload_at (options h) item)) in
-    echo_keeps_linemode (asks_echo (options h) o (mask_told (terms h) o wish) false) (wants_echo (asked_mask_of o wish) (flags h)) o
-    ∙ heard_linemode canon.settings (options h) item (server_agrees h) k.on c
-
--- and does not go off
-heard_never : (s : Settings) (o : Options) (item : Item) → agrees_to o Them 34 ≡ true → NeverEnds (state_of o Them 34) → IsCalmToServer s item
-    → NeverEnds (state_of (options_after o (got item)) Them 34)
-heard_never s o (Byte b) a n c = n
-heard_never s o Newline a n c = n
-heard_never s o (Cmd command) a n c = n
-heard_never s o (Neg verb option) a n (inl e) = subst NeverEnds (sym (word_keeps_state o Them verb option e)) n
-heard_never s o (Neg verb option) a n (inr t) = subst NeverEnds (sym (turned_after o verb option a n t.0 t.1)) tt
-heard_never s o (Sub option params) a n c = n
-
-settled_never : (f : Flags) (t : Terms) (o : Options) (ed : Option Editing) (set : Bool) → NeverEnds (state_of o Them 34)
-    → NeverEnds (state_of (terms_by f t o ed set).options Them 34)
-settled_never f t o ed set n =
-    let wish = wish_after f t.wish ed in
-    subst NeverEnds (sym (echo_keeps_state (asks_echo t.options o (mask_told t o wish) set) (wants_echo (asked_mask_of o wish) f) o)) n
-
-pub kept_got : (canon : Canon) (h : History) (item : Item) → IsKept canon h → IsCalmToServer canon.settings item → IsKept canon (next h (got item))
-kept_got canon h item k c = record {
-  on =
-      settled_never (flags h) (terms h) (options_after (options h) (got item)) (wish_in (payload_at (options h) item)) false
-      (heard_never canon.settings (options h) item (server_agrees h) k.on c);
-  characters = same_characters (chars h) (payload_at (options h) item) (calm_at canon.settings (options h) item c) ∙ k.characters;
-  others = k.others;
-  line = k.line;
-  fits =
-      let r = role_at (settings h) (edits (mode h)) item in
-      let more = ap length (entries-role (limit h) (roles h) r) in
-      let gain = gain_next (limit h) (half h) r in
-      let fits = k.fits in
-      omega (arith, more, fits, length-append (entries h) gain);
-}
 
 -- the role of an item is what it says; the flag ECHO has no part in it
 sub_role : (s : Settings) (edit : Bool) (p : Option Payload) → role.Ignored ≡ item_role s edit (seen_payload p)
@@ -340,40 +331,74 @@ role_seen s echo edit (Cmd command) = refl
 role_seen s echo edit (Neg verb option) = word_role s edit (option == 34)
 role_seen s echo edit (Sub option params) = sub_role s edit (payload_of option params)
 
-pub role_is : (canon : Canon) (h : History) (item : Item) → IsKept canon h
-    → role_at (settings h) (edits (mode h)) item ≡ item_role canon.settings (edits (mode h)) (server_item item)
-role_is canon h item k =
-    ap (λ (f : Flags). role_at (record { flags = f; chars = chars h }) (edits (mode h)) item) k.others
-    ∙ ap (λ (c : Characters). role_at (record { flags = record (canon.settings.flags) { echo = (flags h).echo }; chars = c }) (edits (mode h)) item)
-    k.characters
-    ∙ role_seen canon.settings (flags h).echo (edits (mode h)) item
+role_is : (canon : Canon) (old : End) (item : Item) → ServerStays canon old
+    → role_at old.terminal.settings (edits old.modes.current) item ≡ item_role canon.settings (edits old.modes.current) (server_item item)
+role_is canon old item k =
+    let edit = edits old.modes.current in
+    let x = old.terminal.settings in
+    ap (λ (f : Flags). role_at (record { flags = f; chars = x.chars }) edit item) k.flags
+    ∙ ap (λ (c : Characters). role_at (record { flags = record (canon.settings.flags) { echo = x.flags.echo }; chars = c }) edit item) k.own
+    ∙ role_seen canon.settings x.flags.echo edit item
 
--- the mask after it
-abbrev IsNoMode : Payload → Type 0
-IsNoMode (payload.Mode mask) = ⊥
-IsNoMode _ = Unit {0}
+-- A CALM ITEM IS READ as what it says, by an end that has not failed
+abbrev read_there : Canon → End → machine.Item → Server
+read_there canon old item = record (read_item canon (server_core old) item) { failed = old.failed }
 
-same_mask : (b : Bool) (m : ℕ) (p : Payload) → IsNoMode p → mask_after false m (if b then Some p else None) ≡ m
-same_mask false m p n = refl
-same_mask true m (payload.Mode mask) n = absurd n
-same_mask true m p n = refl
+core_ignored : (canon : Canon) (old : End) → server_core old ≡ read_there canon old machine.other
+core_ignored canon old = ap (λ (es : List Entry). record (server_core old) { waiting = es }) (sym (append-nil old.terminal.entries))
 
-other_seen : (p : Payload) → IsNoMode p → seen_payload (Some p) ≡ machine.other
-other_seen (payload.Mode mask) n = absurd n
-other_seen p n = refl
+core_key : (canon : Canon) (old : End) (item : Item) (symbols : List Symbol) → ServerStays canon old
+    → server_core (record old { terminal = terminal_after old.terminal (role_at old.terminal.settings (edits old.modes.current) item) symbols })
+    ≡ record (server_core old) {
+      half = half_next canon.limit old.terminal.line.held (item_role canon.settings (edits old.modes.current) (server_item item));
+      waiting =
+          old.terminal.entries
+          ++ gain_next canon.limit old.terminal.line.held (item_role canon.settings (edits old.modes.current) (server_item item));
+    }
+core_key canon old item symbols k =
+    core_typed canon old (role_at old.terminal.settings (edits old.modes.current) item) symbols k
+    ∙ ap (λ (r : Role). record (server_core old) {
+      half = half_next canon.limit old.terminal.line.held r;
+      waiting = old.terminal.entries ++ gain_next canon.limit old.terminal.line.held r;
+    }) (role_is canon old item k)
 
-no_payload : (b : Bool) (m : ℕ) → mask_after false m (if b then None else None) ≡ m
-no_payload true m = refl
-no_payload false m = refl
+-- LINEMODE comes on with the one word that says so, and begins without a mask
+begins_unmasked : (l : Bool) (m : Modes) → edits (modes_before (differ l true) m).current ≡ l && edits m.current
+begins_unmasked true m = refl
+begins_unmasked false m = refl
+
+core_word : (canon : Canon) (old : End) (verb : Verb) (option : ℕ) → ServerStays canon old → IsCalmToServer canon.settings (Neg verb option)
+    → server_core (end_after_word old verb option) ≡ read_there canon old (server_item (Neg verb option))
+core_word canon old verb option k (inl e) =
+    let l = linemode old.terms.options in
+    core_negotiated old l false old.terminal.settings.flags (negotiation_heard old verb option)
+    ∙ ap (turned old l old.modes) (words_keep_linemode old.terms.options verb option e)
+    ∙ turned_same old l
+    ∙ core_ignored canon old
+    ∙ ap (read_there canon old) (sym (other_word option e))
+core_word canon old verb option k (inr t) =
+    let l = linemode old.terms.options in
+    core_negotiated old l false old.terminal.settings.flags (negotiation_heard old verb option)
+    ∙ ap (turned old l old.modes) (ap is_yes (turned_after old.terms.options verb option k.agreed k.linemode t.0 t.1))
+    ∙ ap (λ (b : Bool). record (server_core old) { linemode = true; edit = b }) (begins_unmasked l old.modes)
+    ∙ ap (λ (es : List Entry). record (server_core old) { linemode = true; edit = l && edits old.modes.current; waiting = es }) (sym (append-nil old.terminal.entries))
+    ∙ ap (read_there canon old) (sym (turning_word option t.1))
 
 pub edits-mode_of : (mask : ℕ) → edits (mode_of mask) ≡ edits mask
 edits-mode_of mask = ap (λ (n : ℕ). not (n == 0)) (and_assoc 1 mask 3)
 
 -- a mask that acknowledges counts where LINEMODE is on
-mask_seen : (on : Bool) (m mask : ℕ) → is_acknowledged mask ≡ true
-    → edits (mask_after false m (if on then Some (payload.Mode mask) else None)) ≡ edit_after on (edits m) (seen_payload (Some (payload.Mode mask)))
-mask_seen true m mask acked = ap (λ (b : Bool). edits (if b then mode_of mask else m)) acked ∙ edits-mode_of mask
-mask_seen false m mask acked = refl
+mode_seen : (canon : Canon) (old : End) (mask : ℕ) (on : Bool) → is_acknowledged mask ≡ true → linemode old.terms.options ≡ on
+    → server_core (end_after_payload old (if on then Some (payload.Mode mask) else None)) ≡ read_there canon old (machine.mode_ack (bits mask))
+mode_seen canon old mask true acked l =
+    ap (λ (b : Bool). server_core (end_after_mode_by old mask (if b then None else Some (edits mask)))) acked
+    ∙ ap (λ (b : Bool). record (server_core old) { edit = edits (if b then record (old.modes) { current = mode_of mask } else old.modes).current }) acked
+    ∙ ap (λ (b : Bool). record (server_core old) { edit = b }) (edits-mode_of mask)
+    ∙ ap (λ (es : List Entry). record (server_core old) { edit = edits mask; waiting = es }) (sym (append-nil old.terminal.entries))
+    ∙ ap (λ (b : Bool). record (read_there canon old (machine.mode_ack (bits mask))) { edit = if b then edits mask else edits old.modes.current }) (sym l)
+mode_seen canon old mask false acked l =
+    core_ignored canon old
+    ∙ ap (λ (b : Bool). record (read_there canon old (machine.mode_ack (bits mask))) { edit = if b then edits mask else edits old.modes.current }) (sym l)
 
 short_enough : (n : ℕ) → n ≤ 512 → nat_le n 512 ≡ true
 short_enough n h = grind (arith, nat_tests)
@@ -382,91 +407,93 @@ and_is : (a b c : Bool) → a ≡ c → b ≡ true → (a && b) ≡ c
 and_is true b c e f = f ∙ e
 and_is false b c e f = e
 
-sub_seen : (on : Bool) (o : Options) (m option : ℕ) (params : List ℕ) (p : Option Payload) → payload_of option params ≡ p → linemode o ≡ on
-    → length params ≤ 512 → SaysCalmly p → edits (mask_after false m (if is_yes (state_of o Them option) && nat_le (length params) 512 then p else None))
-    ≡ edit_after on (edits m) (seen_payload p)
-sub_seen on o m option params None e l fits c =
-    ap edits (no_payload (is_yes (state_of o Them option) && nat_le (length params) 512) m)
-sub_seen on o m option params (Some (payload.Mode mask)) e l fits c =
-    let is : option ≡ 34 = (says option params (payload.Mode mask) e).0 in
-    let counts : (is_yes (state_of o Them option) && nat_le (length params) 512) ≡ on =
-    and_is (is_yes (state_of o Them option)) (nat_le (length params) 512) on (ap (λ (n : ℕ). is_yes (state_of o Them n)) is ∙ l)
-    (short_enough (length params) fits) in
-    ap (λ (b : Bool). edits (mask_after false m (if b then Some (payload.Mode mask) else None))) counts ∙ mask_seen on m mask c
-sub_seen on o m option params (Some p) e l fits c =
-    ap edits (same_mask (is_yes (state_of o Them option) && nat_le (length params) 512) m p tt) ∙ sym (ap (edit_after on (edits m)) (other_seen p tt))
+-- any other payload is nothing to it
+abbrev IsAside : Payload → Type 0
+IsAside (payload.Mode mask) = ⊥
+IsAside (payload.Slc triples) = ⊥
+IsAside _ = Unit {0}
 
--- where LINEMODE comes on, it begins without a mask
-begins_unmasked : (l : Bool) (m : ℕ) → edits (mask_after (differ l true) m None) ≡ l && edits m
-begins_unmasked true m = refl
-begins_unmasked false m = refl
+aside_seen : (canon : Canon) (old : End) (p : Payload) (b : Bool) → IsAside p
+    → server_core (end_after_payload old (if b then Some p else None)) ≡ read_there canon old (seen_payload (Some p))
+aside_seen canon old (payload.Mode mask) b aside = absurd aside
+aside_seen canon old (payload.Slc triples) b aside = absurd aside
+aside_seen canon old (payload.Naws width height) true aside = core_ignored canon old
+aside_seen canon old (payload.Naws width height) false aside = core_ignored canon old
+aside_seen canon old (payload.ForwardOn mask) true aside = core_ignored canon old
+aside_seen canon old (payload.ForwardOn mask) false aside = core_ignored canon old
+aside_seen canon old payload.ForwardOff true aside = core_ignored canon old
+aside_seen canon old payload.ForwardOff false aside = core_ignored canon old
+aside_seen canon old payload.ForwardYes true aside = core_ignored canon old
+aside_seen canon old payload.ForwardYes false aside = core_ignored canon old
+aside_seen canon old payload.ForwardNo true aside = core_ignored canon old
+aside_seen canon old payload.ForwardNo false aside = core_ignored canon old
 
-stays_masked : (l : Bool) (m : ℕ) (p : Option Payload) → edits (mask_after (differ l l) m p) ≡ edits (mask_after false m p)
-stays_masked l m p = ap (λ (b : Bool). edits (mask_after b m p)) (differ_self l)
-
-item_seen : (s : Settings) (o : Options) (m : ℕ) (on : Bool) (item : Item) → on ≡ linemode_after (linemode o) (server_item item) → Fits item
-    → IsCalmToServer s item → edits (mask_after (differ (linemode o) on) m (payload_at o item)) ≡ edit_after (linemode o) (edits m) (server_item item)
-item_seen s o m on item is f c = ap (λ (b : Bool). edits (mask_after (differ (linemode o) b) m (payload_at o item))) is ∙ by_item item f c
+core_sub : (canon : Canon) (old : End) (option : ℕ) (params : List ℕ) (p : Option Payload) → payload_of option params ≡ p → length params ≤ 512 → SaysCalmly p
+    → server_core (end_after_payload old (if is_yes (state_of old.terms.options Them option) && nat_le (length params) 512 then p else None))
+    ≡ read_there canon old (seen_payload p)
+core_sub canon old option params None e fits c = go (is_yes (state_of old.terms.options Them option) && nat_le (length params) 512)
   where
-    by_item : (i : Item) → Fits i → IsCalmToServer s i → edits (mask_after (differ (linemode o) (linemode_after (linemode o) (server_item i))) m
-        (payload_at o i)) ≡ edit_after (linemode o) (edits m) (server_item i)
-    by_item (Byte b) f c = stays_masked (linemode o) m None
-    by_item Newline f c = stays_masked (linemode o) m None
-    by_item (Cmd command) f c = stays_masked (linemode o) m None
-    by_item (Neg verb option) f (inl e) =
-        subst (λ (i : machine.Item). edits (mask_after (differ (linemode o) (linemode_after (linemode o) i)) m None) ≡ edit_after (linemode o) (edits m) i)
-        (sym (other_word option e))
-        (stays_masked (linemode o) m None)
-    by_item (Neg verb option) f (inr t) =
-        subst (λ (i : machine.Item). edits (mask_after (differ (linemode o) (linemode_after (linemode o) i)) m None) ≡ edit_after (linemode o) (edits m) i)
-        (sym (turning_word option t.1))
-        (begins_unmasked (linemode o) m)
-    by_item (Sub option params) f c =
-        ap (λ (b : Bool). edits (mask_after (differ (linemode o) b) m (payload_at o (Sub option params)))) (seen_keeps (linemode o) (payload_of option params))
-        ∙ stays_masked (linemode o) m (payload_at o (Sub option params))
-        ∙ sub_seen (linemode o) o m option params (payload_of option params) refl refl f c
+    go : (b : Bool) → server_core (end_after_payload old (if b then None else None)) ≡ read_there canon old machine.other
+    go true = core_ignored canon old
+    go false = core_ignored canon old
+core_sub canon old option params (Some (payload.Mode mask)) e fits c =
+    let on = linemode old.terms.options in
+    let is : option ≡ 34 = (says_of option params (payload.Mode mask) e).0 in
+    let counts : (is_yes (state_of old.terms.options Them option) && nat_le (length params) 512) ≡ on =
+    and_is (is_yes (state_of old.terms.options Them option)) (nat_le (length params) 512) on (ap (λ (n : ℕ). is_yes (state_of old.terms.options Them n)) is)
+    (short_enough (length params) fits) in
+    ap (λ (b : Bool). server_core (end_after_payload old (if b then Some (payload.Mode mask) else None))) counts ∙ mode_seen canon old mask on c refl
+core_sub canon old option params (Some (payload.Slc triples)) e fits c = absurd c
+core_sub canon old option params (Some p) e fits c =
+    aside_seen canon old p (is_yes (state_of old.terms.options Them option) && nat_le (length params) 512) tt
 
-pub edit_got : (canon : Canon) (h : History) (item : Item) → IsKept canon h → Fits item → IsCalmToServer canon.settings item
-    → edits (mode (next h (got item))) ≡ edit_after (linemode (options h)) (edits (mode h)) (server_item item)
-edit_got canon h item k f c = item_seen canon.settings (options h) (mode h) (linemode (options (next h (got item)))) item (linemode_got canon h item k c) f c
+abbrev shown_by : End → ℕ → List Symbol
+shown_by old byte =
+    let t = old.terminal in
+    byte_shows t.settings (edits old.modes.current) (echoes old.terms.options) t.line byte
 
--- the half line and the entries after it
-pub half_got : (canon : Canon) (h : History) (item : Item) → IsKept canon h
-    → half (next h (got item)) ≡ half_next canon.limit (half h) (item_role canon.settings (edits (mode h)) (server_item item))
-half_got canon h item k =
-    half-role (limit h) (roles h) (role_at (settings h) (edits (mode h)) item)
-    ∙ ap (λ (r : Role). half_next (limit h) (half h) r) (role_is canon h item k)
-    ∙ ap (λ (m : ℕ). half_next m (half h) (item_role canon.settings (edits (mode h)) (server_item item))) k.line
+core_item : (canon : Canon) (old : End) (item : Item) → ServerStays canon old → Fits item → IsCalmToServer canon.settings item
+    → server_core (end_after_item old item) ≡ read_there canon old (server_item item)
+core_item canon old (Byte byte) k f c = core_key canon old (Byte byte) (shown_by old byte) k
+core_item canon old Newline k f c = core_key canon old Newline (shown_by old 10) k
+core_item canon old (Cmd command) k f c = core_key canon old (Cmd command) (command_shows command) k
+core_item canon old (Neg verb option) k f c = core_word canon old verb option k c
+core_item canon old (Sub option params) k f c = core_sub canon old option params (payload_of option params) refl f c
 
-pub entries_got : (canon : Canon) (h : History) (item : Item) → IsKept canon h
-    → entries (next h (got item)) ≡ entries h ++ gain_next canon.limit (half h) (item_role canon.settings (edits (mode h)) (server_item item))
-entries_got canon h item k =
-    entries-role (limit h) (roles h) (role_at (settings h) (edits (mode h)) item)
-    ∙ ap (λ (r : Role). entries h ++ gain_next (limit h) (half h) r) (role_is canon h item k)
-    ∙ ap (λ (m : ℕ). entries h ++ gain_next m (half h) (item_role canon.settings (edits (mode h)) (server_item item))) k.line
+pub core_got : (canon : Canon) (old : End) (item : Item) → ServerStays canon old → old.failed ≡ false → Fits item → IsCalmToServer canon.settings item
+    → server_core (end_after_item old item) ≡ read canon (server_core old) (server_item item)
+core_got canon old item k works f c =
+    core_item canon old item k f c
+    ∙ ap (λ (b : Bool). record (read_item canon (server_core old) (server_item item)) { failed = b }) works
+    ∙ ap (λ (b : Bool). if b then server_core old else read_item canon (server_core old) (server_item item)) (sym works)
 
--- A calm item is read as what it says.
-pub core_got : (canon : Canon) (h : History) (item : Item) → IsKept canon h → Fits item → IsCalmToServer canon.settings item
-    → core_of (next h (got item)) false ≡ read canon (core_of h false) (server_item item)
-core_got canon h item k f c =
-    let l = linemode_after (linemode (options h)) (server_item item) in
-    let e = edit_after (linemode (options h)) (edits (mode h)) (server_item item) in
-    let i : Role = item_role canon.settings (edits (mode h)) (server_item item) in
-    let n = canon.limit in
-    let waits : waiting (next h (got item)) ≡ waiting h ++ gain_next n (half h) i =
-    ap (λ (es : List Entry). drop (taken_count h) es) (entries_got canon h item k)
-    ∙ drop-append-le (taken_count h) (entries h) (gain_next n (half h) i) k.fits in
-    ap (λ (b : Bool). record {
-      linemode = b;
-      edit = edits (mode (next h (got item)));
-      half = half (next h (got item));
-      waiting = waiting (next h (got item));
-      failed = false;
-    }) (linemode_got canon h item k c)
-    ∙ ap (λ (b : Bool). record { linemode = l; edit = b; half = half (next h (got item)); waiting = waiting (next h (got item)); failed = false })
-    (edit_got canon h item k f c)
-    ∙ ap (λ (bytes : List ℕ). record { linemode = l; edit = e; half = bytes; waiting = waiting (next h (got item)); failed = false }) (half_got canon h item k)
-    ∙ ap (λ (es : List Entry). record { linemode = l; edit = e; half = half_next n (half h) i; waiting = es; failed = false }) waits
+-- and all stays as it was at the mark
+stays_sub : (canon : Canon) (old : End) (p : Option Payload) → SaysCalmly p → ServerStays canon old → ServerStays canon (end_after_payload old p)
+stays_sub canon old None c k = k
+stays_sub canon old (Some (payload.Naws width height)) c k = stays_aside canon old (end_after_payload old (Some (payload.Naws width height))) refl refl refl refl k
+stays_sub canon old (Some (payload.Mode mask)) c k =
+    subst (λ (b : Bool). ServerStays canon (end_after_mode_by old mask (if b then None else Some (edits mask)))) (sym c)
+    (stays_aside canon old (end_after_mode_by old mask None) refl refl refl refl k)
+stays_sub canon old (Some (payload.Slc triples)) c k = absurd c
+stays_sub canon old (Some (payload.ForwardOn mask)) c k = k
+stays_sub canon old (Some payload.ForwardOff) c k = k
+stays_sub canon old (Some payload.ForwardYes) c k = k
+stays_sub canon old (Some payload.ForwardNo) c k = k
+
+word_never : (canon : Canon) (old : End) (verb : Verb) (option : ℕ) → ServerStays canon old → IsCalmToServer canon.settings (Neg verb option)
+    → NeverEnds (state_of (options_after_word old.terms.options verb option) Them 34)
+word_never canon old verb option k (inl e) = subst NeverEnds (sym (word_keeps_state old.terms.options Them verb option e)) k.linemode
+word_never canon old verb option k (inr t) = subst NeverEnds (sym (turned_after old.terms.options verb option k.agreed k.linemode t.0 t.1)) tt
+
+pub stays_got : (canon : Canon) (old : End) (item : Item) → ServerStays canon old → IsCalmToServer canon.settings item → ServerStays canon (end_after_item old item)
+stays_got canon old (Byte byte) k c = stays_typed canon old (role_at old.terminal.settings (edits old.modes.current) (Byte byte)) _ k
+stays_got canon old Newline k c = stays_typed canon old (role_at old.terminal.settings (edits old.modes.current) Newline) _ k
+stays_got canon old (Cmd command) k c = stays_typed canon old (command_role command) _ k
+stays_got canon old (Neg verb option) k c =
+    stays_negotiated canon old (linemode old.terms.options) false old.terminal.settings.flags (negotiation_heard old verb option)
+    (word_agrees old.terms.options Them verb option ∙ k.agreed) (word_never canon old verb option k c) k.wish k
+stays_got canon old (Sub option params) k c =
+    stays_sub canon old (payload_at old.terms.options (Sub option params)) (calm_at canon.settings old.terms.options (Sub option params) c) k
 
 -- a mask that a server with these settings asks for
 abbrev IsAskedMask : Settings → ℕ → Type 0
@@ -497,19 +524,6 @@ unless_made P true mask p = nothing P
 unless_made P false mask p = mode_made P mask p
 
 -- WHAT A CALM ITEM IS ANSWERED WITH
--- an option word, with a word
-back_calm : (s : Settings) (o : Options) (item : Item) → agrees_to o Them 34 ≡ true → NeverEnds (state_of o Them 34) → IsCalmToServer s item
-    → All (IsCalmToClient s) (reply_items o (got item))
-back_calm s o (Byte b) a n c = nothing (IsCalmToClient s)
-back_calm s o Newline a n c = nothing (IsCalmToClient s)
-back_calm s o (Cmd command) a n c = nothing (IsCalmToClient s)
-back_calm s o (Neg verb option) a n (inl e) = word_made (IsCalmToClient s) option (reply_to o verb option) (reply_speaks o verb option) (λ v. inl e)
-back_calm s o (Neg verb option) a n (inr t) =
-    subst (λ (v : Verb). All (IsCalmToClient s) (word_items (reply_to o v option))) (sym t.0)
-    (subst (λ (x : ℕ). All (IsCalmToClient s) (word_items (reply_to o Will x))) (sym t.1)
-    (server_asks (IsCalmToClient s) o a n (inr (refl, refl, t.2))))
-back_calm s o (Sub option params) a n c = nothing (IsCalmToClient s)
-
 -- LINEMODE that comes on, with the table that the client has
 table_calm : (s : Settings) → s.chars ≡ standard_characters → All (IsCalmToClient s) (list_items (announcement standard_characters))
 unfolding announcement
@@ -519,105 +533,81 @@ told_calm : (s : Settings) (c : Characters) (b : Bool) → c ≡ s.chars → s.c
 told_calm s c true same is = subst (λ (x : Characters). All (IsCalmToClient s) (list_items (announcement x))) (sym (same ∙ is)) (table_calm s is)
 told_calm s c false same is = nothing (IsCalmToClient s)
 
-new_table_calm : (s : Settings) (o : Options) (c : Characters) (item : Item) → c ≡ s.chars → IsCalmToServer s item
-    → All (IsCalmToClient s) (new_table_items (linemode o) (linemode (options_after o (got item))) c)
-new_table_calm s o c (Byte b) same calm = none_made (IsCalmToClient s) _ (table_again (linemode o) c)
-new_table_calm s o c Newline same calm = none_made (IsCalmToClient s) _ (table_again (linemode o) c)
-new_table_calm s o c (Cmd command) same calm = none_made (IsCalmToClient s) _ (table_again (linemode o) c)
-new_table_calm s o c (Sub option params) same calm = none_made (IsCalmToClient s) _ (table_again (linemode o) c)
-new_table_calm s o c (Neg verb option) same (inl e) =
-    none_made (IsCalmToClient s) _ (ap (λ (b : Bool). new_table_items (linemode o) b c) (words_keep_linemode o verb option e) ∙ table_again (linemode o) c)
-new_table_calm s o c (Neg verb option) same (inr t) = told_calm s c (linemode (options_after_word o verb option) && not (linemode o)) same t.2
-
--- and perhaps a mode, that of the wish in force
-mode_sent_made : (P : Item → Type 0) (on : Bool) (asked wish : ℕ) → P (Sub 34 (1 ∷ mode_of wish ∷ [])) → All P (mode_items (mode_sent on asked wish))
-mode_sent_made P true asked wish p = unless_made P (mode_of wish == asked) (mode_of wish) p
-mode_sent_made P false asked wish p = nothing P
-
 wish_asked : (s : Settings) (f : Flags) (wish : ℕ) → f ≡ record (s.flags) { echo = f.echo } → IsAllowed f wish → IsAskedMask s wish
 wish_asked s f wish same (inl is) = subst (IsAskedMask s) (sym is) (refl, inl refl)
 wish_asked s f wish same (inr is) = mask_asked s f Local wish same is
 
-pub calm_got : (canon : Canon) (h : History) (item : Item) → IsKept canon h → IsCalmToServer canon.settings item
-    → All (IsCalmToClient canon.settings) (replies h (got item))
-calm_got canon h item k c =
-    let s = canon.settings in
-    let P = IsCalmToClient s in
-    let o = options h in
-    let p = payload_at o item in
-    let calm = calm_at s o item c in
-    let after = options_after o (got item) in
-    both P (items_at (flags h) (chars h) (terms h) (got item)) (list_replies (chars h) p)
-    (both P (reply_items o (got item)) (items_by (flags h) (chars h) (terms h) after (wish_in p) false)
-    (back_calm s o item (server_agrees h) k.on c)
-    (subst (λ (w : Option Editing). All P (items_by (flags h) (chars h) (terms h) after w false)) (sym (wish_none p calm))
-    (settled_made P (flags h) (chars h) (terms h) after None false
-    (new_table_calm s o (chars h) item k.characters c)
-    (mode_sent_made P (linemode after) (asked_mask_of o (terms h).wish) (terms h).wish (wish_asked s (flags h) (terms h).wish k.others (wish_allowed h)))
-    (λ verb. inl refl))))
-    (none_made P (list_replies (chars h) p) (no_answers (chars h) p calm))
+told_made : (P : Item → Type 0) (on : Bool) (m : Modes) (wish : ℕ) → P (Sub 34 (1 ∷ mode_of wish ∷ [])) → All P (mode_items (modes_told on m wish))
+told_made P true m wish p = unless_made P (mode_of wish == m.asked) (mode_of wish) p
+told_made P false m wish p = nothing P
+
+-- what is said once the options and perhaps a wish are new: the table, the mode, the server's ECHO
+negotiated_made : (P : Item → Type 0) (was set : Bool) (f : Flags) (c : Characters) (n : Negotiation) → All P (new_table_items was (linemode n.options) c)
+    → P (Sub 34 (1 ∷ mode_of n.wish ∷ [])) → ((verb : Verb) → P (Neg verb 1)) → All P (negotiation_items was set f c n)
+negotiated_made P was set f c n table p echo =
+    let m = modes_before (differ was (linemode n.options)) n.modes in
+    both P _ _ table (both P _ _ (told_made P (linemode n.options) m n.wish p) (echo_made P (is_due was set n) (wants_echo (masks_by was n).asked f) n.options echo))
+
+-- no table is new if LINEMODE stays
+untold_made : (P : Item → Type 0) (was on : Bool) (c : Characters) → on ≡ was → All P (new_table_items was on c)
+untold_made P was on c same = none_made P _ (ap (λ (b : Bool). new_table_items was b c) same ∙ table_again was c)
+
+sub_calm : (canon : Canon) (old : End) (p : Option Payload) → SaysCalmly p → All (IsCalmToClient canon.settings) (says_sub old p)
+sub_calm canon old None c = nothing (IsCalmToClient canon.settings)
+sub_calm canon old (Some (payload.Mode mask)) c =
+    none_made (IsCalmToClient canon.settings) _ (ap (λ (b : Bool). says_mode_by old (if b then None else Some (edits mask))) c)
+sub_calm canon old (Some (payload.Slc triples)) c = absurd c
+sub_calm canon old (Some p) c = nothing (IsCalmToClient canon.settings)
+
+pub calm_got : (canon : Canon) (old : End) (item : Item) → ServerStays canon old → IsCalmToServer canon.settings item
+    → All (IsCalmToClient canon.settings) (says_item old item)
+calm_got canon old (Byte byte) k c = nothing (IsCalmToClient canon.settings)
+calm_got canon old Newline k c = nothing (IsCalmToClient canon.settings)
+calm_got canon old (Cmd command) k c = nothing (IsCalmToClient canon.settings)
+calm_got canon old (Neg verb option) k (inl e) =
+    let P = IsCalmToClient canon.settings in
+    let o = old.terms.options in
+    both P _ _ (word_made P option (reply_to o verb option) (reply_speaks o verb option) (λ v. inl e))
+    (negotiated_made P (linemode o) false old.terminal.settings.flags old.table (negotiation_heard old verb option)
+    (untold_made P (linemode o) (linemode (options_after_word o verb option)) old.table (words_keep_linemode o verb option e))
+    (wish_asked canon.settings old.terminal.settings.flags old.terms.wish k.flags k.wish) (λ v. inl refl))
+calm_got canon old (Neg verb option) k (inr t) =
+    let P = IsCalmToClient canon.settings in
+    let o = old.terms.options in
+    both P _ _
+    (subst (λ (v : Verb). All P (word_items (reply_to o v option))) (sym t.0)
+    (subst (λ (x : ℕ). All P (word_items (reply_to o Will x))) (sym t.1) (server_asks P o k.agreed k.linemode (inr (refl, refl, t.2)))))
+    (negotiated_made P (linemode o) false old.terminal.settings.flags old.table (negotiation_heard old verb option)
+    (told_calm canon.settings old.table (linemode (options_after_word o verb option) && not (linemode o)) k.chars t.2)
+    (wish_asked canon.settings old.terminal.settings.flags old.terms.wish k.flags k.wish) (λ v. inl refl))
+calm_got canon old (Sub option params) k c =
+    sub_calm canon old (payload_at old.terms.options (Sub option params)) (calm_at canon.settings old.terms.options (Sub option params) c)
 
 -- CALM ITEMS, one after another
-pub record After (canon : Canon) (h : History) (items : List Item) : Type 0 where
-  pub kept : IsKept canon (gets h items)
-  pub core : core_of (gets h items) false ≡ read_all canon (core_of h false) (server_items items)
-  pub said : List Item
-  pub sends : items_said (gets h items) ≡ items_said h ++ said
-  pub made : All (IsCalmToClient canon.settings) said
+pub record After (canon : Canon) (old : End) (items : List Item) : Type 0 where
+  pub stays : ServerStays canon (end_after_items old items)
+  pub core : server_core (end_after_items old items) ≡ read_all canon (server_core old) (server_items items)
+  pub calm : All (IsCalmToClient canon.settings) (says_items old items)
 
-pub goes_on : (canon : Canon) (h : History) (items : List Item) → IsKept canon h → All Fits items → All (IsCalmToServer canon.settings) items
-    → After canon h items
-goes_on canon h [] k f c = record {
-  kept = k;
-  core = refl;
-  said = [];
-  sends = sym (append-nil (items_said h));
-  made = nothing (IsCalmToClient canon.settings);
-}
-goes_on canon h (item ∷ items) k f c =
+pub goes_on : (canon : Canon) (old : End) (items : List Item) → ServerStays canon old → old.failed ≡ false → All Fits items
+    → All (IsCalmToServer canon.settings) items → After canon old items
+goes_on canon old [] k works f c = record { stays = k; core = refl; calm = nothing (IsCalmToClient canon.settings) }
+goes_on canon old (item ∷ items) k works f c =
+    let new = end_after_item old item in
     let calm = All-head (IsCalmToServer canon.settings) item items c in
-    let later = goes_on canon (next h (got item)) items (kept_got canon h item k calm) (All-tail Fits item items f)
-    (All-tail (IsCalmToServer canon.settings) item items c) in
+    let later = goes_on canon new items (stays_got canon old item k calm) (ap (λ (e : End). e.failed) (call_keeps old (got item)) ∙ works)
+    (All-tail Fits item items f) (All-tail (IsCalmToServer canon.settings) item items c) in
     record {
-      kept = later.kept;
-      core = later.core ∙ ap (λ (v : Server). read_all canon v (server_items items)) (core_got canon h item k (All-head Fits item items f) calm);
-      said = replies h (got item) ++ later.said;
-      sends = later.sends ∙ append_assoc (items_said h) (replies h (got item)) later.said;
-      made = both (IsCalmToClient canon.settings) (replies h (got item)) later.said (calm_got canon h item k calm) later.made;
+      stays = later.stays;
+      core = later.core ∙ ap (λ (v : Server). read_all canon v (server_items items)) (core_got canon old item k works (All-head Fits item items f) calm);
+      calm = both (IsCalmToClient canon.settings) (says_item old item) (says_items new items) (calm_got canon old item k calm) later.calm;
     }
 
--- THE LEMMAS ON A PIECE of calm items
-pub feeds_core : (canon : Canon) (h : History) (old new : End) (piece before after : List ℕ) → LeadsTo h old → ServerStays canon old → old.failed ≡ false
-    → (f : Feeds old piece before after new) → All Fits f.items → All (IsCalmToServer canon.settings) f.items
-    → server_core new ≡ read_all canon (server_core old) (server_items f.items)
-feeds_core canon h old new piece before after s stays works f fit calm =
-    let later = goes_on canon h f.items (kept_at canon h old s stays) fit calm in
-    core_at (gets h f.items) new (f.leads h s)
-    ∙ ap (core_of (gets h f.items)) (f.failed ∙ works)
-    ∙ later.core
-    ∙ ap (λ (v : Server). read_all canon v (server_items f.items)) (sym (core_at h old s ∙ ap (core_of h) works))
-
-pub feeds_stays : (canon : Canon) (h : History) (old new : End) (piece before after : List ℕ) → LeadsTo h old → ServerStays canon old → old.failed ≡ false
-    → (f : Feeds old piece before after new) → All Fits f.items → All (IsCalmToServer canon.settings) f.items → ServerStays canon new
-feeds_stays canon h old new piece before after s stays works f fit calm =
-    stays_at canon (gets h f.items) new (f.leads h s) (goes_on canon h f.items (kept_at canon h old s stays) fit calm).kept
-
-pub feeds_replies : (canon : Canon) (h : History) (old new : End) (piece before after : List ℕ) → LeadsTo h old → ServerStays canon old → old.failed ≡ false
-    → (f : Feeds old piece before after new) → All Fits f.items → All (IsCalmToServer canon.settings) f.items → AreReplies canon f.said
-feeds_replies canon h old new piece before after s stays works f fit calm =
-    let later = goes_on canon h f.items (kept_at canon h old s stays) fit calm in
-    replies_of canon f.said (feeds_fit h old new piece before after s f)
-    (subst (All (IsCalmToClient canon.settings)) (append_cancel_left (items_said h) later.said f.said (sym later.sends ∙ f.sends h s)) later.made)
-
--- The entries that wait where the first calm items of a piece were done.
-pub stops_waiting : (canon : Canon) (h : History) (old new : End) (done : List Item) → LeadsTo h old → ServerStays canon old → old.failed ≡ false
-    → LeadsTo (gets h done) new → All Fits done → All (IsCalmToServer canon.settings) done
-    → new.terminal.entries ≡ (read_all canon (server_core old) (server_items done)).waiting
-stops_waiting canon h old new done s stays works stands fit calm =
-    let later = goes_on canon h done (kept_at canon h old s stays) fit calm in
-    sym (waits_are (gets h done) new stands)
-    ∙ ap (λ (v : Server). v.waiting) later.core
-    ∙ ap (λ (v : Server). (read_all canon v (server_items done)).waiting) (sym (core_at h old s ∙ ap (core_of h) works))
+-- the decoder, a failure and a terminal that is shut have no part in it
+pub stays_fed : (canon : Canon) (old new : End) → new ≡ record old { decoder = new.decoder } → ServerStays canon old → ServerStays canon new
+stays_fed canon old new is k =
+    stays_aside canon old new (ap (λ (e : End). e.terms) is) (ap (λ (e : End). e.table) is) (ap (λ (e : End). e.terminal.settings) is)
+    (ap (λ (e : End). e.terminal.line) is) k
 
 -- THE OWNER'S CALLS that change no character
 abbrev pub IsCall : Event → Type 0
@@ -632,25 +622,14 @@ KeepsEntries (char_set func value) = ⊥
 KeepsEntries took = ⊥
 KeepsEntries _ = Unit {0}
 
--- the MODE that is sent for a wish
-told_made : (P : Item → Type 0) (on : Bool) (before : ℕ) (mask : Option ℕ) → ((m : ℕ) → mask ≡ Some m → P (Sub 34 (1 ∷ mode_of m ∷ [])))
-    → All P (mode_items (mode_sent on (asked_mask_while on before) (mask_or before mask)))
-told_made P on before None p = none_made P _ (ap mode_items (told_again on before))
-told_made P true before (Some m) p = unless_made P (mode_of m == mode_of before) (mode_of m) (p m refl)
-told_made P false before (Some m) p = nothing P
-
-wish_calm : (canon : Canon) (h : History) (ed : Editing) → IsKept canon h
-    → All (IsCalmToClient canon.settings) (mode_items (mask_told (terms h) (options h) (wish_after (flags h) (terms h).wish (Some ed))))
-wish_calm canon h ed k =
-    told_made (IsCalmToClient canon.settings) (linemode (options h)) (terms h).wish (mask_for (flags h) ed)
-    (λ m e. mask_asked canon.settings (flags h) ed m k.others e)
-
--- where no wish is new, no MODE is sent
-pub unwished_made : (P : Item → Type 0) (t : Terms) → All P (mode_items (mask_told t t.options t.wish))
-unwished_made P t = none_made P _ (ap mode_items (told_again (linemode t.options) t.wish))
-
-pub untold_made : (P : Item → Type 0) (t : Terms) (c : Characters) → All P (new_table_items (linemode t.options) (linemode t.options) c)
-untold_made P t c = none_made P _ (table_again (linemode t.options) c)
+wished_calm : (canon : Canon) (old : End) (ed : Editing) (mask : Option ℕ) → mask_for old.terminal.settings.flags ed ≡ mask → ServerStays canon old
+    → All (IsCalmToClient canon.settings) (says_wished old mask)
+wished_calm canon old ed None e k = nothing (IsCalmToClient canon.settings)
+wished_calm canon old ed (Some mask) e k =
+    let P = IsCalmToClient canon.settings in
+    let l = linemode old.terms.options in
+    negotiated_made P l false old.terminal.settings.flags old.table (negotiation_wishing old mask) (untold_made P l l old.table refl)
+    (mask_asked canon.settings old.terminal.settings.flags ed mask k.flags e) (λ v. inl refl)
 
 -- symbols that are pulled
 pub pulled_made : (P : Item → Type 0) → ((b : ℕ) → P (Byte b)) → P Newline → (symbols : List Symbol) → All P (map data_of symbols)
@@ -672,118 +651,61 @@ mask_calm : (s : Settings) (octets : List ℕ) (b : Bool) → AsksCalmly s (if b
 mask_calm s octets true = tt
 mask_calm s octets false = tt
 
-pub calm_call : (canon : Canon) (h : History) (e : Event) → IsCall e → IsKept canon h → All (IsCalmToClient canon.settings) (replies h e)
-calm_call canon h (got item) is k = absurd is
-calm_call canon h (char_set func value) is k = absurd is
-calm_call canon h took is k = ga_made (IsCalmToClient canon.settings) tt (sends_ga (none_waits h) (options h) (due h))
-calm_call canon h (wrote bytes) is k = nothing (IsCalmToClient canon.settings)
-calm_call canon h (pulled n) is k = pulled_made (IsCalmToClient canon.settings) (λ b. tt) tt (take n (queue h))
-calm_call canon h (wished ed) is k =
-    settled_made (IsCalmToClient canon.settings) (flags h) (chars h) (terms h) (options h) (Some ed) false
-    (untold_made (IsCalmToClient canon.settings) (terms h) (chars h)) (wish_calm canon h ed k) (λ verb. inl refl)
-calm_call canon h (echo_set on) is k =
-    settled_made (IsCalmToClient canon.settings) (flags (next h (echo_set on))) (chars h) (terms h) (options h) None true
-    (untold_made (IsCalmToClient canon.settings) (terms h) (chars h)) (unwished_made (IsCalmToClient canon.settings) (terms h)) (λ verb. inl refl)
-calm_call canon h (mask_set mask) is k =
+pub calm_call : (canon : Canon) (old : End) (e : Event) → IsCall e → ServerStays canon old → All (IsCalmToClient canon.settings) (says old e)
+calm_call canon old (got item) is k = absurd is
+calm_call canon old (char_set func value) is k = absurd is
+calm_call canon old took is k = ga_made (IsCalmToClient canon.settings) tt (owes_ga old old.terminal.entries)
+calm_call canon old (wrote bytes) is k = nothing (IsCalmToClient canon.settings)
+calm_call canon old (pulled n) is k = pulled_made (IsCalmToClient canon.settings) (λ b. tt) tt (take n old.terminal.queue)
+calm_call canon old (wished ed) is k = wished_calm canon old ed (mask_for old.terminal.settings.flags ed) refl k
+calm_call canon old (echo_set on) is k =
+    echo_made (IsCalmToClient canon.settings) true (wants_echo old.modes.asked (flags_with_echo old on)) old.terms.options (λ v. inl refl)
+calm_call canon old (mask_set mask) is k =
     mask_made (IsCalmToClient canon.settings) (λ octets. mask_calm canon.settings octets (nat_le (length octets) 32)) tt mask
 
-one_more_fits : (b : Bool) (n m : ℕ) → nat_lt n m ≡ b → n ≤ m → (if b then n + 1 else n) ≤ m
-one_more_fits true n m e fits = let less = ltb-true n m e in omega (arith, less)
-one_more_fits false n m e fits = fits
+stays_wished : (canon : Canon) (old : End) (ed : Editing) (mask : Option ℕ) → mask_for old.terminal.settings.flags ed ≡ mask → ServerStays canon old
+    → ServerStays canon (end_after_wish old mask)
+stays_wished canon old ed None e k = k
+stays_wished canon old ed (Some mask) e k =
+    stays_negotiated canon old (linemode old.terms.options) false old.terminal.settings.flags (negotiation_wishing old mask) k.agreed k.linemode
+    (allowed_wish old.terminal.settings.flags ed mask e) k
 
-pub kept_call : (canon : Canon) (h : History) (e : Event) → IsCall e → IsKept canon h → IsKept canon (next h e)
-kept_call canon h (got item) is k = absurd is
-kept_call canon h (char_set func value) is k = absurd is
-kept_call canon h took is k = record {
-  on = k.on;
-  characters = k.characters;
-  others = k.others;
-  line = k.line;
-  fits = one_more_fits (nat_lt (taken_count h) (length (entries h))) (taken_count h) (length (entries h)) refl k.fits;
-}
-kept_call canon h (wrote bytes) is k = record { on = k.on; characters = k.characters; others = k.others; line = k.line; fits = k.fits }
-kept_call canon h (pulled n) is k = record { on = k.on; characters = k.characters; others = k.others; line = k.line; fits = k.fits }
-kept_call canon h (wished ed) is k = record {
-  on = settled_never (flags h) (terms h) (options h) (Some ed) false k.on;
-  characters = k.characters;
-  others = k.others;
-  line = k.line;
-  fits = k.fits;
-}
-kept_call canon h (echo_set on) is k = record {
-  on = settled_never (flags (next h (echo_set on))) (terms h) (options h) None true k.on;
-  characters = k.characters;
-  others = ap (λ (f : Flags). record f { echo = on }) k.others;
-  line = k.line;
-  fits = k.fits;
-}
-kept_call canon h (mask_set mask) is k = record { on = k.on; characters = k.characters; others = k.others; line = k.line; fits = k.fits }
+pub stays_call : (canon : Canon) (old : End) (e : Event) → IsCall e → ServerStays canon old → ServerStays canon (end_after old e)
+stays_call canon old (got item) is k = absurd is
+stays_call canon old (char_set func value) is k = absurd is
+stays_call canon old took is k = stays_aside canon old (end_after old took) refl refl refl refl k
+stays_call canon old (wrote bytes) is k = stays_aside canon old (end_after old (wrote bytes)) refl refl refl refl k
+stays_call canon old (pulled n) is k = stays_aside canon old (end_after old (pulled n)) refl refl refl refl k
+stays_call canon old (wished ed) is k = stays_wished canon old ed (mask_for old.terminal.settings.flags ed) refl k
+stays_call canon old (echo_set on) is k =
+    let wanted = wants_echo old.modes.asked (flags_with_echo old on) in
+    record {
+      agreed = echo_agrees true wanted old.terms.options ∙ k.agreed;
+      linemode = subst NeverEnds (sym (echo_keeps_state true wanted old.terms.options)) k.linemode;
+      wish = k.wish;
+      chars = k.chars;
+      own = k.own;
+      flags = ap (λ (f : Flags). record f { echo = on }) k.flags;
+      limit = k.limit;
+      ahead = k.ahead;
+    }
+stays_call canon old (mask_set mask) is k = k
 
 -- a wish and the flag ECHO change nothing at LINEMODE
-pub terms_keep : (f : Flags) (t : Terms) (ed : Option Editing) (set : Bool) → linemode (terms_by f t t.options ed set).options ≡ linemode t.options
-terms_keep f t ed set =
-    let wish = wish_after f t.wish ed in
-    echo_keeps_linemode (asks_echo t.options t.options (mask_told t t.options wish) set) (wants_echo (asked_mask_of t.options wish) f) t.options
+core_wished : (old : End) (mask : Option ℕ) → server_core (end_after_wish old mask) ≡ server_core old
+core_wished old None = refl
+core_wished old (Some mask) =
+    let l = linemode old.terms.options in
+    core_negotiated old l false old.terminal.settings.flags (negotiation_wishing old mask) ∙ turned_same old l
 
-core_call : (h : History) (e : Event) (failed : Bool) → KeepsEntries e → core_of (next h e) failed ≡ core_of h failed
-core_call h (got item) failed is = absurd is
-core_call h (char_set func value) failed is = absurd is
-core_call h took failed is = absurd is
-core_call h (wrote bytes) failed is = refl
-core_call h (pulled n) failed is = refl
-core_call h (wished ed) failed is = ap (λ (b : Bool). record (core_of h failed) { linemode = b }) (terms_keep (flags h) (terms h) (Some ed) false)
-core_call h (echo_set on) failed is = ap (λ (b : Bool). record (core_of h failed) { linemode = b })
-    (terms_keep (flags (next h (echo_set on))) (terms h) None true)
-core_call h (mask_set mask) failed is = refl
-
--- THE LEMMAS ON A CALL
-pub says_replies : (canon : Canon) (h : History) (old new : End) (e : Event) (before after : List ℕ) → IsCall e → LeadsTo h old → ServerStays canon old
-    → (g : Advances old e before after new) → AreReplies canon g.said
-says_replies canon h old new e before after is s stays g =
-    replies_of canon g.said (goes_fit h old new e before after s g)
-    (subst (All (IsCalmToClient canon.settings)) (g.replies h s) (calm_call canon h e is (kept_at canon h old s stays)))
-
-pub says_stays : (canon : Canon) (h : History) (old new : End) (e : Event) (before after : List ℕ) → IsCall e → LeadsTo h old → ServerStays canon old
-    → Advances old e before after new → ServerStays canon new
-says_stays canon h old new e before after is s stays g =
-    stays_at canon (next h e) new (g.leads h s) (kept_call canon h e is (kept_at canon h old s stays))
-
-pub says_core : (h : History) (old new : End) (e : Event) (before after : List ℕ) → KeepsEntries e → LeadsTo h old → Advances old e before after new
-    → ReadsNothing old new → server_core new ≡ server_core old
-says_core h old new e before after is s g k =
-    core_at (next h e) new (g.leads h s)
-    ∙ ap (core_of (next h e)) k.failed
-    ∙ core_call h e old.failed is
-    ∙ sym (core_at h old s)
-
--- an entry is taken, or none waits: whatever the test says, none is left after none
-still_none : (b : Bool) (n : ℕ) (es : List Entry) → drop n es ≡ [] → drop (if b then n + 1 else n) es ≡ []
-still_none true n es e = sym (drop-drop 1 n es) ∙ ap (λ (xs : List Entry). drop 1 xs) e
-still_none false n es e = e
-
--- what the call gives
-abbrev pub GivesEntry : History → Option Entry → Type 0
-GivesEntry h entry = MatchOption entry (waiting h ≡ []) (λ e. waiting h ≡ e ∷ waiting (next h took))
-
-took_picture : (h : History) (old new : End) (before after : List ℕ) → LeadsTo h old → Advances old took before after new → ReadsNothing old new
-    → server_picture new ≡ record { decoder = old.decoder; core = core_of (next h took) old.failed }
-took_picture h old new before after s g k =
-    ap (λ d. record { decoder = d; core = server_core new }) k.decoder
-    ∙ ap (λ (v : Server). record { decoder = old.decoder; core = v }) (core_at (next h took) new (g.leads h s) ∙ ap (core_of (next h took)) k.failed)
-
-pub took_core : (h : History) (old new : End) (before after : List ℕ) (entry : Option Entry) → LeadsTo h old → Advances old took before after new
-    → ReadsNothing old new → GivesEntry h entry → TakesFirst (server_picture old) (option_to_list entry) (server_picture new)
-took_core h old new before after None s g k gives = (
-  sym (waits_are h old s) ∙ gives,
-  took_picture h old new before after s g k
-      ∙ ap (λ (w : List Entry). record { decoder = old.decoder; core = record (core_of h old.failed) { waiting = w } })
-      (still_none (nat_lt (taken_count h) (length (entries h))) (taken_count h) (entries h) gives ∙ sym gives)
-      ∙ ap (λ (v : Server). record { decoder = old.decoder; core = v }) (sym (core_at h old s)),
-)
-took_core h old new before after (Some e) s g k gives = (
-  waiting (next h took),
-  sym (waits_are h old s) ∙ gives,
-  refl,
-  took_picture h old new before after s g k
-      ∙ ap (λ (v : Server). record { decoder = old.decoder; core = record v { waiting = waiting (next h took) } }) (sym (core_at h old s)),
-)
+pub core_call : (old : End) (e : Event) → KeepsEntries e → server_core (end_after old e) ≡ server_core old
+core_call old (got item) is = absurd is
+core_call old (char_set func value) is = absurd is
+core_call old took is = absurd is
+core_call old (wrote bytes) is = refl
+core_call old (pulled n) is = refl
+core_call old (wished ed) is = core_wished old (mask_for old.terminal.settings.flags ed)
+core_call old (echo_set on) is =
+    ap (λ (b : Bool). record (server_core old) { linemode = b })
+    (echo_keeps_linemode true (wants_echo old.modes.asked (flags_with_echo old on)) old.terms.options)
+core_call old (mask_set mask) is = refl

@@ -1,9 +1,8 @@
 -- What an event adds to Output.
-use Rattle.std.proofs.Common.{◌≡◌, ℕ, Bool, true, false, List, [], ◌∷◌, ◌++◌, map, take, drop, refl, sym, ap, ◌∙◌, subst, append-nil, append_assoc}
+use Rattle.std.proofs.Common.{◌≡◌, ℕ, Bool, true, false, List, [], ◌∷◌, ◌++◌, length, map, min, take, drop, refl, sym, ap, ◌∙◌, subst, append-nil, append_assoc}
 use Rattle.std.specs.Prelude.{All}
-use Rattle.std.specs.List.{flat_map}
 use Rattle.std.proofs.lemmas.Grind.{flat_map-append}
-use Rattle.std.proofs.lemmas.List.{take-append-drop, append_cancel_left}
+use Rattle.std.proofs.lemmas.List.{take-append-drop}
 use Rattle.std.proofs.lemmas.List.Elements.{All-nil}
 use Rattle.tn_discipline.specs.declared.echo.Symbol.{Symbol}
 use Rattle.tn_discipline.specs.declared.echo.Symbol.TheVariants as symbol
@@ -13,14 +12,16 @@ use Rattle.tn_nvt.specs.declared.items.Item.{Item}
 use Rattle.tn_server.specs.Events as server_calls
 use Rattle.tn_server.specs.Faults.{IsOfItem, IsOfPiece}
 use Rattle.tn_server.specs.Replies.{opening, data_of}
-use Rattle.tn_server.specs.Screen.{queue}
+use Rattle.tn_server.specs.Answering as server_answers
 use Rattle.tn_server.specs.Calls as server
+use Rattle.tn_server.specs.Steps as server_steps
 use Rattle.tn_server.specs.declared.faults.ServerFault.{ServerFault}
 use Rattle.tn_server.specs.declared.faults.ServerFault.TheVariants as server_faults
 use Rattle.tn_server.proofs.lemmas.Fitting.{opening-fits}
 use Rattle.tn_client.specs.Events as client_calls
-use Rattle.tn_client.specs.Screen.{item_shown, text_shown as shown_of, symbol_shown}
-use Rattle.tn_client.specs.Calls as client
+use Rattle.tn_client.specs.Screen.{item_shown, symbol_shown}
+use Rattle.tn_client.proofs.lemmas.Standings.{fed_failed}
+use Rattle.tn_client.proofs.lemmas.Courses.{call_decoder}
 use Rattle.tn_world.specs.Past.{HasPast}
 use Rattle.tn_streams.specs.Prefixes.{IsPrefixOf}
 use Rattle.tn_world.specs.Flight.{InFlight}
@@ -33,19 +34,8 @@ use Rattle.tn_world.specs.declared.events.Event.TheVariants.{Key, Send, ToServer
 use Rattle.tn_world.specs.declared.events.Event.TheVariants.{ServerStops, ClientStops}
 use Rattle.tn_world.specs.declared.faults.Cause.{Cause}
 use Rattle.tn_world.proofs.Cut.{start, said_behind, cut_at}
-use Rattle.tn_world.proofs.Soundness.{sound_does, opposite, Refusal, unchanged, by_server, by_client, refusal_of, goes_fit, feeds_fit, halts_fit}
-use Rattle.tn_world.proofs.ServerItems.{IsUnpulled, replies_none, opening_none, feeds_none, halts_none, feeds_queue, goes_queue, halts_queue}
-
-shown-items : (h : client_calls.History) (items : List Item) → shown_of (client_calls.gets h items) ≡ shown_of h ++ flat_map item_shown items
-shown-items h [] = sym (append-nil (shown_of h))
-shown-items h (item ∷ items) = shown-items (client_calls.next h (client_calls.got item)) items
-    ∙ append_assoc (shown_of h) (item_shown item) (flat_map item_shown items)
-
--- what is shown for a piece is what the server wrote
-feeds_text : (h : client_calls.History) (old new : client.End) (piece before after seen now : List ℕ) → client.LeadsTo h old
-    → (f : client.Feeds old piece before after seen now new) → f.text ≡ flat_map item_shown f.items
-feeds_text h old new piece before after seen now s f =
-    append_cancel_left (shown_of h) f.text (flat_map item_shown f.items) (sym (f.shows h s) ∙ shown-items h f.items)
+use Rattle.tn_world.proofs.Soundness.{sound_does, opposite, Refusal, unchanged, by_server, by_client, refusal_of, asked_fit, feeds_fit, halts_fit}
+use Rattle.tn_world.proofs.ServerItems.{IsUnpulled, says_none, opening_none, items_none, halts_none, queue_grows, items_grow}
 
 -- PARTS OF A TEXT
 joined : (text shown flying waiting more : List ℕ) → text ≡ shown ++ (flying ++ waiting) → text ++ more ≡ shown ++ (flying ++ (waiting ++ more))
@@ -103,20 +93,20 @@ same_grows old new e text is o =
 
 types_grows : (old new : World) (key : ℕ) (text : List ℕ) → TypesKey old key new → IsOutput old text → OutputGrows old (Key key) new text
 types_grows old new key text t o =
-    still_grows old new (Key key) text t.keeps.decoder (ap (λ (w : World). w.shown) t.rest) (ap (λ (w : World). w.to_client) t.rest)
-    (ap (λ (w : World). w.server.terminal.queue) t.rest) o
+    still_grows old new (Key key) text (ap (λ (w : World). w.client.decoder) t.step) (ap (λ (w : World). w.shown) t.step) (ap (λ (w : World). w.to_client) t.step)
+    (ap (λ (w : World). w.server.terminal.queue) t.step) o
 
 sends_grows : (old new : World) (command : UserCommand) (text : List ℕ) → SendsCommand old command new → IsOutput old text
     → OutputGrows old (Send command) new text
 sends_grows old new command text t o =
-    still_grows old new (Send command) text t.keeps.decoder (ap (λ (w : World). w.shown) t.rest) (ap (λ (w : World). w.to_client) t.rest)
-    (ap (λ (w : World). w.server.terminal.queue) t.rest) o
+    still_grows old new (Send command) text (ap (λ (w : World). w.client.decoder) t.step) (ap (λ (w : World). w.shown) t.step) (ap (λ (w : World). w.to_client) t.step)
+    (ap (λ (w : World). w.server.terminal.queue) t.step) o
 
 tells_grows : (old new : World) (call : client_calls.Event) (e : Event) (text : List ℕ) → CallsClient old call new → IsOutput old text
     → OutputGrows old e new text
 tells_grows old new call e text t o =
-    still_grows old new e text t.keeps.decoder (ap (λ (w : World). w.shown) t.rest) (ap (λ (w : World). w.to_client) t.rest)
-    (ap (λ (w : World). w.server.terminal.queue) t.rest) o
+    still_grows old new e text (ap (λ (w : World). w.client.decoder) t.step ∙ call_decoder old.client call) (ap (λ (w : World). w.shown) t.step)
+    (ap (λ (w : World). w.to_client) t.step) (ap (λ (w : World). w.server.terminal.queue) t.step) o
 
 -- A CALL OF THE SERVER
 pub record Took (old new : World) (text : List ℕ) : Type 0 where
@@ -124,37 +114,39 @@ pub record Took (old new : World) (text : List ℕ) : Type 0 where
   pub took : new.server.terminal.queue ≡ old.server.terminal.queue ++ symbols
   pub output : IsOutput new (text ++ screen symbols)
 
-goes_took : (old new : World) (e : server_calls.Event) (text : List ℕ) → IsUnpulled e → HasPast old
-    → server.Advances old.server e old.to_client new.to_client new.server → new.client.decoder ≡ old.client.decoder → new.shown ≡ old.shown → IsOutput old text
-    → Took old new text
-goes_took old new e text is s g decoder shown o =
-    let more = goes_queue s.history old.server new.server e old.to_client new.to_client is s.server g in
+goes_took : (old new : World) (e : server_calls.Event) (text : List ℕ) → IsUnpulled e → HasPast old → new.server ≡ server_steps.end_after old.server e
+    → new.to_client ≡ old.to_client ++ spells (server_steps.says old.server e) → new.client.decoder ≡ old.client.decoder → new.shown ≡ old.shown
+    → IsOutput old text → Took old new text
+goes_took old new e text is s there said decoder shown o =
+    let more = queue_grows old.server e is in
+    let took : new.server.terminal.queue ≡ old.server.terminal.queue ++ more.0 = ap (λ (x : server.End). x.terminal.queue) there ∙ more.1 in
     record {
       symbols = more.0;
-      took = more.1;
-      output = says_output old new text g.said more.0 (goes_fit s.history old.server new.server e old.to_client new.to_client s.server g)
-          (ap text_of (sym (g.replies s.history s.server)) ∙ replies_none s.history e is) decoder shown g.appended more.1 o;
+      took = took;
+      output = says_output old new text (server_steps.says old.server e) more.0 (asked_fit s.history old.server e s.server) (says_none old.server e is) decoder
+          shown said took o;
     }
 
 asks_took : (old new : World) (e : server_calls.Event) (text : List ℕ) → IsUnpulled e → HasPast old → CallsServer old e new → IsOutput old text
     → Took old new text
-asks_took old new e text is s a o = goes_took old new e text is s a.goes (ap (λ (w : World). w.client.decoder) a.rest) (ap (λ (w : World). w.shown) a.rest) o
+asks_took old new e text is s a o = goes_took old new e text is s (ap (λ (w : World). w.server) a.step) (ap (λ (w : World). w.to_client) a.step)
+    (ap (λ (w : World). w.client.decoder) a.step) (ap (λ (w : World). w.shown) a.step) o
 
 takes_took : (old new : World) (text : List ℕ) → HasPast old → TakesEntry old new → IsOutput old text → Took old new text
-takes_took old new text s a o = goes_took old new server_calls.took text tt s a.goes (ap (λ (w : World). w.client.decoder) a.rest)
-    (ap (λ (w : World). w.shown) a.rest) o
+takes_took old new text s a o = goes_took old new server_calls.took text tt s (ap (λ (w : World). w.server) a) (ap (λ (w : World). w.to_client) a)
+    (ap (λ (w : World). w.client.decoder) a) (ap (λ (w : World). w.shown) a) o
 
 -- a delivery to the server
 reaches_took : (old new : World) (n : ℕ) (text : List ℕ) → HasPast old → DeliversToServer old n new → IsOutput old text → Took old new text
 reaches_took old new n text s r o =
-    let more = feeds_queue s.history old.server new.server (take n old.to_server) old.to_client new.to_client s.server r.feeds in
+    let f = r.feeds in
+    let more = items_grow old.server f.items in
+    let took : new.server.terminal.queue ≡ old.server.terminal.queue ++ more.0 = ap (λ (x : server.End). x.terminal.queue) f.step ∙ more.1 in
     record {
       symbols = more.0;
-      took = more.1;
-      output = says_output old new text r.feeds.said more.0 (feeds_fit s.history old.server new.server
-          (take n old.to_server) old.to_client new.to_client s.server r.feeds)
-          (feeds_none s.history old.server new.server (take n old.to_server) old.to_client new.to_client s.server r.feeds)
-          (ap (λ (w : World). w.client.decoder) r.rest) (ap (λ (w : World). w.shown) r.rest) r.feeds.appended more.1 o;
+      took = took;
+      output = says_output old new text (server_steps.says_items old.server f.items) more.0 (feeds_fit s.history old.server f.items s.server)
+          (items_none old.server f.items) (ap (λ (w : World). w.client.decoder) r.rest) (ap (λ (w : World). w.shown) r.rest) f.said took o;
     }
 
 -- A PULL: symbols leave the queue as items
@@ -172,29 +164,28 @@ cut_screen n symbols = sym (flat_map-append symbol_shown (take n symbols) (drop 
 
 pulls_grows : (old new : World) (n : ℕ) (text : List ℕ) → HasPast old → Pulls old n new → IsOutput old text → OutputGrows old (Pull n) new text
 pulls_grows old new n text s p o =
-    let h = s.history in
-    let g = p.asks.goes in
-    let is_text : text_of g.said ≡ screen (take p.count (queue h)) = ap text_of (sym (g.replies h s.server)) ∙ data_text (take p.count (queue h)) in
-    let stands = g.leads h s.server in
+    let queue = old.server.terminal.queue in
+    let count = min n (length queue) in
+    let said = map data_of (take count queue) in
+    let fit = asked_fit s.history old.server (server_calls.pulled count) s.server in
     record {
       symbols = [];
       took = refl;
       none = refl;
       output = record {
-        items = o.items ++ g.said;
+        items = o.items ++ said;
         flight =
-            subst (λ (d : DecoderState). InFlight d new.to_client (o.items ++ g.said)) (sym (ap (λ (w : World). w.client.decoder) p.asks.rest))
-            (said_behind old.client.decoder old.to_client new.to_client o.items g.said g.appended
-            (goes_fit h old.server new.server (server_calls.pulled p.count) old.to_client new.to_client s.server g) o.flight);
+            subst (λ (d : DecoderState). InFlight d new.to_client (o.items ++ said)) (sym (ap (λ (w : World). w.client.decoder) p.step))
+            (said_behind old.client.decoder old.to_client new.to_client o.items said (ap (λ (w : World). w.to_client) p.step) fit o.flight);
         is =
             append-nil text ∙ o.is
-            ∙ ap (λ (x : List ℕ). old.shown ++ x) (moved (text_of o.items) (screen old.server.terminal.queue) (screen (take p.count (queue h)))
-            (screen (drop p.count (queue h))) (cut_screen p.count (queue h) ∙ ap screen (sym s.server.queue)))
-            ∙ parts old.shown (text_of o.items ++ screen (take p.count (queue h))) (screen (drop p.count (queue h))) new.shown (text_of (o.items ++ g.said))
+            ∙ ap (λ (x : List ℕ). old.shown ++ x) (moved (text_of o.items) (screen queue) (screen (take count queue)) (screen (drop count queue))
+            (cut_screen count queue))
+            ∙ parts old.shown (text_of o.items ++ screen (take count queue)) (screen (drop count queue)) new.shown (text_of (o.items ++ said))
             (screen new.server.terminal.queue)
-            (sym (ap (λ (w : World). w.shown) p.asks.rest))
-            (ap (λ (x : List ℕ). text_of o.items ++ x) (sym is_text) ∙ sym (flat_map-append item_shown o.items g.said))
-            (ap screen (sym stands.queue));
+            (sym (ap (λ (w : World). w.shown) p.step))
+            (ap (λ (x : List ℕ). text_of o.items ++ x) (sym (data_text (take count queue))) ∙ sym (flat_map-append item_shown o.items said))
+            (ap screen (sym (ap (λ (w : World). w.server.terminal.queue) p.step)));
       };
     }
 
@@ -208,9 +199,7 @@ returns_grows old new n text s runs r o =
     let f = r.feeds in
     let at = (s.client_course runs).1 in
     let d = cut_at old.client.decoder new.client.decoder n old.to_client o.items f.items o.flight f.reads in
-    let is_shown : new.shown ≡ old.shown ++ text_of f.items =
-    f.displayed ∙ ap (λ (x : List ℕ). old.shown ++ x) (feeds_text at.history old.client new.client
-    (take n old.to_client) old.to_server new.to_server old.shown new.shown at.leads f) in
+    let is_shown : new.shown ≡ old.shown ++ text_of f.items = f.shown in
     let queued : new.server.terminal.queue ≡ old.server.terminal.queue = ap (λ (w : World). w.server.terminal.queue) r.rest in
     record {
       symbols = [];
@@ -289,23 +278,23 @@ on_unless true old new happens done is = ap (λ (w : World). w.client.failed) is
 on_unless false old new happens done is = done is
 
 asks_on : (old new : World) (e : server_calls.Event) → CallsServer old e new → KeepsOn old new
-asks_on old new e a = ap (λ (w : World). w.client.failed) a.rest
+asks_on old new e a = ap (λ (w : World). w.client.failed) a.step
 
 pub goes_on : (old new : World) (e : Event) → RunsEvent old e new → KeepsOn old new
-goes_on old new (Key key) d = on_unless old.client_stopped old new (TypesKey old key new) (λ t. t.keeps.failed) d
-goes_on old new (Send command) d = on_unless old.client_stopped old new (SendsCommand old command new) (λ t. t.keeps.failed) d
+goes_on old new (Key key) d = on_unless old.client_stopped old new (TypesKey old key new) (λ t. ap (λ (w : World). w.client.failed) t.step) d
+goes_on old new (Send command) d = on_unless old.client_stopped old new (SendsCommand old command new) (λ t. ap (λ (w : World). w.client.failed) t.step) d
 goes_on old new (ToServer n) d = on_unless old.server_stopped old new (DeliversToServer old n new) (λ r. ap (λ (w : World). w.client.failed) r.rest) d
-goes_on old new (ToClient n) d = on_unless old.client_stopped old new (DeliversToClient old n new) (λ r. r.feeds.failed) d
+goes_on old new (ToClient n) d = on_unless old.client_stopped old new (DeliversToClient old n new) (λ r. fed_failed old.client new.client _ _ _ _ _ r.feeds) d
 goes_on old new (Write bytes) d = on_unless old.server_stopped old new (CallsServer old (server_calls.wrote bytes) new)
     (asks_on old new (server_calls.wrote bytes)) d
-goes_on old new (Pull n) d = on_unless old.server_stopped old new (Pulls old n new) (λ p. asks_on old new (server_calls.pulled p.count) p.asks) d
-goes_on old new Take d = ap (λ (w : World). w.client.failed) d.rest
+goes_on old new (Pull n) d = on_unless old.server_stopped old new (Pulls old n new) (asks_on old new (server_calls.pulled (min n (length old.server.terminal.queue)))) d
+goes_on old new Take d = ap (λ (w : World). w.client.failed) d
 goes_on old new (Wish editing) d = on_unless old.server_stopped old new (CallsServer old (server_calls.wished editing) new)
     (asks_on old new (server_calls.wished editing)) d
-goes_on old new (Resize width height) d = on_unless old.client_stopped old new (CallsClient old (client_calls.resized width height) new) (λ t. t.keeps.failed) d
+goes_on old new (Resize width height) d = on_unless old.client_stopped old new (CallsClient old (client_calls.resized width height) new) (λ t. ap (λ (w : World). w.client.failed) t.step) d
 goes_on old new (SetChar func value) d = on_unless old.server_stopped old new (CallsServer old (server_calls.char_set func value) new)
     (asks_on old new (server_calls.char_set func value)) d
-goes_on old new (Propose func value) d = on_unless old.client_stopped old new (CallsClient old (client_calls.proposed func value) new) (λ t. t.keeps.failed) d
+goes_on old new (Propose func value) d = on_unless old.client_stopped old new (CallsClient old (client_calls.proposed func value) new) (λ t. ap (λ (w : World). w.client.failed) t.step) d
 goes_on old new (Echo on) d = on_unless old.server_stopped old new (CallsServer old (server_calls.echo_set on) new)
     (asks_on old new (server_calls.echo_set on)) d
 goes_on old new (Mask mask) d = on_unless old.server_stopped old new (CallsServer old (server_calls.mask_set mask) new)
@@ -315,16 +304,17 @@ goes_on old new ClientStops d = ap (λ (w : World). w.client.failed) d
 
 -- A REFUSED EVENT adds to it as long as the client does not fail
 halted : (old new : World) (n : ℕ) (fault : ServerFault) (text : List ℕ) → HasPast old → ServerRefusesDelivery old n fault new → IsOutput old text
-    → server.StopsWithin old.server (take n old.to_server) fault old.to_client new.to_client new.server → Took old new text
+    → server_answers.StopsWithin old.server (take n old.to_server) fault old.to_client new.to_client new.server → Took old new text
 halted old new n fault text s r o x =
-    let more = halts_queue s.history old.server new.server (take n old.to_server) old.to_client new.to_client fault s.server x in
+    let more = items_grow old.server x.done in
+    let took : new.server.terminal.queue ≡ old.server.terminal.queue ++ more.0 = ap (λ (e : server.End). e.terminal.queue) x.step ∙ more.1 in
     record {
       symbols = more.0;
-      took = more.1;
-      output = says_output old new text (x.said ++ x.part) more.0
+      took = took;
+      output = says_output old new text (server_steps.says_items old.server x.done ++ x.part) more.0
           (halts_fit s.history old.server new.server (take n old.to_server) old.to_client new.to_client fault s.server x)
-          (halts_none s.history old.server new.server (take n old.to_server) old.to_client new.to_client fault s.server x)
-          (ap (λ (w : World). w.client.decoder) r.rest) (ap (λ (w : World). w.shown) r.rest) x.appended more.1 o;
+          (halts_none old.server new.server (take n old.to_server) old.to_client new.to_client fault x)
+          (ap (λ (w : World). w.client.decoder) r.rest) (ap (λ (w : World). w.shown) r.rest) x.said took o;
     }
 
 halts_took : (old new : World) (n : ℕ) (fault : ServerFault) (text : List ℕ) → HasPast old → ServerRefusesDelivery old n fault new → IsOutput old text

@@ -1,5 +1,5 @@
 -- Whatever happens, each end stands where some history leads, and what flies to an end that goes on are whole items.
-use Rattle.std.proofs.Common.{◌≡◌, ℕ, Bool, true, false, Some, None, List, [], ◌∷◌, ◌++◌, take, drop, refl, sym, ap, ◌∙◌, subst, if◌then◌else◌, append-nil}
+use Rattle.std.proofs.Common.{◌≡◌, ℕ, Bool, true, false, Some, None, List, [], ◌∷◌, ◌++◌, length, min, take, drop, refl, sym, ap, ◌∙◌, subst, if◌then◌else◌, append-nil}
 use Rattle.std.specs.Prelude.{All}
 use Rattle.std.proofs.lemmas.List.Elements.{All-nil, All-append}
 use Rattle.tn_nvt.specs.declared.items.Item.{Item}
@@ -15,18 +15,26 @@ use Rattle.tn_server.specs.Course as server_courses
 use Rattle.tn_server.specs.Events as server_calls
 use Rattle.tn_server.specs.Faults.{IsOfItem, IsOfPiece}
 use Rattle.tn_server.specs.Replies as server_says
+use Rattle.tn_server.specs.Answering as server_answers
 use Rattle.tn_server.specs.Calls as server
+use Rattle.tn_server.specs.Steps as server_steps
 use Rattle.tn_server.specs.declared.faults.ServerFault.{ServerFault}
 use Rattle.tn_server.specs.declared.faults.ServerFault.TheVariants as server_faults
 use Rattle.tn_server.proofs.lemmas.Courses as server_on
 use Rattle.tn_server.proofs.lemmas.Fitting as server_fits
+use Rattle.tn_server.proofs.lemmas.Gathering as server_gathers
 use Rattle.tn_server.proofs.lemmas.Histories.{limit-gets}
+use Rattle.tn_server.proofs.lemmas.Leading as server_leads
+use Rattle.tn_server.proofs.lemmas.Stopping.{stands_stopped}
 use Rattle.tn_server.proofs.lemmas.Words as server_words
 use Rattle.tn_client.specs.Course as client_courses
 use Rattle.tn_client.specs.Events as client_calls
 use Rattle.tn_client.specs.Lines.{line_limit}
 use Rattle.tn_client.specs.Replies as client_says
+use Rattle.tn_client.specs.Answering as answers
 use Rattle.tn_client.specs.Calls as client
+use Rattle.tn_client.specs.Steps.{end_after, says, end_after_items, says_items}
+use Rattle.tn_client.proofs.lemmas.Standings.{stands, says_as, stands_all, says_all, stands_fed}
 use Rattle.tn_client.specs.declared.faults.ClientFault.{ClientFault}
 use Rattle.tn_client.specs.declared.faults.ClientFault.TheVariants as client_faults
 use Rattle.tn_client.proofs.lemmas.Courses as client_on
@@ -43,7 +51,7 @@ use Rattle.tn_world.specs.declared.events.Event.TheVariants.{ServerStops, Client
 use Rattle.tn_world.specs.declared.faults.Cause.{Cause}
 use Rattle.tn_world.specs.declared.faults.Cause.TheVariants as cause
 use Rattle.tn_world.proofs.Cut.{said_behind, cut_at}
-use Rattle.tn_world.proofs.Tied.{all_parts}
+use Rattle.tn_world.proofs.Reading.{all_parts}
 use Rattle.tn_world.proofs.Saying.{says_no_wish, said_no_wish}
 
 -- what is true and false is nothing
@@ -51,9 +59,8 @@ pub opposite : (b : Bool) (A : Type 0) → b ≡ true → b ≡ false → A
 opposite b A p q = absurd (cc)
 
 -- WHAT IS SAID FITS A STREAM
-pub goes_fit : (h : server_calls.History) (old new : server.End) (e : server_calls.Event) (before after : List ℕ) → server.LeadsTo h old
-    → (g : server.Advances old e before after new) → All Fits g.said
-goes_fit h old new e before after s g = subst (All Fits) (g.replies h s) (server_fits.replies-fit h e)
+pub asked_fit : (h : server_calls.History) (old : server.End) (e : server_calls.Event) → server.LeadsTo h old → All Fits (server_steps.says old e)
+asked_fit h old e s = subst (All Fits) (server_leads.says_as h old e s) (server_fits.replies-fit h e)
 
 later_fit : (all before said : List Item) → all ≡ before ++ said → All Fits all → All Fits said
 later_fit all before said is fit = (all_parts Fits before said (subst (All Fits) is fit)).1
@@ -61,46 +68,38 @@ later_fit all before said is fit = (all_parts Fits before said (subst (All Fits)
 front_fit : (all part rest : List Item) → all ≡ part ++ rest → All Fits all → All Fits part
 front_fit all part rest is fit = (all_parts Fits part rest (subst (All Fits) is fit)).0
 
-pub feeds_fit : (h : server_calls.History) (old new : server.End) (piece before after : List ℕ) → server.LeadsTo h old
-    → (f : server.Feeds old piece before after new) → All Fits f.said
-feeds_fit h old new piece before after s f = later_fit (server_says.items_said (server_calls.gets h f.items)) (server_says.items_said h) f.said (f.sends h s)
-    (server_fits.sent-fit (server_calls.gets h f.items))
+pub feeds_fit : (h : server_calls.History) (old : server.End) (items : List Item) → server.LeadsTo h old → All Fits (server_steps.says_items old items)
+feeds_fit h old items s = later_fit (server_says.items_said (server_calls.gets h items)) (server_says.items_said h) (server_steps.says_items old items)
+    (server_leads.says_all h old items s) (server_fits.sent-fit (server_calls.gets h items))
 
-first_fit : (h : server_calls.History) (left part rest : List Item) → server.first_replies h left ≡ part ++ rest → All Fits part
-first_fit h [] part rest is = front_fit [] part rest is (All-nil Fits)
-first_fit h (item ∷ left) part rest is = front_fit (server_says.replies h (server_calls.got item)) part rest is
-    (server_fits.replies-fit h (server_calls.got item))
+first_fit : (h : server_calls.History) (end : server.End) (left part rest : List Item) → server.LeadsTo h end
+    → server_answers.first_said end left ≡ part ++ rest → All Fits part
+first_fit h end [] part rest s is = front_fit [] part rest is (All-nil Fits)
+first_fit h end (item ∷ left) part rest s is = front_fit (server_steps.says_item end item) part rest is (asked_fit h end (server_calls.got item) s)
 
 pub halts_fit : (h : server_calls.History) (old new : server.End) (piece before after : List ℕ) (fault : ServerFault) → server.LeadsTo h old
-    → (x : server.StopsWithin old piece fault before after new) → All Fits (x.said ++ x.part)
+    → (x : server_answers.StopsWithin old piece fault before after new) → All Fits (server_steps.says_items old x.done ++ x.part)
 halts_fit h old new piece before after fault s x =
-    let b = x.begins h s in
-    All-append Fits x.said x.part
-    (later_fit (server_says.items_said (server_calls.gets h x.done)) (server_says.items_said h) x.said (x.sends h s)
-    (server_fits.sent-fit (server_calls.gets h x.done)))
-    (first_fit (server_calls.gets h x.done) x.left x.part b.0 b.1)
+    All-append Fits (server_steps.says_items old x.done) x.part (feeds_fit h old x.done s)
+    (first_fit (server_calls.gets h x.done) (server_steps.end_after_items old x.done) x.left x.part x.rest (server_leads.stands_all h old x.done s) x.begins)
 
-pub sends_fit : (h : client_calls.History) (old : client.End) (e : client_calls.Event) (before after : List ℕ) → client.LeadsTo h old
-    → (g : client.Sends old e before after) → All Fits g.said
-sends_fit h old e before after s g = subst (All Fits) (g.replies h s) (client_fits.replies-fit h e)
+pub says_fit : (h : client_calls.History) (old : client.End) (e : client_calls.Event) → client.LeadsTo h old → All Fits (says old e)
+says_fit h old e s = subst (All Fits) (says_as h old e s) (client_fits.replies-fit h e)
 
-pub came_fit : (h : client_calls.History) (old new : client.End) (piece before after seen now : List ℕ) → client.LeadsTo h old
-    → (f : client.Feeds old piece before after seen now new) → All Fits f.said
-came_fit h old new piece before after seen now s f = later_fit (client_says.items_said (client_calls.gets h f.items)) (client_says.items_said h) f.said
-    (f.sends h s) (client_fits.sent-fits (client_calls.gets h f.items))
+pub items_fit : (h : client_calls.History) (old : client.End) (items : List Item) → client.LeadsTo h old → All Fits (says_items old items)
+items_fit h old items s = later_fit (client_says.items_said (client_calls.gets h items)) (client_says.items_said h) (says_items old items) (says_all h old items s)
+    (client_fits.sent-fits (client_calls.gets h items))
 
-gave_fit : (h : client_calls.History) (left part : List Item) (here : DecoderState) (back : List ℕ) → client.IsStopCause h left part here back → All Fits part
-gave_fit h [] part here back g = subst (All Fits) (sym g.0) (All-nil Fits)
-gave_fit h (item ∷ later) part here back g = front_fit (client_says.replies h (client_calls.got item)) part g.rest g.whole
-    (client_fits.replies-fit h (client_calls.got item))
+gave_fit : (h : client_calls.History) (end : client.End) (left part : List Item) (here : DecoderState) (back : List ℕ) → client.LeadsTo h end
+    → answers.IsStopCause end left part here back → All Fits part
+gave_fit h end [] part here back s g = subst (All Fits) (sym g.0) (All-nil Fits)
+gave_fit h end (item ∷ later) part here back s g = front_fit (says end (client_calls.got item)) part g.rest g.whole (says_fit h end (client_calls.got item) s)
 
 pub breaks_fit : (h : client_calls.History) (old : client.End) (piece before after seen now stream : List ℕ) (had : List Item) → client.LeadsTo h old
-    → LeadsTo stream had old.decoder → (x : client.StopsWithin old piece before after seen now) → All Fits (x.said ++ x.part)
+    → LeadsTo stream had old.decoder → (x : answers.StopsWithin old piece before after seen now) → All Fits (says_items old x.done ++ x.part)
 breaks_fit h old piece before after seen now stream had s r x =
-    All-append Fits x.said x.part
-    (later_fit (client_says.items_said (client_calls.gets h x.done)) (client_says.items_said h) x.said (x.sends h s)
-    (client_fits.sent-fits (client_calls.gets h x.done)))
-    (gave_fit (client_calls.gets h x.done) x.left x.part x.here x.back (x.cause h stream had s r))
+    All-append Fits (says_items old x.done) x.part (items_fit h old x.done s)
+    (gave_fit (client_calls.gets h x.done) (end_after_items old x.done) x.left x.part x.here x.back (stands_all h old x.done s) (x.cause stream had r))
 
 -- WHO IS ASKED GOES ON
 pub call_goes_on : (end : client.End) → client.call_fault end ≡ None → end.failed ≡ false
@@ -184,36 +183,34 @@ made w h stands of_server of_client limit opened there here words unwished =
     }
 
 -- a call of the client
-module _ (old new : World) (e : client_calls.Event) (call : client_courses.IsCall e) (g : client.Advances old.client e new.client)
-    (k : client.ReadsNothing old.client new.client) (sends : client.Sends old.client e old.to_server new.to_server) (runs : old.client.failed ≡ false)
-    (s : HasPast old) where
-  told_now : (c : client_courses.Course) × client_courses.CourseLeadsTo c new.client
-  told_now = let before = s.client_course runs in (client_courses.called before.0 e, client_on.called_at before.0 old.client new.client e before.1 call g k)
+abbrev told : World → client_calls.Event → World
+told old e = record old { client = end_after old.client e; to_server = old.to_server ++ spells (says old.client e) }
 
-  pub told_limit : new.client.line.limit ≡ old.client.line.limit
+module _ (old : World) (e : client_calls.Event) (call : client_courses.IsCall e) (runs : old.client.failed ≡ false) (s : HasPast old) where
+  pub told_limit : (end_after old.client e).line.limit ≡ old.client.line.limit
   told_limit =
       let at = (s.client_course runs).1 in
-      let after = g.leads at.history at.leads in
       let before = at.leads in
+      let after = stands at.history old.client e at.leads in
       after.limit ∙ sym before.limit
 
-  pub told_sound : HasPast (record old { client = new.client; to_server = new.to_server })
+  pub told_sound : HasPast (told old e)
   told_sound =
-      let at = (s.client_course runs).1 in
-      made (record old { client = new.client; to_server = new.to_server }) s.history s.server s.server_course (λ b. told_now)
+      let course = s.client_course runs in
+      let at = course.1 in
+      let said = says old.client e in
+      made (told old e) s.history s.server s.server_course (λ b. (client_courses.called course.0 e, client_on.called_at course.0 old.client e at call))
       (λ b. told_limit ∙ s.limit runs)
       s.takes_keys
       (λ a. let f = s.to_server a in (
-        f.0 ++ sends.said,
-        said_behind old.server.decoder old.to_server new.to_server f.0 sends.said sends.appended
-            (sends_fit at.history old.client e old.to_server new.to_server at.leads sends) f.1,
+        f.0 ++ said,
+        said_behind old.server.decoder old.to_server (told old e).to_server f.0 said refl (says_fit at.history old.client e at.leads) f.1,
       ))
-      (λ b. let f = s.to_client runs in (f.0, subst (λ d. InFlight d old.to_client f.0) (sym k.decoder) f.1))
-      (λ a b. wordless old.server.terms.options old.client.options new.client.options (s.to_server a).0 sends.said (words_in (s.to_client runs).0)
-      (client_words.advances_keeps at.history old.client new.client e call at.leads g)
-      (client_words.sends_none at.history old.client e old.to_server new.to_server call at.leads sends) (s.words a runs))
-      (λ a b. All-append WishesNothing (s.to_server a).0 sends.said (s.unwished a runs)
-      (subst (All WishesNothing) (sends.replies at.history at.leads) (says_no_wish at.history e)))
+      (λ b. let f = s.to_client runs in (f.0, subst (λ d. InFlight d old.to_client f.0) (sym (client_on.call_decoder old.client e)) f.1))
+      (λ a b. wordless old.server.terms.options old.client.options (told old e).client.options (s.to_server a).0 said (words_in (s.to_client runs).0)
+      (client_words.keeps_options old.client e call) (client_words.says_none at.history old.client e call at.leads) (s.words a runs))
+      (λ a b. All-append WishesNothing (s.to_server a).0 said (s.unwished a runs)
+      (subst (All WishesNothing) (says_as at.history old.client e at.leads) (says_no_wish at.history e)))
 
 -- what no part of the invariant looks at
 pub sound_as : (old new : World) → new.server ≡ old.server → new.client ≡ old.client → new.to_server ≡ old.to_server → new.to_client ≡ old.to_client
@@ -239,74 +236,68 @@ sound_as old new a b c d s =
 
 pub sound_types : (old new : World) (key : ℕ) → TypesKey old key new → HasPast old → HasPast new
 sound_types old new key t s =
-    let runs = propose_goes_on old.client (client_calls.typed key) t.accepted in
-    subst (λ w. HasPast w) (sym t.rest)
-    (sound_as (record old { client = new.client; to_server = new.to_server })
-    (record old { client = new.client; to_server = new.to_server; echoed = new.echoed; typed = old.typed ++ key ∷ [] }) refl refl refl refl
-    (told_sound old new (client_calls.typed key) tt t.goes t.keeps t.sends runs s))
+    subst (λ w. HasPast w) (sym t.step)
+    (sound_as (told old (client_calls.typed key)) _ refl refl refl refl
+    (told_sound old (client_calls.typed key) tt (propose_goes_on old.client (client_calls.typed key) t.accepted) s))
 
 pub sound_sends : (old new : World) (command : UserCommand) → SendsCommand old command new → HasPast old → HasPast new
 sound_sends old new command t s =
-    let runs = propose_goes_on old.client (client_calls.sent command) t.accepted in
-    subst (λ w. HasPast w) (sym t.rest)
-    (sound_as (record old { client = new.client; to_server = new.to_server }) _ refl refl refl refl
-    (told_sound old new (client_calls.sent command) tt t.goes t.keeps t.sends runs s))
+    subst (λ w. HasPast w) (sym t.step)
+    (sound_as (told old (client_calls.sent command)) _ refl refl refl refl
+    (told_sound old (client_calls.sent command) tt (propose_goes_on old.client (client_calls.sent command) t.accepted) s))
 
 pub sound_tells : (old new : World) (e : client_calls.Event) → client_courses.IsCall e → CallsClient old e new → HasPast old → HasPast new
-sound_tells old new e call t s =
-    let runs = propose_goes_on old.client e t.accepted in
-    subst (λ w. HasPast w) (sym t.rest) (told_sound old new e call t.goes t.keeps t.sends runs s)
+sound_tells old new e call t s = subst (λ w. HasPast w) (sym t.step) (told_sound old e call (propose_goes_on old.client e t.accepted) s)
 
 -- a call of the server
-module _ (old new : World) (e : server_calls.Event) (call : server_courses.IsCall e) (g : server.Advances old.server e old.to_client new.to_client new.server)
-    (k : server.ReadsNothing old.server new.server) (s : HasPast old) where
-  asked_limit : new.server.terminal.line.limit ≡ old.server.terminal.line.limit
-  asked_limit =
-      let after = g.leads s.history s.server in
-      let before = s.server in
-      after.limit ∙ sym before.limit
+abbrev asked : World → server_calls.Event → World
+asked old e = record old { server = server_steps.end_after old.server e; to_client = old.to_client ++ spells (server_steps.says old.server e) }
 
-  pub asked_sound : HasPast (record old { server = new.server; to_client = new.to_client })
-  asked_sound =
-      made (record old { server = new.server; to_client = new.to_client }) (server_calls.next s.history e) (g.leads s.history s.server)
-      (λ r. let x = s.server_course (sym k.failed ∙ r) in (
-        server_courses.called x.0 e,
-        server_on.called_on x.0 old.server new.server e old.to_client new.to_client x.1 call g k,
-      ))
-      s.client_course
-      (λ b. s.limit b ∙ sym asked_limit)
-      (λ a. g.closed ∙ s.takes_keys (sym k.failed ∙ a))
-      (λ a. let f = s.to_server (sym k.failed ∙ a) in (f.0, subst (λ d. InFlight d old.to_server f.0) (sym k.decoder) f.1))
-      (λ b. let f = s.to_client b in (
-        f.0 ++ g.said,
-        said_behind old.client.decoder old.to_client new.to_client f.0 g.said g.appended
-            (goes_fit s.history old.server new.server e old.to_client new.to_client s.server g) f.1,
-      ))
-      (λ a b.
-      let ws = words_in (s.to_server (sym k.failed ∙ a)).0 in
-      let y = (s.to_client b).0 in
-      said_back new.server.terms.options old.client.options ws y g.said
-      (leads_on old.server.terms.options old.client.options new.server.terms.options old.client.options ws (words_in y) ws (words_in y ++ words_in g.said)
-      (server_words.advances_moves s.history old.server new.server e old.to_client new.to_client old.client.options ws (words_in y) call s.server g)
-      (s.words (sym k.failed ∙ a) b)))
-      (λ a b. s.unwished (sym k.failed ∙ a) b)
+pub asked_sound : (old : World) (e : server_calls.Event) → server_courses.IsCall e → HasPast old → HasPast (asked old e)
+asked_sound old e call s =
+    let end = server_steps.end_after old.server e in
+    let said = server_steps.says old.server e in
+    let keeps : end ≡ server_gathers.aside old.server.decoder old.server.failed old.server.terminal.closed end = server_gathers.call_keeps old.server e in
+    let failed : end.failed ≡ old.server.failed = ap (λ (x : server.End). x.failed) keeps in
+    let leads = server_leads.stands s.history old.server e s.server in
+    let before = s.server in
+    made (asked old e) (server_calls.next s.history e) leads
+    (λ r. let x = s.server_course (sym failed ∙ r) in (server_courses.called x.0 e, server_on.called_on x.0 old.server e x.1 call))
+    s.client_course
+    (λ b. s.limit b ∙ before.limit ∙ sym leads.limit)
+    (λ a. ap (λ (x : server.End). x.terminal.closed) keeps ∙ s.takes_keys (sym failed ∙ a))
+    (λ a. let f = s.to_server (sym failed ∙ a) in
+    (f.0, subst (λ d. InFlight d old.to_server f.0) (sym (ap (λ (x : server.End). x.decoder) keeps)) f.1))
+    (λ b. let f = s.to_client b in (
+      f.0 ++ said,
+      said_behind old.client.decoder old.to_client (asked old e).to_client f.0 said refl (asked_fit s.history old.server e s.server) f.1,
+    ))
+    (λ a b.
+    let ws = words_in (s.to_server (sym failed ∙ a)).0 in
+    let y = (s.to_client b).0 in
+    said_back end.terms.options old.client.options ws y said
+    (leads_on old.server.terms.options old.client.options end.terms.options old.client.options ws (words_in y) ws (words_in y ++ words_in said)
+    (server_words.event_moves s.history old.server e old.client.options ws (words_in y) call s.server) (s.words (sym failed ∙ a) b)))
+    (λ a b. s.unwished (sym failed ∙ a) b)
 
 pub sound_asks : (old new : World) (e : server_calls.Event) → server_courses.IsCall e → CallsServer old e new → HasPast old → HasPast new
-sound_asks old new e call t s = subst (λ w. HasPast w) (sym t.rest) (asked_sound old new e call t.goes t.keeps s)
+sound_asks old new e call t s = subst (λ w. HasPast w) (sym t.step) (asked_sound old e call s)
 
 pub sound_takes : (old new : World) → TakesEntry old new → HasPast old → HasPast new
 sound_takes old new t s =
-    subst (λ w. HasPast w) (sym t.rest)
-    (sound_as (record old { server = new.server; to_client = new.to_client }) _ refl refl refl refl (asked_sound old new server_calls.took tt t.goes t.keeps s))
+    subst (λ w. HasPast w) (sym t) (sound_as (asked old server_calls.took) _ refl refl refl refl (asked_sound old server_calls.took tt s))
 
 -- a delivery to the server
 pub sound_reaches : (old new : World) (n : ℕ) → DeliversToServer old n new → HasPast old → HasPast new
 sound_reaches old new n t s =
     let f = t.feeds in
     let piece = take n old.to_server in
-    let after = f.leads s.history s.server in
+    let said = server_steps.says_items old.server f.items in
+    let after = server_leads.stands_fed s.history old.server new.server piece old.to_client new.to_client f s.server in
     let before = s.server in
-    let runs : new.server.failed ≡ false → old.server.failed ≡ false = λ r. sym f.failed ∙ r in
+    let keeps = f.step ∙ ap (λ (x : server.End). record x { decoder = new.server.decoder }) (server_gathers.items_keep old.server f.items) in
+    let failed : new.server.failed ≡ old.server.failed = ap (λ (x : server.End). x.failed) keeps in
+    let runs : new.server.failed ≡ false → old.server.failed ≡ false = λ r. sym failed ∙ r in
     subst (λ w. HasPast w) (sym t.rest)
     (made (record old { server = new.server; to_server = drop n old.to_server; to_client = new.to_client }) (server_calls.gets s.history f.items) after
     (λ r. let x = s.server_course (runs r) in (
@@ -315,22 +306,22 @@ sound_reaches old new n t s =
     ))
     s.client_course
     (λ b. s.limit b ∙ before.limit ∙ sym (limit-gets s.history f.items) ∙ sym after.limit)
-    (λ a. f.closed ∙ s.takes_keys (runs a))
+    (λ a. ap (λ (x : server.End). x.terminal.closed) keeps ∙ s.takes_keys (runs a))
     (λ a. let x = s.to_server (runs a) in let d = cut_at old.server.decoder new.server.decoder n old.to_server x.0 f.items x.1 f.reads in (d.left, d.flight))
     (λ b. let x = s.to_client b in (
-      x.0 ++ f.said,
-      said_behind old.client.decoder old.to_client new.to_client x.0 f.said f.appended
-          (feeds_fit s.history old.server new.server piece old.to_client new.to_client s.server f) x.1,
+      x.0 ++ said,
+      said_behind old.client.decoder old.to_client new.to_client x.0 said f.said (feeds_fit s.history old.server f.items s.server) x.1,
     ))
     (λ a b.
     let x = s.to_server (runs a) in
     let y = (s.to_client b).0 in
     let d = cut_at old.server.decoder new.server.decoder n old.to_server x.0 f.items x.1 f.reads in
-    said_back new.server.terms.options old.client.options (words_in d.left) y f.said
-    (leads_on old.server.terms.options old.client.options new.server.terms.options old.client.options (words_in f.items ++ words_in d.left) (words_in y)
-    (words_in d.left) (words_in y ++ words_in f.said)
-    (server_words.feeds_moves s.history old.server new.server piece old.to_client new.to_client old.client.options (words_in d.left) (words_in y) s.server f)
-    (split_there old.server.terms.options old.client.options x.0 f.items d.left (words_in y) d.all (s.words (runs a) b))))
+    said_back new.server.terms.options old.client.options (words_in d.left) y said
+    (subst (λ (e : server.End). Lead e.terms.options old.client.options (words_in d.left) (words_in y ++ words_in said)) (sym f.step)
+    (leads_on old.server.terms.options old.client.options (server_steps.end_after_items old.server f.items).terms.options old.client.options
+    (words_in f.items ++ words_in d.left) (words_in y) (words_in d.left) (words_in y ++ words_in said)
+    (server_words.feeds_moves s.history old.server f.items old.client.options (words_in d.left) (words_in y) s.server)
+    (split_there old.server.terms.options old.client.options x.0 f.items d.left (words_in y) d.all (s.words (runs a) b)))))
     (λ a b.
     let x = s.to_server (runs a) in
     let d = cut_at old.server.decoder new.server.decoder n old.to_server x.0 f.items x.1 f.reads in
@@ -348,7 +339,8 @@ sound_returns old new n t s =
     let runs = call_goes_on old.client t.accepted in
     let at = (s.client_course runs).1 in
     let before = at.leads in
-    let after = f.leads at.history at.leads in
+    let after = stands_fed at.history old.client new.client piece old.to_server new.to_server old.shown new.shown f at.leads in
+    let said = says_items old.client f.items in
     subst (λ w. HasPast w) (sym t.rest)
     (made (record old { client = new.client; to_client = drop n old.to_client; to_server = new.to_server; shown = new.shown }) s.history s.server
     s.server_course
@@ -359,24 +351,23 @@ sound_returns old new n t s =
     (λ b. after.limit ∙ line_limit-gets at.history f.items ∙ sym before.limit ∙ s.limit runs)
     s.takes_keys
     (λ a. let x = s.to_server a in (
-      x.0 ++ f.said,
-      said_behind old.server.decoder old.to_server new.to_server x.0 f.said f.appended
-          (came_fit at.history old.client new.client piece old.to_server new.to_server old.shown new.shown at.leads f) x.1,
+      x.0 ++ said,
+      said_behind old.server.decoder old.to_server new.to_server x.0 said f.said (items_fit at.history old.client f.items at.leads) x.1,
     ))
     (λ b. let x = s.to_client runs in let d = cut_at old.client.decoder new.client.decoder n old.to_client x.0 f.items x.1 f.reads in (d.left, d.flight))
     (λ a b.
     let x = (s.to_server a).0 in
     let y = s.to_client runs in
     let d = cut_at old.client.decoder new.client.decoder n old.to_client y.0 f.items y.1 f.reads in
-    said_there old.server.terms.options new.client.options x f.said (words_in d.left)
+    said_there old.server.terms.options new.client.options x said (words_in d.left)
     (leads_on old.server.terms.options old.client.options old.server.terms.options new.client.options (words_in x) (words_in f.items ++ words_in d.left)
-    (words_in x ++ words_in f.said) (words_in d.left)
+    (words_in x ++ words_in said) (words_in d.left)
     (client_words.feeds_moves at.history old.client new.client piece old.to_server new.to_server old.shown new.shown old.server.terms.options (words_in x)
     (words_in d.left) at.leads f)
     (split_back old.server.terms.options old.client.options (words_in x) y.0 f.items d.left d.all (s.words a runs))))
-    (λ a b. All-append WishesNothing (s.to_server a).0 f.said (s.unwished a runs)
-    (all_parts WishesNothing (client_says.items_said at.history) f.said
-    (subst (All WishesNothing) (f.sends at.history at.leads) (said_no_wish (client_calls.gets at.history f.items)))).1))
+    (λ a b. All-append WishesNothing (s.to_server a).0 said (s.unwished a runs)
+    (all_parts WishesNothing (client_says.items_said at.history) said
+    (subst (All WishesNothing) (says_all at.history old.client f.items at.leads) (said_no_wish (client_calls.gets at.history f.items)))).1))
 
 unless : (stopped : Bool) (old new : World) (happens : Type 0) → (happens → HasPast old → HasPast new) → UnlessStopped stopped old new happens → HasPast old
     → HasPast new
@@ -391,7 +382,7 @@ sound_does old new (ToClient n) d s = unless old.client_stopped old new (Deliver
 sound_does old new (Write bytes) d s = unless old.server_stopped old new (CallsServer old (server_calls.wrote bytes) new)
     (sound_asks old new (server_calls.wrote bytes) tt) d s
 sound_does old new (Pull n) d s =
-    unless old.server_stopped old new (Pulls old n new) (λ p. sound_asks old new (server_calls.pulled p.count) tt p.asks) d s
+    unless old.server_stopped old new (Pulls old n new) (sound_asks old new (server_calls.pulled (min n (length old.server.terminal.queue))) tt) d s
 sound_does old new Take d s = sound_takes old new d s
 sound_does old new (Wish editing) d s = unless old.server_stopped old new (CallsServer old (server_calls.wished editing) new)
     (sound_asks old new (server_calls.wished editing) tt) d s
@@ -411,10 +402,12 @@ sound_does old new ClientStops d s = subst (λ w. HasPast w) (sym d) (sound_as o
 -- REFUSALS
 -- the server stood where the items that were done lead, or failed before
 pub stood : (old : server.End) (new : server.End) (piece before after : List ℕ) (fault : ServerFault) (h : server_calls.History) → server.LeadsTo h old
-    → (fault ≡ server_faults.Failed → new ≡ old) → (IsOfItem fault → server.StopsWithin old piece fault before after new) → IsOfPiece fault
+    → (fault ≡ server_faults.Failed → new ≡ old) → (IsOfItem fault → server_answers.StopsWithin old piece fault before after new) → IsOfPiece fault
     → (items : List Item) × server.LeadsTo (server_calls.gets h items) new
-stood old new piece before after (server_faults.Pty f) h s again halts of = let x = halts tt in (x.done, x.leads h s)
-stood old new piece before after server_faults.Memory h s again halts of = let x = halts tt in (x.done, x.leads h s)
+stood old new piece before after (server_faults.Pty f) h s again halts of =
+    let x = halts tt in (x.done, stands_stopped h old new piece before after (server_faults.Pty f) x s)
+stood old new piece before after server_faults.Memory h s again halts of =
+    let x = halts tt in (x.done, stands_stopped h old new piece before after server_faults.Memory x s)
 stood old new piece before after server_faults.Failed h s again halts of = ([], subst (server.LeadsTo h) (sym (again refl)) s)
 stood old new piece before after (server_faults.Char f) h s again halts of = absurd of
 stood old new piece before after server_faults.NotOn h s again halts of = absurd of
@@ -426,12 +419,12 @@ pub record SaidOn (before after : List ℕ) : Type 0 where
   pub fit : All Fits said
 
 pub said_on : (old new : server.End) (piece before after : List ℕ) (fault : ServerFault) (h : server_calls.History) → server.LeadsTo h old
-    → (fault ≡ server_faults.Failed → after ≡ before) → (IsOfItem fault → server.StopsWithin old piece fault before after new) → IsOfPiece fault
+    → (fault ≡ server_faults.Failed → after ≡ before) → (IsOfItem fault → server_answers.StopsWithin old piece fault before after new) → IsOfPiece fault
     → SaidOn before after
 said_on old new piece before after (server_faults.Pty f) h s again halts of = let x =
-    halts tt in record { said = x.said ++ x.part; appended = x.appended; fit = halts_fit h old new piece before after (server_faults.Pty f) s x }
+    halts tt in record { said = server_steps.says_items old x.done ++ x.part; appended = x.said; fit = halts_fit h old new piece before after (server_faults.Pty f) s x }
 said_on old new piece before after server_faults.Memory h s again halts of = let x =
-    halts tt in record { said = x.said ++ x.part; appended = x.appended; fit = halts_fit h old new piece before after server_faults.Memory s x }
+    halts tt in record { said = server_steps.says_items old x.done ++ x.part; appended = x.said; fit = halts_fit h old new piece before after server_faults.Memory s x }
 said_on old new piece before after server_faults.Failed h s again halts of =
     record { said = []; appended = again refl ∙ sym (append-nil before); fit = All-nil Fits }
 said_on old new piece before after (server_faults.Char f) h s again halts of = absurd of
@@ -439,7 +432,7 @@ said_on old new piece before after server_faults.NotOn h s again halts of = absu
 
 -- the server failed, at a piece or before
 pub halts_sound : (old : World) (end : server.End) (piece left later : List ℕ) (fault : ServerFault) → (fault ≡ server_faults.Failed → end ≡ old.server)
-    → (fault ≡ server_faults.Failed → later ≡ old.to_client) → (IsOfItem fault → server.StopsWithin old.server piece fault old.to_client later end)
+    → (fault ≡ server_faults.Failed → later ≡ old.to_client) → (IsOfItem fault → server_answers.StopsWithin old.server piece fault old.to_client later end)
     → IsOfPiece fault → end.failed ≡ true → HasPast old → HasPast (record old { server = end; to_server = left; to_client = later })
 halts_sound old end piece left later fault again none halts of failed s =
     let at = stood old.server end piece old.to_client later fault s.history s.server again halts of in
@@ -457,7 +450,7 @@ halts_sound old end piece left later fault again none halts of failed s =
 
 -- the client failed
 pub breaks_sound : (old : World) (end : client.End) (piece left later seen : List ℕ) → old.client.failed ≡ false
-    → client.StopsWithin old.client piece old.to_server later old.shown seen → end.failed ≡ true → HasPast old
+    → answers.StopsWithin old.client piece old.to_server later old.shown seen → end.failed ≡ true → HasPast old
     → HasPast (record old { client = end; to_client = left; to_server = later; shown = seen })
 breaks_sound old end piece left later seen runs x failed s =
     let at = s.client_course runs in
@@ -465,8 +458,8 @@ breaks_sound old end piece left later seen runs x failed s =
     made (record old { client = end; to_client = left; to_server = later; shown = seen }) s.history s.server s.server_course
     (λ r. opposite end.failed _ failed r) (λ r. opposite end.failed _ failed r) s.takes_keys
     (λ a. let f = s.to_server a in (
-      f.0 ++ (x.said ++ x.part),
-      said_behind old.server.decoder old.to_server later f.0 (x.said ++ x.part) x.appended
+      f.0 ++ (says_items old.client x.done ++ x.part),
+      said_behind old.server.decoder old.to_server later f.0 (says_items old.client x.done ++ x.part) x.said
           (breaks_fit here.history old.client piece old.to_server later old.shown seen (client_courses.stream at.0)
           (client_calls.items here.history) here.leads here.reads x) f.1,
     ))

@@ -11,8 +11,9 @@ use Rattle.tn_server.specs.Faults.{IsFault}
 use Rattle.tn_server.specs.Terms.{linemode}
 use Rattle.tn_server.specs.declared.faults.ServerFault.{ServerFault}
 use Rattle.tn_server.specs.declared.faults.ServerFault.TheVariants.{Pty, Memory, Failed, Char, NotOn}
-use Rattle.tn_server.proofs.lemmas.Ends.{waits_are}
-use Rattle.tn_server.proofs.lemmas.Stopping.{has_read, many_wait}
+use Rattle.tn_server.specs.Calls.{End}
+use Rattle.tn_server.specs.Steps.{end_after_items}
+use Rattle.tn_server.proofs.lemmas.Stopping.{has_read, many_by}
 use Rattle.tn_world.specs.Past.{HasPast}
 use Rattle.tn_world.specs.Worlds.{World, ServerRefusesDelivery, Refuses, StopsWithin, ShowsCause}
 use Rattle.tn_world.specs.declared.events.Event.{Event}
@@ -57,9 +58,9 @@ far_behind old new n s r = go (by_test old.server.failed refl)
         let x = r.halts tt in
         let c = s.server_course runs in
         let at = c.1 in
-        let h = server_calls.gets at.history x.done in
-        let why = x.cause (has_read old.server.decoder (server_courses.stream c.0) (server_calls.items at.history) at.reads) at.history at.leads in
-        ap length (sym (waits_are h new.server (x.leads at.history at.leads))) ∙ many_wait h x.left x.here x.back why
+        let reads = has_read old.server.decoder (server_courses.stream c.0) (server_calls.items at.history) at.reads in
+        ap (λ (e : End). length e.terminal.entries) x.step
+        ∙ many_by (end_after_items old.server x.done) x.left x.here x.back (x.cause reads)
 
 far_at : (old new : World) (e : Event) → HasPast old → Refuses old e (cause.Server far) new → length new.server.terminal.entries ≡ max_waiting
 far_at old new (ToServer n) s r = far_behind old new n s r

@@ -1,5 +1,5 @@
 -- What a key with EDIT does to the half line at both ends.
-use Rattle.std.proofs.Common.{◌≡◌, ◌≤◌, ◌<◌, ℕ, ◌+◌, ◌-◌, ◌==◌, nat_lt, Bool, true, false, Option, Some, None, List, [], ◌∷◌, ◌++◌, length, take, refl, sym, ap}
+use Rattle.std.proofs.Common.{◌≡◌, ◌≤◌, ◌<◌, ℕ, ◌+◌, ◌-◌, ◌==◌, nat_lt, Bool, true, false, not, ◌&&◌, Option, Some, None, List, [], ◌∷◌, ◌++◌, length, take, refl, sym, ap}
 use Rattle.std.proofs.Common.{◌∙◌, if◌then◌else◌, arith, append-nil, append_assoc, length-append, length-take}
 use Rattle.std.proofs.Math.Seq.{take-append-add}
 use Rattle.tn_discipline.specs.declared.reads.Entry.{Entry}
@@ -15,8 +15,18 @@ use Rattle.tn_discipline.specs.declared.reads.Sig.TheVariants.{Int, Quit, Tstp}
 use Rattle.tn_discipline.specs.declared.keys.Role.{Role}
 use Rattle.tn_discipline.specs.declared.keys.Role.TheVariants as role
 use Rattle.tn_codes.specs.declared.codes.Command.TheVariants.{Eof}
-use Rattle.tn_pty.specs.Typing.{command_role}
-use Rattle.tn_world.specs.relation.Machine.{byte, newline, command, Client, Part, read_all, command_of, ordinary_key, erase_key, kill_key, edit_key}
+use Rattle.std.proofs.lemmas.List.{map-append}
+use Rattle.tn_codes.specs.declared.masks.Mask.{Mask}
+use Rattle.tn_discipline.specs.HalfLine.{HalfLine, is_full, has_held, has_ahead}
+use Rattle.tn_nvt.specs.declared.items.Item.{Item}
+use Rattle.tn_nvt.specs.declared.items.Item.TheVariants.{Byte, Newline, Cmd}
+use Rattle.tn_client.specs.Lines.{is_forward}
+use Rattle.tn_client.specs.Replies.{byte_items, command_of, command_items, sent_ahead_items, edit_items}
+use Rattle.tn_client.specs.Steps.{line_sent, line_typed}
+use Rattle.tn_world.specs.relation.Machine as machine
+use Rattle.tn_world.specs.relation.Machine.{read_all, bytes}
+use Rattle.tn_world.specs.relation.Calm.{server_item}
+use Rattle.tn_world.specs.relation.Ends.{server_items}
 use Rattle.tn_world.proofs.Reading.{ordinary-append, ordinary-take, read-bytes, read-bytes_then}
 use Rattle.tn_world.specs.relation.Relation.{AreOrdinary, server_at}
 
@@ -70,66 +80,33 @@ literal_key s key = by_mapped s (mapped_key s.flags key)
 
 -- After a key with this role the server's half line, once it has read what is sent, is that of a local terminal up
 -- to what the client holds, and the client knows its length.
-pub record Follows (s : Canon) (l : Bool) (h : List ℕ) (w : List Entry) (held : List ℕ) (r : Role) (p : Part) : Type 0 where
+pub record Follows (s : Canon) (l : Bool) (h : List ℕ) (w : List Entry) (held : List ℕ) (r : Role) (new : HalfLine) (said : List Item) : Type 0 where
   pub half : List ℕ
-  pub reads : read_all s (server_at l true h w) p.items ≡ server_at l true half (w ++ gain_next s.limit (h ++ held) r)
-  pub line : half_next s.limit (h ++ held) r ≡ half ++ p.held
-  pub ahead : length half ≡ p.ahead
-  pub plain : AreOrdinary s.settings.chars p.held
+  pub reads : read_all s (server_at l true h w) (server_items said) ≡ server_at l true half (w ++ gain_next s.limit (h ++ held) r)
+  pub line : half_next s.limit (h ++ held) r ≡ half ++ new.held
+  pub ahead : length half ≡ new.ahead
+  pub plain : AreOrdinary s.settings.chars new.held
 
-command-role : (sig : Sig) → command_role (command_of sig) ≡ role.Signal sig
-command-role Int = refl
-command-role Quit = refl
-command-role Tstp = refl
+-- bytes of data as the server reads them, and one more item
+pub heard_bytes : (bs : List ℕ) → server_items (byte_items bs) ≡ bytes bs
+heard_bytes [] = refl
+heard_bytes (b ∷ bs) = ap (λ (xs : List machine.Item). machine.byte b ∷ xs) (heard_bytes bs)
+
+pub heard_then : (bs : List ℕ) (item : Item) → server_items (byte_items bs ++ item ∷ []) ≡ bytes bs ++ server_item item ∷ []
+heard_then bs item = map-append server_item (byte_items bs) (item ∷ []) ∙ ap (λ (xs : List machine.Item). xs ++ server_item item ∷ []) (heard_bytes bs)
+
+heard_close : (bs : List ℕ) (item : Item) → server_items ((byte_items bs ++ item ∷ []) ++ []) ≡ bytes bs ++ server_item item ∷ []
+heard_close bs item = ap server_items (append-nil (byte_items bs ++ item ∷ [])) ∙ heard_then bs item
 
 empty_of : (xs : List ℕ) → length xs ≡ 0 → xs ≡ []
 empty_of [] h = refl
 empty_of (x ∷ xs) h = absurd (omega arith)
-
-full : (limit : ℕ) (h held : List ℕ) (ahead : ℕ) (t : Bool) → length h ≡ ahead → (ahead + length held == max_counted limit) ≡ t
-    → (length (h ++ held) == max_counted limit) ≡ t
-full limit h held ahead t count test = ap (λ n. n == max_counted limit) (length-append h held ∙ ap (λ n. n + length held) count) ∙ test
 
 below : (most n : ℕ) → n ≤ most → (n == most) ≡ false → n < most
 below most n h e = grind arith
 
 room : (most : ℕ) (h held : List ℕ) (b : ℕ) → length (h ++ held) ≤ most → (length (h ++ held) == most) ≡ false → length h + length (held ++ b ∷ []) ≤ most
 room most h held b fits test = omega (arith, below most (length (h ++ held)) fits test, length-append h held, length-append held (b ∷ []))
-
-ordinary-follows : (s : Canon) (l : Bool) (h : List ℕ) (w : List Entry) (c : Client) (b : ℕ) (t f : Bool) → (c.ahead + length c.held == max_counted s.limit) ≡ t
-    → literal_role s.settings.chars b ≡ role.Ordinary b → AreOrdinary s.settings.chars c.held → length h ≡ c.ahead → length (h ++ c.held) ≤ max_counted s.limit
-    → Follows s l h w c.held (role.Ordinary b) (ordinary_key t f c b)
-ordinary-follows s l h w c b true f test literal plain count fits =
-    let is_full = full s.limit h c.held c.ahead true count test in
-    record {
-      half = h;
-      reads = ap (λ x. server_at l true h x) (sym (ap (λ (t : Bool). w ++ (if t then [] else [])) is_full ∙ append-nil w));
-      line = ap (λ (t : Bool). if t then h ++ c.held else (h ++ c.held) ++ b ∷ []) is_full;
-      ahead = count;
-      plain = plain;
-    }
-ordinary-follows s l h w c b false true test literal plain count fits =
-    let is_full = full s.limit h c.held c.ahead false count test in
-    let more : AreOrdinary s.settings.chars (c.held ++ b ∷ []) = ordinary-append s.settings.chars c.held (b ∷ []) plain (literal, tt) in
-    record {
-      half = h ++ (c.held ++ b ∷ []);
-      reads =
-          read-bytes s l h w (c.held ++ b ∷ []) more (room (max_counted s.limit) h c.held b fits is_full)
-          ∙ ap (λ x. server_at l true (h ++ (c.held ++ b ∷ [])) x) (sym (ap (λ (t : Bool). w ++ (if t then [] else [])) is_full ∙ append-nil w));
-      line = ap (λ (t : Bool). if t then h ++ c.held else (h ++ c.held) ++ b ∷ []) is_full ∙ append_assoc h c.held (b ∷ [])
-          ∙ sym (append-nil (h ++ (c.held ++ b ∷ [])));
-      ahead = length-append h (c.held ++ b ∷ []) ∙ ap (λ n. n + length (c.held ++ b ∷ [])) count;
-      plain = tt;
-    }
-ordinary-follows s l h w c b false false test literal plain count fits =
-    let is_full = full s.limit h c.held c.ahead false count test in
-    record {
-      half = h;
-      reads = ap (λ x. server_at l true h x) (sym (ap (λ (t : Bool). w ++ (if t then [] else [])) is_full ∙ append-nil w));
-      line = ap (λ (t : Bool). if t then h ++ c.held else (h ++ c.held) ++ b ∷ []) is_full ∙ append_assoc h c.held (b ∷ []);
-      ahead = count;
-      plain = ordinary-append s.settings.chars c.held (b ∷ []) plain (literal, tt);
-    }
 
 front-append : (h held : List ℕ) → 0 < length held → front (h ++ held) ≡ h ++ front held
 front-append h held some =
@@ -142,93 +119,120 @@ some_of n h = grind arith
 none_of : (n : ℕ) → nat_lt 0 n ≡ false → n ≡ 0
 none_of n h = grind arith
 
-erase-follows : (s : Canon) (l : Bool) (h : List ℕ) (w : List Entry) (c : Client) (t f : Bool) → nat_lt 0 (length c.held) ≡ t → nat_lt 0 c.ahead ≡ f
-    → AreOrdinary s.settings.chars c.held → length h ≡ c.ahead → Follows s l h w c.held role.Erase (erase_key t f c)
-erase-follows s l h w c true f some further plain count =
-    record {
-      half = h;
-      reads = ap (λ x. server_at l true h x) (sym (append-nil w));
-      line = front-append h c.held (some_of (length c.held) some);
-      ahead = count;
-      plain = ordinary-take s.settings.chars (length c.held - 1) c.held plain;
-    }
-erase-follows s l h w c false true none further plain count =
-    let nothing : c.held ≡ [] = empty_of c.held (none_of (length c.held) none) in
-    record {
-      half = front h;
-      reads = refl;
-      line = ap (λ held. front (h ++ held)) nothing ∙ ap front (append-nil h) ∙ sym (append-nil (front h)) ∙ ap (λ held. front h ++ held) (sym nothing);
-      ahead = omega (arith, length-take (length h - 1) h, count);
-      plain = plain;
-    }
-erase-follows s l h w c false false none nowhere plain count =
-    let nothing : c.held ≡ [] = empty_of c.held (none_of (length c.held) none) in
-    let start : h ≡ [] = empty_of h (count ∙ none_of c.ahead nowhere) in
-    let both : h ++ c.held ≡ [] = ap (λ held. h ++ held) nothing ∙ append-nil h ∙ start in
-    record {
-      half = h;
-      reads = ap (λ x. server_at l true h x) (sym (append-nil w));
-      line = ap front both ∙ sym both;
-      ahead = count;
-      plain = plain;
-    }
+-- of a server with this half line and these entries, and a client that holds these bytes and knows how many are ahead
+module _ (s : Canon) (l : Bool) (h : List ℕ) (w : List Entry) (held : List ℕ) (ahead : ℕ) (plain : AreOrdinary s.settings.chars held)
+    (count : length h ≡ ahead) (fits : length (h ++ held) ≤ max_counted s.limit) where
+  abbrev old : HalfLine
+  old = record { held = held; ahead = ahead; limit = s.limit }
 
-kill-follows : (s : Canon) (l : Bool) (h : List ℕ) (w : List Entry) (c : Client) (t : Bool) → nat_lt 0 c.ahead ≡ t → length h ≡ c.ahead
-    → Follows s l h w c.held role.Kill (kill_key t)
-kill-follows s l h w c true some count = record { half = []; reads = refl; line = refl; ahead = refl; plain = tt }
-kill-follows s l h w c false nowhere count =
-    record {
-      half = [];
-      reads = ap (λ x. server_at l true x w) (empty_of h (count ∙ none_of c.ahead nowhere)) ∙ ap (λ x. server_at l true [] x) (sym (append-nil w));
-      line = refl;
-      ahead = refl;
-      plain = tt;
-    }
+  full : (t : Bool) → is_full old ≡ t → (length (h ++ held) == max_counted s.limit) ≡ t
+  full t test = ap (λ n. n == max_counted s.limit) (length-append h held ∙ ap (λ n. n + length held) count) ∙ test
 
-pub key-follows : (s : Canon) (l : Bool) (h : List ℕ) (w : List Entry) (c : Client) (r : Role) → IsLiteral s.settings.chars r
-    → AreOrdinary s.settings.chars c.held → length h ≡ c.ahead → length (h ++ c.held) ≤ max_counted s.limit → Follows s l h w c.held r (edit_key s.limit c r)
-key-follows s l h w c (role.Ordinary b) literal plain count fits =
-    ordinary-follows s l h w c b (c.ahead + length c.held == max_counted s.limit) (c.forward b) refl literal plain count fits
-key-follows s l h w c role.Nl literal plain count fits =
-    record { half = []; reads = read-bytes_then s l h w c.held newline plain (omega (arith, length-append h c.held)); line = refl; ahead = refl; plain = tt }
-key-follows s l h w c (role.Eol b) literal plain count fits =
-    record {
-      half = [];
-      reads =
-          read-bytes_then s l h w c.held (byte b) plain (omega (arith, length-append h c.held))
-          ∙ ap (λ r. server_at l true (half_next s.limit (h ++ c.held) r) (w ++ gain_next s.limit (h ++ c.held) r)) literal;
-      line = refl;
-      ahead = refl;
-      plain = tt;
-    }
-key-follows s l h w c (role.Eol2 b) literal plain count fits =
-    record {
-      half = [];
-      reads =
-          read-bytes_then s l h w c.held (byte b) plain (omega (arith, length-append h c.held))
-          ∙ ap (λ r. server_at l true (half_next s.limit (h ++ c.held) r) (w ++ gain_next s.limit (h ++ c.held) r)) literal;
-      line = refl;
-      ahead = refl;
-      plain = tt;
-    }
-key-follows s l h w c role.Eof literal plain count fits =
-    record {
-      half = [];
-      reads = read-bytes_then s l h w c.held (command Eof) plain (omega (arith, length-append h c.held));
-      line = refl;
-      ahead = refl;
-      plain = tt;
-    }
-key-follows s l h w c (role.Signal sig) literal plain count fits =
-    record {
-      half = h;
-      reads = ap (λ r. server_at l true (half_next s.limit h r) (w ++ gain_next s.limit h r)) (command-role sig);
-      line = refl;
-      ahead = count;
-      plain = plain;
-    }
-key-follows s l h w c role.Erase literal plain count fits =
-    erase-follows s l h w c (nat_lt 0 (length c.held)) (nat_lt 0 c.ahead) refl refl plain count
-key-follows s l h w c role.Kill literal plain count fits = kill-follows s l h w c (nat_lt 0 c.ahead) refl count
-key-follows s l h w c role.Ignored literal plain count fits =
-    record { half = h; reads = ap (λ x. server_at l true h x) (sym (append-nil w)); line = refl; ahead = count; plain = plain }
+  -- an ordinary byte, by whether the line is full and whether the byte is in the forward mask
+  ordinary-follows : (b : ℕ) (t f : Bool) → is_full old ≡ t → literal_role s.settings.chars b ≡ role.Ordinary b
+      → Follows s l h w held (role.Ordinary b) (line_sent (not t && f) (if t then old else record old { held = held ++ b ∷ [] }))
+      (sent_ahead_items (not t && f) (if t then old else record old { held = held ++ b ∷ [] }))
+  ordinary-follows b true f test literal =
+      record {
+        half = h;
+        reads = ap (λ x. server_at l true h x) (sym (ap (λ (t : Bool). w ++ (if t then [] else [])) (full true test) ∙ append-nil w));
+        line = ap (λ (t : Bool). if t then h ++ held else (h ++ held) ++ b ∷ []) (full true test);
+        ahead = count;
+        plain = plain;
+      }
+  ordinary-follows b false true test literal =
+      let more : AreOrdinary s.settings.chars (held ++ b ∷ []) = ordinary-append s.settings.chars held (b ∷ []) plain (literal, tt) in
+      record {
+        half = h ++ (held ++ b ∷ []);
+        reads =
+            ap (λ (xs : List machine.Item). read_all s (server_at l true h w) xs) (heard_bytes (held ++ b ∷ []))
+            ∙ read-bytes s l h w (held ++ b ∷ []) more (room (max_counted s.limit) h held b fits (full false test))
+            ∙ ap (λ x. server_at l true (h ++ (held ++ b ∷ [])) x) (sym (ap (λ (t : Bool). w ++ (if t then [] else [])) (full false test) ∙ append-nil w));
+        line = ap (λ (t : Bool). if t then h ++ held else (h ++ held) ++ b ∷ []) (full false test) ∙ append_assoc h held (b ∷ [])
+            ∙ sym (append-nil (h ++ (held ++ b ∷ [])));
+        ahead = length-append h (held ++ b ∷ []) ∙ ap (λ n. n + length (held ++ b ∷ [])) count;
+        plain = tt;
+      }
+  ordinary-follows b false false test literal =
+      record {
+        half = h;
+        reads = ap (λ x. server_at l true h x) (sym (ap (λ (t : Bool). w ++ (if t then [] else [])) (full false test) ∙ append-nil w));
+        line = ap (λ (t : Bool). if t then h ++ held else (h ++ held) ++ b ∷ []) (full false test) ∙ append_assoc h held (b ∷ []);
+        ahead = count;
+        plain = ordinary-append s.settings.chars held (b ∷ []) plain (literal, tt);
+      }
+
+  erase-follows : (t f : Bool) → has_held old ≡ t → has_ahead old ≡ f
+      → Follows s l h w held role.Erase (if t then record old { held = front held } else record old { held = []; ahead = ahead - 1 })
+      ((if not t && f then command_items (command_of role.Erase) else []) ++ [])
+  erase-follows true f some further =
+      record {
+        half = h;
+        reads = ap (λ x. server_at l true h x) (sym (append-nil w));
+        line = front-append h held (some_of (length held) some);
+        ahead = count;
+        plain = ordinary-take s.settings.chars (length held - 1) held plain;
+      }
+  erase-follows false true none further =
+      let nothing : held ≡ [] = empty_of held (none_of (length held) none) in
+      record {
+        half = front h;
+        reads = refl;
+        line = ap (λ held. front (h ++ held)) nothing ∙ ap front (append-nil h) ∙ sym (append-nil (front h));
+        ahead = omega (arith, length-take (length h - 1) h, count);
+        plain = tt;
+      }
+  erase-follows false false none nowhere =
+      let nothing : held ≡ [] = empty_of held (none_of (length held) none) in
+      let start : h ≡ [] = empty_of h (count ∙ none_of ahead nowhere) in
+      let both : h ++ held ≡ [] = ap (λ held. h ++ held) nothing ∙ append-nil h ∙ start in
+      record {
+        half = h;
+        reads = ap (λ x. server_at l true h x) (sym (append-nil w));
+        line = ap front both ∙ sym start ∙ sym (append-nil h);
+        ahead = omega (arith, count, none_of ahead nowhere);
+        plain = tt;
+      }
+
+  kill-follows : (t : Bool) → has_ahead old ≡ t
+      → Follows s l h w held role.Kill (record { held = []; ahead = 0; limit = s.limit }) ((if t then command_items (command_of role.Kill) else []) ++ [])
+  kill-follows true some = record { half = []; reads = refl; line = refl; ahead = refl; plain = tt }
+  kill-follows false nowhere =
+      record {
+        half = [];
+        reads = ap (λ x. server_at l true x w) (empty_of h (count ∙ none_of ahead nowhere)) ∙ ap (λ x. server_at l true [] x) (sym (append-nil w));
+        line = refl;
+        ahead = refl;
+        plain = tt;
+      }
+
+  signal-follows : (sig : Sig) → Follows s l h w held (role.Signal sig) old (command_items (command_of (role.Signal sig)) ++ [])
+  signal-follows Int = record { half = h; reads = refl; line = refl; ahead = count; plain = plain }
+  signal-follows Quit = record { half = h; reads = refl; line = refl; ahead = count; plain = plain }
+  signal-follows Tstp = record { half = h; reads = refl; line = refl; ahead = count; plain = plain }
+
+  -- what closes a line
+  closed : (item : Item) → read_all s (server_at l true h w) (server_items ((byte_items held ++ item ∷ []) ++ []))
+      ≡ machine.read s (server_at l true (h ++ held) w) (server_item item)
+  closed item =
+      ap (λ (xs : List machine.Item). read_all s (server_at l true h w) xs) (heard_close held item)
+      ∙ read-bytes_then s l h w held (server_item item) plain (omega (arith, fits, length-append h held))
+
+  closed_by : (b : ℕ) (r : Role) → literal_role s.settings.chars b ≡ r → read_all s (server_at l true h w) (server_items ((byte_items held ++ Byte b ∷ []) ++ []))
+      ≡ server_at l true (half_next s.limit (h ++ held) r) (w ++ gain_next s.limit (h ++ held) r)
+  closed_by b r literal = closed (Byte b) ∙ ap (λ r. server_at l true (half_next s.limit (h ++ held) r) (w ++ gain_next s.limit (h ++ held) r)) literal
+
+  pub key-follows : (forward : Option Mask) (r : Role) → IsLiteral s.settings.chars r
+      → Follows s l h w held r (line_typed true forward old r) (edit_items forward r old)
+  key-follows forward (role.Ordinary b) literal = ordinary-follows b (is_full old) (is_forward forward b) refl literal
+  key-follows forward role.Nl literal = record { half = []; reads = closed Newline; line = refl; ahead = refl; plain = tt }
+  key-follows forward (role.Eol b) literal =
+      record { half = []; reads = closed_by b (role.Eol b) literal; line = refl; ahead = refl; plain = tt }
+  key-follows forward (role.Eol2 b) literal =
+      record { half = []; reads = closed_by b (role.Eol2 b) literal; line = refl; ahead = refl; plain = tt }
+  key-follows forward role.Eof literal = record { half = []; reads = closed (Cmd Eof); line = refl; ahead = refl; plain = tt }
+  key-follows forward (role.Signal sig) literal = signal-follows sig
+  key-follows forward role.Erase literal = erase-follows (has_held old) (has_ahead old) refl refl
+  key-follows forward role.Kill literal = kill-follows (has_ahead old) refl
+  key-follows forward role.Ignored literal =
+      record { half = h; reads = ap (λ x. server_at l true h x) (sym (append-nil w)); line = refl; ahead = count; plain = plain }

@@ -1,21 +1,24 @@
 -- Both ends and the two streams between them, and what an event does to them.
 use Rattle.std.specs.Prelude.{◌≡◌, ◌≢◌, ℕ, ◌<◌, Bool, true, IsTrue, false, IsFalse, min, Option, None, List}
 use Rattle.std.specs.Prelude.{[], ◌∷◌, ◌++◌}
-use Rattle.std.specs.Prelude.{length, take, drop, MatchOption, option_to_list}
+use Rattle.std.specs.Prelude.{length, take, drop, option_to_list}
 use Rattle.tn_discipline.specs.Canon.{Canon}
 use Rattle.tn_discipline.specs.declared.reads.Entry.{Entry}
 use Rattle.tn_pty.specs.Terminal.{max_waiting}
 use Rattle.tn_pty.specs.declared.pty.PtyFault.TheVariants.{Closed, TooFarAhead}
+use Rattle.tn_nvt.specs.Spelling.{spells}
 use Rattle.tn_server.specs.Events as server_calls
 use Rattle.tn_server.specs.Faults as faults
-use Rattle.tn_server.specs.Faults.{IsOfItem, IsOfPiece, SaysSomething}
-use Rattle.tn_server.specs.Lines.{waiting}
-use Rattle.tn_server.specs.Screen.{queue}
+use Rattle.tn_server.specs.Faults.{IsOfItem, IsOfPiece}
+use Rattle.tn_server.specs.Answering as server_answers
 use Rattle.tn_server.specs.Calls as server
+use Rattle.tn_server.specs.Steps as server_steps
 use Rattle.tn_server.specs.declared.faults.ServerFault.{ServerFault}
 use Rattle.tn_server.specs.declared.faults.ServerFault.TheVariants as server_faults
 use Rattle.tn_client.specs.Events as client_calls
+use Rattle.tn_client.specs.Answering as client_answers
 use Rattle.tn_client.specs.Calls as client
+use Rattle.tn_client.specs.Steps.{end_after_key, says_key, shows_key, end_after, says, SaysOrShows}
 use Rattle.tn_client.specs.declared.commands.UserCommand.{UserCommand}
 use Rattle.tn_client.specs.declared.faults.ClientFault.{ClientFault}
 use Rattle.tn_client.specs.declared.faults.ClientFault.TheVariants as client_faults
@@ -63,18 +66,14 @@ abbrev pub UnlessStopped : Bool → World → World → Type 0 → Type 0
 UnlessStopped true old new happens = new ≡ old
 UnlessStopped false old new happens = happens
 
--- A key is typed: what the client says joins the flight.
+-- A key is typed: the client goes one step, and what it says joins the flight.
 pub record TypesKey (old : World) (key : ℕ) (new : World) : Type 0 where
   pub accepted : client_fault old.client (client_calls.typed key) ≡ None
-  pub goes : client.Advances old.client (client_calls.typed key) new.client
-  pub keeps : client.ReadsNothing old.client new.client
-  pub sends : client.Sends old.client (client_calls.typed key) old.to_server new.to_server
-  pub shows : client.Shows old.client (client_calls.typed key) old.echoed new.echoed
-  pub rest : new
+  pub step : new
       ≡ record old {
-        client = new.client;
-        to_server = new.to_server;
-        echoed = new.echoed;
+        client = end_after_key old.client key;
+        to_server = old.to_server ++ spells (says_key old.client key);
+        echoed = old.echoed ++ shows_key old.client key;
         typed = old.typed ++ key ∷ [];
       }
 
@@ -85,35 +84,32 @@ key_sent w command = key_for command (canon_of w).settings
 -- A command is sent: it joins the flight, and counts as the key that it stands for.
 pub record SendsCommand (old : World) (command : UserCommand) (new : World) : Type 0 where
   pub accepted : client_fault old.client (client_calls.sent command) ≡ None
-  pub goes : client.Advances old.client (client_calls.sent command) new.client
-  pub keeps : client.ReadsNothing old.client new.client
-  pub sends : client.Sends old.client (client_calls.sent command) old.to_server new.to_server
-  pub rest : new
+  pub step : new
       ≡ record old {
-        client = new.client;
-        to_server = new.to_server;
+        to_server = old.to_server ++ spells (says old.client (client_calls.sent command));
         typed = old.typed ++ option_to_list (key_sent old command);
       }
 
 -- Any other call of the client.
 pub record CallsClient (old : World) (e : client_calls.Event) (new : World) : Type 0 where
   pub accepted : client_fault old.client e ≡ None
-  pub goes : client.Advances old.client e new.client
-  pub keeps : client.ReadsNothing old.client new.client
-  pub sends : client.Sends old.client e old.to_server new.to_server
-  pub rest : new ≡ record old { client = new.client; to_server = new.to_server }
+  pub step : new
+      ≡ record old {
+        client = end_after old.client e;
+        to_server = old.to_server ++ spells (says old.client e);
+      }
 
 -- The first bytes in flight arrive at the server, and its replies join the other flight.
 pub record DeliversToServer (old : World) (n : ℕ) (new : World) : Type 0 where
   pub accepted : server.call_fault old.server ≡ None
-  pub feeds : server.Feeds old.server (take n old.to_server) old.to_client new.to_client new.server
+  pub feeds : server_answers.Feeds old.server (take n old.to_server) old.to_client new.to_client new.server
   pub rest : new
       ≡ record old { server = new.server; to_server = drop n old.to_server; to_client = new.to_client }
 
 -- The first bytes in flight arrive at the client.
 pub record DeliversToClient (old : World) (n : ℕ) (new : World) : Type 0 where
   pub accepted : client.call_fault old.client ≡ None
-  pub feeds : client.Feeds old.client (take n old.to_client) old.to_server new.to_server old.shown new.shown
+  pub feeds : client_answers.Feeds old.client (take n old.to_client) old.to_server new.to_server old.shown new.shown
       new.client
   pub rest : new
       ≡ record old {
@@ -123,33 +119,28 @@ pub record DeliversToClient (old : World) (n : ℕ) (new : World) : Type 0 where
         shown = new.shown;
       }
 
--- Any other call of the server: what it says joins the flight.
+-- Any other call of the server: it goes one step, and what it says joins the flight.
 pub record CallsServer (old : World) (e : server_calls.Event) (new : World) : Type 0 where
   pub accepted : server_fault old.server e ≡ None
-  pub goes : server.Advances old.server e old.to_client new.to_client new.server
-  pub keeps : server.ReadsNothing old.server new.server
-  pub rest : new ≡ record old { server = new.server; to_client = new.to_client }
+  pub step : new
+      ≡ record old {
+        server = server_steps.end_after old.server e;
+        to_client = old.to_client ++ spells (server_steps.says old.server e);
+      }
 
 -- Symbols are sent: as many as there are, and no more than were asked for.
-pub record Pulls (old : World) (n : ℕ) (new : World) : Type 0 where
-  pub count : ℕ
-  pub is_count : (h : server_calls.History) → server.LeadsTo h old.server → count ≡ min n (length (queue h))
-  pub asks : CallsServer old (server_calls.pulled count) new
+abbrev pub Pulls : World → ℕ → World → Type 0
+Pulls old n = CallsServer old (server_calls.pulled (min n (length old.server.terminal.queue)))
 
 -- The job takes the first entry that waits, if one does.
-pub record TakesEntry (old : World) (new : World) : Type 0 where
-  pub entry : Option Entry
-  pub is_first : (h : server_calls.History) → server.LeadsTo h old.server
-      → MatchOption entry (waiting h ≡ [])
-      (λ e. waiting h ≡ e ∷ waiting (server_calls.next h server_calls.took))
-  pub goes : server.Advances old.server server_calls.took old.to_client new.to_client new.server
-  pub keeps : server.ReadsNothing old.server new.server
-  pub rest : new
-      ≡ record old {
-        server = new.server;
-        to_client = new.to_client;
-        taken = old.taken ++ option_to_list entry;
-      }
+abbrev pub TakesEntry : World → World → Type 0
+TakesEntry old new =
+    new
+    ≡ record old {
+      server = server_steps.end_after old.server server_calls.took;
+      to_client = old.to_client ++ spells (server_steps.says old.server server_calls.took);
+      taken = old.taken ++ take 1 old.server.terminal.entries;
+    }
 
 -- the event is done
 abbrev pub RunsEvent : World → Event → World → Type 0
@@ -186,7 +177,8 @@ pub record ServerRefusesDelivery (old : World) (n : ℕ) (fault : ServerFault) (
   pub again : (fault ≡ server_faults.Failed)
       → IsTrue old.server.failed × (new ≡ record old { to_server = drop n old.to_server })
   pub halts : IsOfItem fault
-      → server.StopsWithin old.server (take n old.to_server) fault old.to_client new.to_client new.server
+      → server_answers.StopsWithin old.server (take n old.to_server) fault old.to_client new.to_client
+      new.server
   pub shut : (fault ≡ server_faults.Pty Closed) → IsTrue old.server.terminal.closed
   pub failed : IsTrue new.server.failed
   pub rest : new
@@ -198,7 +190,7 @@ pub record ClientRefusesDelivery (old : World) (n : ℕ) (fault : ClientFault) (
   pub is_fault : client.IsFault (client.call_fault old.client) fault
   pub again : (fault ≡ client_faults.Failed) → new ≡ record old { to_client = drop n old.to_client }
   pub breaks : (fault ≡ client_faults.Memory)
-      → client.StopsWithin old.client (take n old.to_client) old.to_server new.to_server old.shown new.shown
+      → client_answers.StopsWithin old.client (take n old.to_client) old.to_server new.to_server old.shown new.shown
   pub failed : IsTrue new.client.failed
   pub rest : new
       ≡ record old {
@@ -211,14 +203,12 @@ pub record ClientRefusesDelivery (old : World) (n : ℕ) (fault : ClientFault) (
 -- A call of the server is refused for its cause, or for lack of memory for what it says.
 pub record ServerRefusesCall (end : server.End) (e : server_calls.Event) (fault : ServerFault) : Type 0 where
   pub cause : faults.IsFault (server_fault end e) fault
-  pub grows : (fault ≡ server_faults.Memory) → (h : server_calls.History) → server.LeadsTo h end
-      → SaysSomething h e
+  pub grows : (fault ≡ server_faults.Memory) → server_steps.says end e ≢ []
 
 -- The same of the client.
 pub record ClientRefusesCall (end : client.End) (e : client_calls.Event) (fault : ClientFault) : Type 0 where
   pub cause : client.IsFault (client_fault end e) fault
-  pub grows : (fault ≡ client_faults.Memory) → (h : client_calls.History) → client.LeadsTo h end
-      → client.SaysOrShows h e
+  pub grows : (fault ≡ client_faults.Memory) → SaysOrShows end e
 
 -- the event calls an end, other than by a delivery, and the call is refused for this fault: entries are taken
 -- from a server that was stopped, too

@@ -10,14 +10,17 @@ use Rattle.tn_linemode.proofs.lemmas.Reading.{same_more, part_in_two}
 use Rattle.tn_client.specs.Events.{Event, typed, got, resized, proposed, sent, History, next, items, gets}
 use Rattle.tn_client.specs.Replies.{items_said}
 use Rattle.tn_client.specs.Screen.{text_shown}
-use Rattle.tn_client.specs.Calls.{End, LeadsTo, ReadsNothing, Advances, Feeds, IsStopCause, StopsWithin}
+use Rattle.tn_client.specs.Answering.{Feeds, IsStopCause, StopsWithin}
+use Rattle.tn_client.specs.Calls.{End}
+use Rattle.tn_client.specs.Steps.{end_after, end_after_items, says_items, items_shown}
+use Rattle.tn_client.proofs.lemmas.Standings.{stands, says_all, shows_all, stands_fed}
 use Rattle.tn_client.specs.Course.{Course, started, fed, called, stream, IsCall, ReadsAs, CourseLeadsTo}
 use Rattle.tn_linemode.specs.Prefixes.{IsRead}
 use Rattle.tn_client.proofs.lemmas.Histories.{items-gets, gets-append}
 use Rattle.tn_linemode.proofs.lemmas.Cutting.{cons_some, back_some}
 
 -- a call brings no item
-items-call : (h : History) (e : Event) → IsCall e → items (next h e) ≡ items h
+pub items-call : (h : History) (e : Event) → IsCall e → items (next h e) ≡ items h
 items-call h (typed key) call = refl
 items-call h (got item) call = absurd call
 items-call h (resized width height) call = refl
@@ -54,34 +57,49 @@ fed_at c old new piece before after seen now a f =
     record {
       history = gets a.history f.items;
       reads_as = leads_fed c old new piece before after seen now a f;
-      leads = f.leads a.history a.leads;
+      leads = stands_fed a.history old new piece before after seen now f a.leads;
       reads = subst (λ (xs : List Item). nvt.LeadsTo (stream c ++ piece) xs new.decoder) (sym (items-gets a.history f.items)) read;
     }
 
 pub fed_said : (c : Course) (old new : End) (piece before after seen now : List ℕ) (h k : History) → CourseLeadsTo c old
-    → (f : Feeds old piece before after seen now new) → ReadsAs c h → ReadsAs (fed c piece) k → items_said k ≡ items_said h ++ f.said
+    → (f : Feeds old piece before after seen now new) → ReadsAs c h → ReadsAs (fed c piece) k
+    → items_said k ≡ items_said h ++ says_items old f.items
 fed_said c old new piece before after seen now h k a f l m =
     let there = leads_fed c old new piece before after seen now a f in
-    ap items_said (one_history (fed c piece) k (gets a.history f.items) m there) ∙ f.sends a.history a.leads
-    ∙ ap (λ (x : History). items_said x ++ f.said) (one_history c a.history h a.reads_as l)
+    ap items_said (one_history (fed c piece) k (gets a.history f.items) m there) ∙ says_all a.history old f.items a.leads
+    ∙ ap (λ (x : History). items_said x ++ says_items old f.items) (one_history c a.history h a.reads_as l)
 
 pub fed_shown : (c : Course) (old new : End) (piece before after seen now : List ℕ) (h k : History) → CourseLeadsTo c old
-    → (f : Feeds old piece before after seen now new) → ReadsAs c h → ReadsAs (fed c piece) k → text_shown k ≡ text_shown h ++ f.text
+    → (f : Feeds old piece before after seen now new) → ReadsAs c h → ReadsAs (fed c piece) k
+    → text_shown k ≡ text_shown h ++ items_shown f.items
 fed_shown c old new piece before after seen now h k a f l m =
     let there = leads_fed c old new piece before after seen now a f in
-    ap text_shown (one_history (fed c piece) k (gets a.history f.items) m there) ∙ f.shows a.history a.leads
-    ∙ ap (λ (x : History). text_shown x ++ f.text) (one_history c a.history h a.reads_as l)
+    ap text_shown (one_history (fed c piece) k (gets a.history f.items) m there) ∙ shows_all a.history f.items
+    ∙ ap (λ (x : History). text_shown x ++ items_shown f.items) (one_history c a.history h a.reads_as l)
 
 -- one call more
-pub called_at : (c : Course) (old new : End) (e : Event) → CourseLeadsTo c old → IsCall e → Advances old e new → ReadsNothing old new
-    → CourseLeadsTo (called c e) new
-called_at c old new e a call goes keeps = record {
+pub call_decoder : (old : End) (e : Event) → (end_after old e).decoder ≡ old.decoder
+call_decoder old (typed key) = refl
+call_decoder old (got item) = refl
+call_decoder old (resized width height) = refl
+call_decoder old (proposed func value) = refl
+call_decoder old (sent command) = refl
+
+pub call_failed : (old : End) (e : Event) → (end_after old e).failed ≡ old.failed
+call_failed old (typed key) = refl
+call_failed old (got item) = refl
+call_failed old (resized width height) = refl
+call_failed old (proposed func value) = refl
+call_failed old (sent command) = refl
+
+pub called_at : (c : Course) (old : End) (e : Event) → CourseLeadsTo c old → IsCall e → CourseLeadsTo (called c e) (end_after old e)
+called_at c old e a call = record {
   history = next a.history e;
   reads_as = (a.history, a.reads_as, call, refl);
-  leads = goes.leads a.history a.leads;
+  leads = stands a.history old e a.leads;
   reads =
       let P : DecoderState → Type 0 = λ d. nvt.LeadsTo (stream c) (items (next a.history e)) d in
-      subst P (sym keeps.decoder) (subst (λ (xs : List Item). nvt.LeadsTo (stream c) xs old.decoder) (sym (items-call a.history e call)) a.reads);
+      subst P (sym (call_decoder old e)) (subst (λ (xs : List Item). nvt.LeadsTo (stream c) xs old.decoder) (sym (items-call a.history e call)) a.reads);
 }
 
 -- two pieces are one
@@ -119,22 +137,22 @@ none_left xs done left e = go left (append_cancel_left xs (done ++ left) [] (sym
     go [] f = refl
     go (y ∷ ys) f = absurd (back_some done (y ∷ ys) (cons_some y ys) f)
 
-never : (h : History) (left part : List Item) (here : DecoderState) → left ≡ [] → IsStopCause h left part here [] → ⊥
-never h [] part here e g = g.1
-never h (x ∷ xs) part here e g = cons_some x xs e
+never : (end : End) (left part : List Item) (here : DecoderState) → left ≡ [] → IsStopCause end left part here [] → ⊥
+never end [] part here e g = g.1
+never end (x ∷ xs) part here e g = cons_some x xs e
 
 pub never_refused : (c : Course) (old : End) (before after seen now : List ℕ) → CourseLeadsTo c old → StopsWithin old [] before after seen now → ⊥
 never_refused c old before after seen now a b = go b.front b.back b.whole b.reads b.cause
   where
     go : (front back : List ℕ) → [] ≡ front ++ back
         → ((bytes : List ℕ) (had : List Item) → nvt.LeadsTo bytes had old.decoder → nvt.LeadsTo (bytes ++ front) (had ++ (b.done ++ b.left)) b.here)
-        → ((h : History) (bytes : List ℕ) (had : List Item) → LeadsTo h old → nvt.LeadsTo bytes had old.decoder
-        → IsStopCause (gets h b.done) b.left b.part b.here back) → ⊥
+        → ((bytes : List ℕ) (had : List Item) → nvt.LeadsTo bytes had old.decoder
+        → IsStopCause (end_after_items old b.done) b.left b.part b.here back) → ⊥
     go [] [] e reads why =
         let had = items a.history in
         let then : nvt.LeadsTo (stream c) (had ++ (b.done ++ b.left)) b.here =
         subst (λ (bytes : List ℕ). nvt.LeadsTo bytes (had ++ (b.done ++ b.left)) b.here) (append-nil (stream c)) (reads (stream c) had a.reads) in
         let same = (one_standing old.decoder b.here (stream c) had (had ++ (b.done ++ b.left)) a.reads then).1 in
-        never (gets a.history b.done) b.left b.part b.here (none_left had b.done b.left same) (why a.history (stream c) had a.leads a.reads)
+        never (end_after_items old b.done) b.left b.part b.here (none_left had b.done b.left same) (why (stream c) had a.reads)
     go [] (x ∷ xs) e reads why = cons_some x xs (sym e)
     go (x ∷ xs) back e reads why = cons_some x (xs ++ back) (sym e)

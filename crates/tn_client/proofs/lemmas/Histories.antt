@@ -19,8 +19,6 @@ use Rattle.tn_client.specs.Terms.{options, mode, forward, chars, linemode, paylo
 use Rattle.tn_linemode.specs.Words.{payload_under, differ}
 use Rattle.tn_client.specs.Lines.{settings_by, role_at, role_under, isig_told, roles_under, line_limit, edited_roles, half_line, is_sent_ahead, lengths_with}
 use Rattle.tn_client.specs.Lines.{lengths_kept, lengths_since_sent, least, ahead, held_bytes, count_under, line}
-use Rattle.tn_client.specs.Replies.{replies, items_said}
-use Rattle.tn_client.specs.Screen.{text_shown, shows}
 
 pub items-gets : (h : History) (more : List Item) → items (gets h more) ≡ items h ++ more
 items-gets h [] = sym (append-nil (items h))
@@ -33,18 +31,6 @@ keys-gets h (x ∷ xs) = keys-gets (next h (got x)) xs
 pub gets-append : (h : History) (front back : List Item) → gets h (front ++ back) ≡ gets (gets h front) back
 gets-append h [] back = refl
 gets-append h (x ∷ xs) back = gets-append (next h (got x)) xs back
-
-pub sent-gets : (h : History) (more : List Item) → (rest : List Item) × (items_said (gets h more) ≡ items_said h ++ rest)
-sent-gets h [] = ([], sym (append-nil (items_said h)))
-sent-gets h (x ∷ xs) =
-    let r = sent-gets (next h (got x)) xs in
-    (replies h (got x) ++ r.0, r.1 ∙ append_assoc (items_said h) (replies h (got x)) r.0)
-
-pub shown-gets : (h : History) (more : List Item) → (rest : List ℕ) × (text_shown (gets h more) ≡ text_shown h ++ rest)
-shown-gets h [] = ([], sym (append-nil (text_shown h)))
-shown-gets h (x ∷ xs) =
-    let r = shown-gets (next h (got x)) xs in
-    (shows h (got x) ++ r.0, r.1 ∙ append_assoc (text_shown h) (shows h (got x)) r.0)
 
 -- WITHOUT EDIT nothing of a line is here
 pub unedited : (h : History) → edits (mode h) ≡ false → edited_roles h ≡ []

@@ -1,27 +1,28 @@
 -- What a refused piece leaves, seen from the piece's items.
-use Rattle.std.proofs.Common.{◌≡◌, ℕ, List, [], ◌∷◌, ◌++◌, sym, ap, ◌∙◌, subst}
+use Rattle.std.proofs.Common.{◌≡◌, ℕ, List, [], ◌∷◌, ◌++◌, sym, ap, ◌∙◌, subst, append_assoc}
 use Rattle.tn_nvt.specs.Feeding.{DecoderState}
 use Rattle.tn_nvt.specs.declared.items.Item.{Item}
 use Rattle.tn_linemode.proofs.lemmas.Reading.{stopped_in}
-use Rattle.tn_linemode.proofs.lemmas.Cutting.{added_on, parted_on, front_on}
 use Rattle.tn_client.specs.Course.{Course, fed, stream, ReadsAs, CourseLeadsTo}
-use Rattle.tn_client.specs.Events.{History, next, got, items, gets}
-use Rattle.tn_client.specs.Replies.{replies, items_said}
+use Rattle.tn_client.specs.Events.{History, items, gets}
+use Rattle.tn_client.specs.Replies.{items_said}
 use Rattle.tn_client.specs.Screen.{text_shown}
-use Rattle.tn_client.specs.Calls.{End, IsStopCause, StopsWithin}
+use Rattle.tn_client.specs.Answering.{IsStopCause, StopsWithin}
+use Rattle.tn_client.specs.Calls.{End}
+use Rattle.tn_client.specs.Steps.{end_after_item, end_after_items, says_items, items_shown}
 use Rattle.tn_client.specs.Stopping.{StopsBetween}
 use Rattle.tn_client.proofs.lemmas.Courses.{one_history}
-use Rattle.tn_client.proofs.lemmas.Histories.{gets-append, sent-gets, shown-gets}
+use Rattle.tn_client.proofs.lemmas.Histories.{gets-append}
+use Rattle.tn_client.proofs.lemmas.Gathering.{says_both, shown_both}
+use Rattle.tn_client.proofs.lemmas.Standings.{says_all, shows_all}
 
--- a prefix of the first reply is a prefix of all that the items make the client say
-pub front_said : (h : History) (left more part : List Item) (here : DecoderState) (back : List ℕ) → IsStopCause h left part here back → (unsaid : List Item)
-    × (items_said (gets h (left ++ more)) ≡ items_said h ++ (part ++ unsaid))
-front_said h [] more part here back why =
-    let m = sent-gets h more in
-    (m.0, m.1 ∙ ap (λ (xs : List Item). items_said h ++ (xs ++ m.0)) (sym why.0))
-front_said h (item ∷ left) more part here back why =
-    let m = sent-gets (next h (got item)) (left ++ more) in
-    (why.rest ++ m.0, front_on (replies h (got item)) part why.rest m.0 (items_said h) _ m.1 why.whole)
+-- a prefix of the first reply is a prefix of all that the items make the end say
+pub front_said : (end : End) (left more part : List Item) (here : DecoderState) (back : List ℕ) → IsStopCause end left part here back → (unsaid : List Item)
+    × (says_items end (left ++ more) ≡ part ++ unsaid)
+front_said end [] more part here back why = (says_items end more, ap (λ (xs : List Item). xs ++ says_items end more) (sym why.0))
+front_said end (item ∷ left) more part here back why =
+    let later = says_items (end_after_item end item) (left ++ more) in
+    (why.rest ++ later, ap (λ (xs : List Item). xs ++ later) why.whole ∙ append_assoc part why.rest later)
 
 pub stopped : (c : Course) (old : End) (piece before after seen now : List ℕ) (h whole : History) → CourseLeadsTo c old
     → StopsWithin old piece before after seen now → ReadsAs c h → ReadsAs (fed c piece) whole → StopsBetween h whole before after seen now
@@ -35,15 +36,19 @@ stopped c old piece before after seen now h whole a s leads also =
         let here = s.reads (stream c) (items k) a.reads in
         let others = stopped_in items gets gets-append also.0 k whole (stream c) piece s.front s.back also.1 s.done s.left same s.whole
         (a.reads.rest, a.reads.reading) (here.rest, here.reading) also.3 also.4 in
-        let u = front_said (gets k s.done) s.left others.0 s.part s.here s.back (s.cause k (stream c) (items k) a.leads a.reads) in
-        let v = shown-gets (gets k s.done) (s.left ++ others.0) in
+        let all = s.done ++ (s.left ++ others.0) in
+        let u = front_said (end_after_items old s.done) s.left others.0 s.part s.here s.back (s.cause (stream c) (items k) a.reads) in
+        let said = says_items old s.done in
+        let told : says_items old all ≡ (said ++ s.part) ++ u.0 =
+        says_both old s.done (s.left ++ others.0) ∙ ap (λ (xs : List Item). said ++ xs) u.1 ∙ sym (append_assoc said s.part u.0) in
+        let here : whole ≡ gets k all = others.1 ∙ sym (gets-append k s.done (s.left ++ others.0)) in
         record {
-          said = s.said ++ s.part;
+          said = said ++ s.part;
           unsaid = u.0;
-          appended = s.appended;
-          sends = ap items_said others.1 ∙ parted_on s.said s.part u.0 (items_said k) _ _ (s.sends k a.leads) u.1;
-          text = s.text;
-          unshown = v.0;
-          displayed = s.displayed;
-          shows = ap text_shown others.1 ∙ added_on s.text v.0 (text_shown k) _ _ (s.shows k a.leads) v.1;
+          appended = s.said;
+          sends = ap items_said here ∙ says_all k old all a.leads ∙ ap (λ (xs : List Item). items_said k ++ xs) told;
+          text = items_shown s.done;
+          unshown = items_shown (s.left ++ others.0);
+          displayed = s.shown;
+          shows = ap text_shown here ∙ shows_all k all ∙ ap (λ (xs : List ℕ). text_shown k ++ xs) (shown_both s.done (s.left ++ others.0));
         }

@@ -1,5 +1,5 @@
 -- What lacks memory says or shows something.
-use Rattle.std.proofs.Common.{◌≡◌, ◌≢◌, ◌⊎◌, inl, inr, ℕ, Bool, true, false, Option, List, [], ◌∷◌, ◌++◌, length, Vec, sym, subst, if◌then◌else◌}
+use Rattle.std.proofs.Common.{◌≡◌, ◌≢◌, inl, inr, ℕ, Bool, true, false, Option, List, [], ◌∷◌, ◌++◌, Vec, sym, subst, if◌then◌else◌}
 use Rattle.tn_codes.specs.declared.codes.Command.TheVariants as command
 use Rattle.tn_codes.specs.declared.masks.Mask.{Mask}
 use Rattle.tn_discipline.specs.HalfLine.{HalfLine, is_full, has_held, has_ahead, GivesText}
@@ -9,19 +9,15 @@ use Rattle.tn_discipline.specs.declared.keys.Role.TheVariants as role
 use Rattle.tn_discipline.specs.declared.reads.Entry.TheVariants as entry
 use Rattle.tn_linemode.proofs.lemmas.Cutting.{cons_some}
 use Rattle.tn_nvt.proofs.lemmas.Lacking.{lacks_bytes, lacks_items}
-use Rattle.tn_nvt.specs.Room.{LacksRoom}
-use Rattle.tn_nvt.specs.Spelling.{spells}
 use Rattle.tn_nvt.specs.declared.items.Item.{Item}
 use Rattle.tn_nvt.specs.declared.items.Item.TheVariants.{Byte, Newline, Cmd}
-use Rattle.tn_client.specs.Calls.{End, LeadsTo, GivesTextHere, LacksRoomFor, LacksMemoryFor, SaysOrShows}
-use Rattle.tn_client.specs.Events.{History, Event, typed}
-use Rattle.tn_client.specs.Lines.{role_at, line}
-use Rattle.tn_client.specs.Replies.{byte_items, edit_items, key_items, replies}
-use Rattle.tn_client.specs.Screen.{shows}
-use Rattle.tn_client.specs.Terms.{forward}
+use Rattle.tn_client.specs.Calls.{End}
+use Rattle.tn_client.specs.Events.{Event, typed}
+use Rattle.tn_client.specs.Replies.{byte_items, edit_items, key_items}
+use Rattle.tn_client.specs.Steps.{role_now, says_key, shows_key, says, LacksMemoryFor, LacksRoomFor, SaysOrShows}
 
-pub says_something : {Z : Type 0} (old : End) (e : Event) (out : Vec ℕ Z) → LacksRoomFor old e out → (h : History) → LeadsTo h old → replies h e ≢ []
-says_something old e out lacks h s = lacks_items out (replies h e) (lacks h s)
+pub says_something : {Z : Type 0} (old : End) (e : Event) (out : Vec ℕ Z) → LacksRoomFor old e out → says old e ≢ []
+says_something old e out lacks = lacks_items out (says old e) lacks
 
 -- a key that gives a text sends a closing byte, a new line or EOF
 some_sent : (bytes : List ℕ) (last : Item) (more : List Item) → (byte_items bytes ++ last ∷ []) ++ more ≢ []
@@ -49,15 +45,10 @@ text_sent f l role.Kill (bytes, e) = absurd (cc)
 text_sent f l (role.Signal sig) (bytes, e) = absurd (cc)
 text_sent f l role.Ignored (bytes, e) = absurd (cc)
 
-wants : {Y Z : Type 0} (h : History) (key : ℕ) (out : Vec ℕ Y) (screen : Vec ℕ Z)
-    → LacksRoom out (length (spells (replies h (typed key)))) ⊎ (LacksRoom screen (length (shows h (typed key))) ⊎ GivesTextHere h key)
-    → SaysOrShows h (typed key)
-wants h key out screen (inl said) = inl (lacks_items out (replies h (typed key)) said)
-wants h key out screen (inr (inl shown)) = inr (lacks_bytes screen (shows h (typed key)) shown)
-wants h key out screen (inr (inr text)) =
-    inl (subst (λ (b : Bool). key_items b (forward h) (role_at h key) (line h) key ≢ []) (sym text.0)
-    (text_sent (forward h) (line h) (role_at h key) text.1))
-
-pub says_or_shows : {Y Z : Type 0} (old : End) (key : ℕ) (out : Vec ℕ Y) (screen : Vec ℕ Z) → LacksMemoryFor old key out screen → (h : History)
-    → LeadsTo h old → SaysOrShows h (typed key)
-says_or_shows old key out screen lacks h s = wants h key out screen (lacks h s)
+pub says_or_shows : {Y Z : Type 0} (old : End) (key : ℕ) (out : Vec ℕ Y) (screen : Vec ℕ Z) → LacksMemoryFor old key out screen
+    → SaysOrShows old (typed key)
+says_or_shows old key out screen (inl said) = inl (lacks_items out (says_key old key) said)
+says_or_shows old key out screen (inr (inl shown)) = inr (lacks_bytes screen (shows_key old key) shown)
+says_or_shows old key out screen (inr (inr text)) =
+    inl (subst (λ (b : Bool). key_items b old.forward (role_now old key) old.line key ≢ []) (sym text.0)
+    (text_sent old.forward old.line (role_now old key) text.1))

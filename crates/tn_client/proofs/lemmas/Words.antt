@@ -1,5 +1,5 @@
 -- The option words of a client end are those of its option engine, which starts none itself.
-use Rattle.std.proofs.Common.{◌≡◌, ℕ, Bool, true, false, not, ◌&&◌, Option, None, Some, List, [], ◌∷◌, ◌++◌, refl, sym, ap, ◌∙◌, if◌then◌else◌, append-nil}
+use Rattle.std.proofs.Common.{◌≡◌, ℕ, Bool, true, false, not, ◌&&◌, Option, None, Some, List, [], ◌∷◌, ◌++◌, refl, sym, ap, ◌∙◌, if◌then◌else◌, append-nil, subst}
 use Rattle.std.proofs.Common.{append_assoc}
 use Rattle.std.proofs.lemmas.List.{append_cancel_left}
 use Rattle.tn_codes.specs.declared.codes.Command.{Command}
@@ -22,13 +22,16 @@ use Rattle.tn_option.proofs.lemmas.Agreement.{Moves, then-Moves}
 use Rattle.tn_linemode.specs.OptionWords.{words_in}
 use Rattle.tn_linemode.proofs.lemmas.OptionWords.{words_in-append, words_in-word, words_in-list, words_in-mode}
 use Rattle.tn_linemode.specs.Words.{word_items}
-use Rattle.tn_client.specs.Calls.{End, LeadsTo, Advances, Sends, Feeds}
+use Rattle.tn_client.specs.Answering.{Feeds}
+use Rattle.tn_client.specs.Calls.{End, LeadsTo}
 use Rattle.tn_client.specs.Course.{IsCall}
 use Rattle.tn_client.specs.Events.{Event, History, next, typed, got, resized, proposed, sent, gets}
 use Rattle.tn_client.specs.Lines.{role_at, sends_ahead, line}
 use Rattle.tn_client.specs.Replies.{byte_items, command_of, command_items, raw_key_items, edited_key_items, sent_ahead_items, key_items, size_items}
 use Rattle.tn_client.specs.Replies.{new_size_items, payload_answers, answer_items, end_of_edit_items, is_same_size, replies, items_said}
+use Rattle.tn_client.specs.Steps.{end_after, says, says_items}
 use Rattle.tn_client.specs.Terms.{options, mode, forward, chars, size, tells_size, payload_at, options_after, mode_at}
+use Rattle.tn_client.proofs.lemmas.Standings.{says_as, says_all, stands_fed}
 
 -- the options of a server and of its client, and the words that are on their way to each
 abbrev pub pair : Options → Options → List (Verb × ℕ) → List (Verb × ℕ) → EnginePair
@@ -168,25 +171,26 @@ call_none h (resized width height) is = if_none (tells_size (options h) && not (
 call_none h (proposed func value) is = words_in-list (triple_of func value ∷ [])
 call_none h (sent command) is = refl
 
-call_keeps : (h : History) (e : Event) → IsCall e → options (next h e) ≡ options h
-call_keeps h (typed key) is = refl
-call_keeps h (got item) is = absurd is
-call_keeps h (resized width height) is = refl
-call_keeps h (proposed func value) is = refl
-call_keeps h (sent command) is = refl
-
 -- AN END, after a piece and after a call
 pub feeds_moves : (h : History) (old new : End) (piece before after seen now : List ℕ) (here : Options) (ws vs : List (Verb × ℕ)) → LeadsTo h old
     → (f : Feeds old piece before after seen now new) → Moves (pair here old.options ws (words_in f.items ++ vs))
-    (pair here new.options (ws ++ words_in f.said) vs)
+    (pair here new.options (ws ++ words_in (says_items old f.items)) vs)
 feeds_moves h old new piece before after seen now here ws vs s f =
     let all = gets_moves h f.items here ws vs in
-    let same : all.0 ≡ f.said = append_cancel_left (items_said h) all.0 f.said (sym all.1 ∙ f.sends h s) in
-    rw (s.options, (f.leads h s).options, sym same) all.2
+    let same : all.0 ≡ says_items old f.items = append_cancel_left (items_said h) all.0 (says_items old f.items) (sym all.1 ∙ says_all h old f.items s) in
+    let led = stands_fed h old new piece before after seen now f s in
+    let there = pair here old.options ws (words_in f.items ++ vs) in
+    subst (λ (o : Options). Moves there (pair here o (ws ++ words_in (says_items old f.items)) vs)) (sym led.options)
+    (subst (λ (o : Options). Moves (pair here o ws (words_in f.items ++ vs)) (pair here (options (gets h f.items)) (ws ++ words_in (says_items old f.items)) vs))
+    (sym s.options) (subst (λ (xs : List Item). Moves (pair here (options h) ws (words_in f.items ++ vs))
+    (pair here (options (gets h f.items)) (ws ++ words_in xs) vs)) same all.2))
 
-pub sends_none : (h : History) (old : End) (e : Event) (before after : List ℕ) → IsCall e → LeadsTo h old → (g : Sends old e before after)
-    → words_in g.said ≡ []
-sends_none h old e before after call s g = ap words_in (sym (g.replies h s)) ∙ call_none h e call
+pub says_none : (h : History) (old : End) (e : Event) → IsCall e → LeadsTo h old → words_in (says old e) ≡ []
+says_none h old e call s = ap words_in (sym (says_as h old e s)) ∙ call_none h e call
 
-pub advances_keeps : (h : History) (old new : End) (e : Event) → IsCall e → LeadsTo h old → Advances old e new → new.options ≡ old.options
-advances_keeps h old new e call s g = (g.leads h s).options ∙ call_keeps h e call ∙ sym s.options
+pub keeps_options : (old : End) (e : Event) → IsCall e → (end_after old e).options ≡ old.options
+keeps_options old (typed key) is = refl
+keeps_options old (got item) is = absurd is
+keeps_options old (resized width height) is = refl
+keeps_options old (proposed func value) is = refl
+keeps_options old (sent command) is = refl

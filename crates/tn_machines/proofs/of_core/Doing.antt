@@ -1,21 +1,28 @@
 -- What one message does.
-use Rattle.std.proofs.Common.{◌≡◌, ◌<◌, All, ℕ, Bool, true, false, if◌then◌else◌, Some, None, Result, Ok, Err, OnOk, OnErr, List, [], ◌∷◌, ◌++◌, refl, sym, ap}
+use Rattle.std.proofs.Common.{◌≡◌, ◌<◌, All, ℕ, Bool, true, false, if◌then◌else◌, Some, None, Result, Ok, Err, OnOk, OnErr, List, [], ◌++◌, refl, sym, ap}
 use Rattle.std.proofs.Common.{◌∙◌, subst, append-nil, append_assoc}
 use Rattle.std.proofs.lemmas.List.Elements.{All-append, All-nil}
-use Rattle.tn_client.proofs.lemmas.Histories.{items-gets, gets-append, sent-gets, shown-gets}
-use Rattle.tn_client.specs.Answering.{Says, Untouched}
-use Rattle.tn_client.specs.Calls.{End, IsStopCause, IsFault, call_fault}
+use Rattle.tn_client.proofs.lemmas.Gathering.{says_both, shown_both}
+use Rattle.tn_client.proofs.lemmas.Standings.{stands, says_as, says_all, shows_all, stands_fed, fed_failed}
+use Rattle.tn_client.proofs.lemmas.Courses.{items-call, call_decoder, call_failed}
+use Rattle.tn_client.proofs.lemmas.Histories.{items-gets}
+use Rattle.tn_client.proofs.lemmas.Stopping.{front_said}
+use Rattle.tn_client.specs.Course.{IsCall}
+use Rattle.tn_client.specs.Steps.{end_after, says, end_after_items, says_items, items_shown}
+use Rattle.tn_client.specs.Answering.{Untouched}
+use Rattle.tn_client.specs.Answering as answers
+use Rattle.tn_client.specs.Calls.{End, IsFault, call_fault}
 use Rattle.tn_client.specs.Calls as client
-use Rattle.tn_client.specs.Events.{History, begun, next, got, resized, gets, items}
+use Rattle.tn_client.specs.Events.{History, begun, next, resized, gets, items}
 use Rattle.tn_client.specs.Events as client_events
 use Rattle.tn_client.specs.Replies.{items_said, replies}
-use Rattle.tn_client.specs.Screen.{text_shown}
+use Rattle.tn_client.specs.Screen.{shows, text_shown}
 use Rattle.tn_client.specs.declared.faults.ClientFault.{ClientFault}
 use Rattle.tn_client.specs.declared.faults.ClientFault.TheVariants as client_fault
-use Rattle.tn_machines.proofs.of_core.Typing.{items-types, said_front, shown_front}
+use Rattle.tn_machines.proofs.of_core.Typing.{items-types, said_front, shown_front, stands_keys, said_keys, shown_keys, decoder_keys, failed_keys}
 use Rattle.tn_machines.specs.client.Commands.{command_of}
 use Rattle.tn_machines.specs.client.Counting.{nothing_yet, after_piece, after_message}
-use Rattle.tn_machines.specs.client.Reaching.{LeadsTo, TypesAll, TypesPrefix, DoesWhole, StopsWithin}
+use Rattle.tn_machines.specs.client.Reaching.{LeadsTo, says_keys, shows_keys, TypesAll, TypesPrefix, DoesWhole, StopsWithin}
 use Rattle.tn_machines.specs.client.Run.{Run, resize, send, Reads, Acts, ActsUnless, Handles, types, type_keys, feed, turns, start, sent_after}
 use Rattle.tn_machines.specs.declared.client.machine.Core.{Core}
 use Rattle.tn_machines.specs.declared.client.messages.Origin.{Origin}
@@ -66,11 +73,11 @@ typed_leads keys old new end x y u v on is t c at = rw is (record {
   live = λ _.
       let l = at.live on in
       record {
-        leads = t.leads c.history l.leads;
-        read = read_as old.end.decoder end.decoder c.stream (items c.history) (items (types c.history keys)) t.keeps.decoder
-            (items-types c.history keys) l.read;
+        leads = subst (client.LeadsTo (types c.history keys)) (sym t.step) (stands_keys c.history old.end keys l.leads);
+        read = read_as old.end.decoder end.decoder c.stream (items c.history) (items (types c.history keys))
+            (ap (λ (e : End). e.decoder) t.step ∙ decoder_keys old.end keys) (items-types c.history keys) l.read;
         bytes = l.bytes;
-        failed = t.keeps.failed ∙ l.failed;
+        failed = ap (λ (e : End). e.failed) t.step ∙ failed_keys old.end keys ∙ l.failed;
         latest = λ e. sent_open c.progress.closed c.sent (types c.history keys) e;
       };
   progress = ap after_piece at.progress;
@@ -80,18 +87,18 @@ pub does_keys : (keys : List ℕ) (old new : Core) (end : End) (x y u v : List �
     → new ≡ record { end = end; progress = after_piece old.progress } → TypesAll old.end keys x y u v end
     → DoesWhole old (record { from = Keys; message = Piece keys }) x y u v new
 does_keys keys old new end x y u v on is t = record {
-  said = t.said;
-  text = t.text;
-  appended = t.appended;
-  displayed = t.displayed;
+  said = says_keys old.end keys;
+  text = shows_keys old.end keys;
+  appended = t.said;
+  displayed = t.shown;
   leads = λ c at.
       let told : Told = record { from = Keys; message = Piece keys } in (
         type_keys keys c,
         handled c (type_keys keys c) old told on at refl,
         typed_leads keys old new end x y u v on is t c at,
         refl,
-        t.sends c.history (at.live on).leads,
-        t.shows c.history (at.live on).leads,
+        said_keys c.history old.end keys (at.live on).leads,
+        shown_keys c.history old.end keys (at.live on).leads,
       );
 }
 
@@ -99,10 +106,10 @@ pub stops_keys : (keys : List ℕ) (old new : Core) (end : End) (x y u v : List 
     → new ≡ record { end = end; progress = after_piece old.progress } → TypesPrefix old.end keys x y u v end
     → StopsWithin old (record { from = Keys; message = Piece keys }) x y u v new
 stops_keys keys old new end x y u v on is (front, back, e, t) = record {
-  part = spells t.said;
-  text = t.text;
-  appended = t.appended;
-  displayed = t.displayed;
+  part = spells (says_keys old.end front);
+  text = shows_keys old.end front;
+  appended = t.said;
+  displayed = t.shown;
   leads = λ c at.
       let told : Told = record { from = Keys; message = Piece keys } in
       let h = c.history in
@@ -111,20 +118,20 @@ stops_keys keys old new end x y u v on is (front, back, e, t) = record {
         handled c (type_keys keys c) old told on at refl,
         ap (λ (core : Core). core.progress) is ∙ ap after_piece at.progress,
         refl,
-        said_front h keys front back t.said e (t.sends h s),
-        shown_front h keys front back t.text e (t.shows h s),
+        said_front h keys front back (says_keys old.end front) e (said_keys h old.end front s),
+        shown_front h keys front back (shows_keys old.end front) e (shown_keys h old.end front s),
       );
 }
 
 -- THE NETWORK
 pub does_feed : (piece : List ℕ) (old new : Core) (end : End) (x y u v : List ℕ) → All (λ b. b < 256) piece → old.progress.over ≡ false
-    → new ≡ record { end = end; progress = after_piece old.progress } → client.Feeds old.end piece x y u v end
+    → new ≡ record { end = end; progress = after_piece old.progress } → answers.Feeds old.end piece x y u v end
     → DoesWhole old (record { from = Net; message = Piece piece }) x y u v new
 does_feed piece old new end x y u v small on is f = record {
-  said = f.said;
-  text = f.text;
-  appended = f.appended;
-  displayed = f.displayed;
+  said = says_items old.end f.items;
+  text = items_shown f.items;
+  appended = f.said;
+  displayed = f.shown;
   leads = λ c at.
       let told : Told = record { from = Net; message = Piece piece } in
       let l = at.live on in
@@ -132,10 +139,10 @@ does_feed piece old new end x y u v small on is f = record {
       let r = f.reads c.stream (items c.history) l.read in
       let leads : LeadsTo whole new = rw is (record {
         live = λ _. record {
-          leads = f.leads c.history l.leads;
+          leads = stands_fed c.history old.end end piece x y u v f l.leads;
           read = rw (items-gets c.history f.items) r;
           bytes = All-append (λ b. b < 256) c.stream piece l.bytes small;
-          failed = f.failed ∙ l.failed;
+          failed = fed_failed old.end end piece x y u v f ∙ l.failed;
           latest = λ e. sent_open c.progress.closed c.sent (gets c.history f.items) e;
         };
         progress = ap after_piece at.progress;
@@ -144,44 +151,27 @@ does_feed piece old new end x y u v small on is f = record {
         handled c whole old told on at (f.items, (r.rest, r.reading), refl),
         leads,
         refl,
-        f.sends c.history l.leads,
-        f.shows c.history l.leads,
+        says_all c.history old.end f.items l.leads,
+        shows_all c.history f.items,
       );
 }
 
-append_is_nil : (xs ys : List Item) → [] ≡ xs ++ ys → xs ≡ []
-append_is_nil [] ys e = refl
-append_is_nil (x ∷ xs) ys e = cc
-
--- the first items of a piece were done, and one or the decoder was refused
-first_said : (k : History) (left more part : List Item) (here : DecoderState) (back : List ℕ) → IsStopCause k left part here back → (rest : List Item)
-    × (items_said (gets k (left ++ more)) ≡ items_said k ++ (part ++ rest))
-first_said k [] more part here back why =
-    let m = sent-gets k more in
-    (m.0, m.1 ∙ ap (λ (xs : List Item). items_said k ++ (xs ++ m.0)) (sym why.0))
-first_said k (item ∷ left) more part here back why =
-    let m = sent-gets (next k (got item)) (left ++ more) in (
-      why.rest ++ m.0,
-      m.1 ∙ append_assoc (items_said k) (replies k (got item)) m.0 ∙ ap (λ (xs : List Item). items_said k ++ (xs ++ m.0)) why.whole
-          ∙ ap (λ (xs : List Item). items_said k ++ xs) (append_assoc part why.rest m.0),
-    )
-
 -- the items of the whole piece go on from those of its front
 pub read_past : (piece : List ℕ) (old : Core) (x y u v : List ℕ) → All (λ b. b < 256) piece → old.progress.over ≡ false
-    → (f : client.StopsWithin old.end piece x y u v) → (c : Run) → LeadsTo c old → (more : List Item) × Reads c piece (f.done ++ (f.left ++ more))
+    → (f : answers.StopsWithin old.end piece x y u v) → (c : Run) → LeadsTo c old → (more : List Item) × Reads c piece (f.done ++ (f.left ++ more))
 read_past piece old x y u v small on f c at =
     let l = at.live on in
     let before = f.reads c.stream (items c.history) l.read in
     read_on c.stream piece f.front f.back (items c.history) f.done f.left l.bytes small f.whole (before.rest, before.reading)
 
 pub stops_feed : (piece : List ℕ) (old new : Core) (end : End) (x y u v : List ℕ) → All (λ b. b < 256) piece → old.progress.over ≡ false
-    → new ≡ record { end = end; progress = after_piece old.progress } → client.StopsWithin old.end piece x y u v
+    → new ≡ record { end = end; progress = after_piece old.progress } → answers.StopsWithin old.end piece x y u v
     → StopsWithin old (record { from = Net; message = Piece piece }) x y u v new
 stops_feed piece old new end x y u v small on is f = record {
-  part = spells (f.said ++ f.part);
-  text = f.text;
-  appended = f.appended;
-  displayed = f.displayed;
+  part = spells (says_items old.end f.done ++ f.part);
+  text = items_shown f.done;
+  appended = f.said;
+  displayed = f.shown;
   leads = λ c at.
       let told : Told = record { from = Net; message = Piece piece } in
       let l = at.live on in
@@ -189,25 +179,23 @@ stops_feed piece old new end x y u v small on is f = record {
       let past = read_past piece old x y u v small on f c at in
       let more : List Item = past.0 in
       let xs : List Item = f.done ++ (f.left ++ more) in
-      let k = gets h f.done in
-      let r = first_said k f.left more f.part f.here f.back (f.cause h c.stream (items h) l.leads l.read) in
-      let s = shown-gets k (f.left ++ more) in
-      let said : items_said (gets h xs) ≡ items_said h ++ ((f.said ++ f.part) ++ r.0) =
-      ap items_said (gets-append h f.done (f.left ++ more)) ∙ r.1 ∙ ap (λ (ys : List Item). ys ++ (f.part ++ r.0)) (f.sends h l.leads)
-      ∙ append_assoc (items_said h) f.said (f.part ++ r.0) ∙ ap (λ (ys : List Item). items_said h ++ ys) (sym (append_assoc f.said f.part r.0)) in (
+      let here : List Item = says_items old.end f.done ++ f.part in
+      let r = front_said (end_after_items old.end f.done) f.left more f.part f.here f.back (f.cause c.stream (items h) l.read) in
+      let said : items_said (gets h xs) ≡ items_said h ++ (here ++ r.0) =
+      says_all h old.end xs l.leads
+      ∙ ap (λ (ys : List Item). items_said h ++ ys) (says_both old.end f.done (f.left ++ more)
+      ∙ ap (λ (ys : List Item). says_items old.end f.done ++ ys) r.1 ∙ sym (append_assoc (says_items old.end f.done) f.part r.0)) in (
         feed piece xs c,
         handled c (feed piece xs c) old told on at (xs, past.1, refl),
         ap (λ (core : Core). core.progress) is ∙ ap after_piece at.progress,
         refl,
         (
           spells r.0,
-          ap spells said ∙ spells-append (items_said h) ((f.said ++ f.part) ++ r.0)
-              ∙ ap (λ (bs : List ℕ). spells (items_said h) ++ bs) (spells-append (f.said ++ f.part) r.0),
+          ap spells said ∙ spells-append (items_said h) (here ++ r.0) ∙ ap (λ (bs : List ℕ). spells (items_said h) ++ bs) (spells-append here r.0),
         ),
         (
-          s.0,
-          ap text_shown (gets-append h f.done (f.left ++ more)) ∙ s.1 ∙ ap (λ (bs : List ℕ). bs ++ s.0) (f.shows h l.leads)
-              ∙ append_assoc (text_shown h) f.text s.0,
+          items_shown (f.left ++ more),
+          shows_all h xs ∙ ap (λ (bs : List ℕ). text_shown h ++ bs) (shown_both f.done (f.left ++ more)),
         ),
       );
 }
@@ -228,7 +216,7 @@ stops_failed piece old new x y u v on failed same stays = record {
 
 pub feed_stops : (piece : List ℕ) (old new : Core) (end : End) (x y u v : List ℕ) (f : ClientFault) → All (λ b. b < 256) piece → old.progress.over ≡ false
     → new ≡ record { end = end; progress = after_piece old.progress } → IsFault (call_fault old.end) f
-    → (f ≡ client_fault.Memory → client.StopsWithin old.end piece x y u v) → (f ≡ client_fault.Failed → Untouched old.end x y u v end)
+    → (f ≡ client_fault.Memory → answers.StopsWithin old.end piece x y u v) → (f ≡ client_fault.Failed → Untouched old.end x y u v end)
     → StopsWithin old (record { from = Net; message = Piece piece }) x y u v new
 feed_stops piece old new end x y u v f small on is why memory failed = by_test old.end.failed refl why
   where
@@ -237,38 +225,49 @@ feed_stops piece old new end x y u v f small on is why memory failed = by_test o
     by_test true e cause = let same = failed cause in stops_failed piece old new x y u v on e same.out same.screen
     by_test false e cause = stops_feed piece old new end x y u v small on is (memory cause)
 
--- THE WINDOW
-pub does_resize : (from : Origin) (size : WindowSize) (old new : Core) (x y u : List ℕ) → old.progress.over ≡ false → new ≡ record old { end = new.end }
-    → Says old.end (resized size.width size.height) x y new.end → DoesWhole old (record { from = from; message = Resized size }) x y u u new
-does_resize from size old new x y u on is says = record {
-  said = says.sends.said;
-  text = [];
-  appended = says.sends.appended;
-  displayed = sym (append-nil u);
-  leads = λ c at.
-      let told : Told = record { from = from; message = Resized size } in
-      let h = c.history in
-      let later = next h (resized size.width size.height) in
-      let l = at.live on in
-      let whole = resize size c in
-      let leads : LeadsTo whole new = record {
-        live = λ _. record {
-          leads = says.goes.leads h l.leads;
-          read = read_as old.end.decoder new.end.decoder c.stream (items h) (items later) says.keeps.decoder refl l.read;
-          bytes = l.bytes;
-          failed = says.keeps.failed ∙ l.failed;
-          latest = λ e. sent_open c.progress.closed c.sent later e;
+-- A CALL of the owner: the window, a command
+module _ (e : client_events.Event) (call : IsCall e) (old new : Core) (x y u : List ℕ) (on : old.progress.over ≡ false) (is : new ≡ record old { end = new.end })
+    (step : new.end ≡ end_after old.end e) (out : y ≡ x ++ spells (says old.end e)) (none : (h : History) → shows h e ≡ []) where
+  call_leads : (c whole : Run) → LeadsTo c old → whole.history ≡ next c.history e → whole.stream ≡ c.stream → whole.progress ≡ c.progress
+      → whole.sent ≡ sent_after c.progress.closed c.sent whole.history → LeadsTo whole new
+  call_leads c whole at history stream progress sent = record {
+    live = λ _.
+        let l = at.live on in
+        record {
+          leads = subst (λ (h : History). client.LeadsTo h new.end) (sym history) (subst (client.LeadsTo (next c.history e)) (sym step)
+              (stands c.history old.end e l.leads));
+          read = rw (history, stream) (read_as old.end.decoder new.end.decoder c.stream (items c.history) (items (next c.history e))
+              (ap (λ (x : End). x.decoder) step ∙ call_decoder old.end e) (items-call c.history e call) l.read);
+          bytes = subst (All (λ b. b < 256)) (sym stream) l.bytes;
+          failed = ap (λ (x : End). x.failed) step ∙ call_failed old.end e ∙ l.failed;
+          latest = λ closed. sent ∙ sent_open c.progress.closed c.sent whole.history (sym (ap (λ (p : ClientProgress). p.closed) progress) ∙ closed);
         };
-        progress = ap (λ (core : Core). core.progress) is ∙ at.progress;
-      } in (
-        whole,
-        handled c whole old told on at refl,
-        leads,
-        refl,
-        ap (λ (xs : List Item). items_said h ++ xs) (says.sends.replies h l.leads),
-        refl,
-      );
-}
+    progress = ap (λ (core : Core). core.progress) is ∙ at.progress ∙ sym progress;
+  }
+
+  call_done : (told : Told) → (whole : Run → Run) → ((c : Run) → (whole c).history ≡ next c.history e) → ((c : Run) → (whole c).stream ≡ c.stream)
+      → ((c : Run) → (whole c).progress ≡ c.progress) → ((c : Run) → (whole c).sent ≡ sent_after c.progress.closed c.sent (whole c).history)
+      → ((c : Run) → Acts c told.from told.message (whole c)) → DoesWhole old told x y u u new
+  call_done told whole history stream progress sent acts = record {
+    said = says old.end e;
+    text = [];
+    appended = out;
+    displayed = sym (append-nil u);
+    leads = λ c at. (
+      whole c,
+      handled c (whole c) old told on at (acts c),
+      call_leads c (whole c) at (history c) (stream c) (progress c) (sent c),
+      sent c,
+      ap items_said (history c) ∙ ap (λ (xs : List Item). items_said c.history ++ xs) (says_as c.history old.end e (at.live on).leads),
+      ap text_shown (history c) ∙ ap (λ (bs : List ℕ). text_shown c.history ++ bs) (none c.history),
+    );
+  }
+
+pub does_resize : (from : Origin) (size : WindowSize) (old new : Core) (x y u : List ℕ) → old.progress.over ≡ false → new ≡ record old { end = new.end }
+    → new.end ≡ end_after old.end (resized size.width size.height) → y ≡ x ++ spells (says old.end (resized size.width size.height))
+    → DoesWhole old (record { from = from; message = Resized size }) x y u u new
+does_resize from size old new x y u on is step out = call_done (resized size.width size.height) tt old new x y u on is step out (λ h. refl)
+    (record { from = from; message = Resized size }) (λ c. resize size c) (λ c. refl) (λ c. refl) (λ c. refl) (λ c. refl) (λ c. refl)
 
 pub stops_resize : (from : Origin) (size : WindowSize) (old new : Core) (x y u : List ℕ) → old.progress.over ≡ false → new ≡ record old { end = new.end }
     → y ≡ x → StopsWithin old (record { from = from; message = Resized size }) x y u u new
@@ -290,38 +289,11 @@ stops_resize from size old new x y u on is same = record {
       );
 }
 
--- A COMMAND
 pub does_send : (control : Control) (old new : Core) (x y u : List ℕ) → old.progress.over ≡ false → new ≡ record old { end = new.end }
-    → Says old.end (client_events.sent (command_of control)) x y new.end → DoesWhole old (record { from = Keys; message = Asked control }) x y u u new
-does_send control old new x y u on is says = record {
-  said = says.sends.said;
-  text = [];
-  appended = says.sends.appended;
-  displayed = sym (append-nil u);
-  leads = λ c at.
-      let told : Told = record { from = Keys; message = Asked control } in
-      let h = c.history in
-      let later = next h (client_events.sent (command_of control)) in
-      let l = at.live on in
-      let whole = send control c in
-      let leads : LeadsTo whole new = record {
-        live = λ _. record {
-          leads = says.goes.leads h l.leads;
-          read = read_as old.end.decoder new.end.decoder c.stream (items h) (items later) says.keeps.decoder refl l.read;
-          bytes = l.bytes;
-          failed = says.keeps.failed ∙ l.failed;
-          latest = λ e. sent_open c.progress.closed c.sent later e;
-        };
-        progress = ap (λ (core : Core). core.progress) is ∙ at.progress;
-      } in (
-        whole,
-        handled c whole old told on at refl,
-        leads,
-        refl,
-        ap (λ (xs : List Item). items_said h ++ xs) (says.sends.replies h l.leads),
-        refl,
-      );
-}
+    → new.end ≡ old.end → y ≡ x ++ spells (says old.end (client_events.sent (command_of control)))
+    → DoesWhole old (record { from = Keys; message = Asked control }) x y u u new
+does_send control old new x y u on is step out = call_done (client_events.sent (command_of control)) tt old new x y u on is step out (λ h. refl)
+    (record { from = Keys; message = Asked control }) (λ c. send control c) (λ c. refl) (λ c. refl) (λ c. refl) (λ c. refl) (λ c. refl)
 
 pub stops_send : (control : Control) (old new : Core) (x y u : List ℕ) → old.progress.over ≡ false → new ≡ record old { end = new.end } → y ≡ x
     → StopsWithin old (record { from = Keys; message = Asked control }) x y u u new

@@ -1,28 +1,26 @@
 -- Keys, one after another.
-use Rattle.std.proofs.Common.{◌≡◌, ℕ, List, [], ◌∷◌, ◌++◌, refl, sym, ap, ◌∙◌, subst, append-nil, append_assoc}
-use Rattle.tn_client.specs.Answering.{TypesKey, Untouched}
+use Rattle.std.proofs.Common.{◌≡◌, ℕ, List, [], ◌∷◌, ◌++◌, refl, sym, ap, ◌∙◌, append-nil, append_assoc}
+use Rattle.tn_client.specs.Answering.{Untouched}
 use Rattle.tn_client.specs.Calls.{End, LeadsTo}
 use Rattle.tn_client.specs.Events.{History, next, typed, items}
 use Rattle.tn_client.specs.Replies.{items_said, replies}
 use Rattle.tn_client.specs.Screen.{text_shown, shows}
-use Rattle.tn_machines.specs.client.Reaching.{TypesAll}
+use Rattle.tn_client.specs.Steps.{end_after_key, says_key, shows_key}
+use Rattle.tn_client.proofs.lemmas.Standings.{stands, says_as, displays_as}
+use Rattle.tn_linemode.proofs.lemmas.Folding as folding
+use Rattle.tn_linemode.proofs.lemmas.Cutting.{added_on, spelled_on}
+use Rattle.tn_machines.specs.client.Reaching.{end_after_keys, says_keys, shows_keys, TypesAll}
 use Rattle.tn_machines.specs.client.Run.{types}
 use Rattle.tn_nvt.proofs.lemmas.Reading.{spells-append}
 use Rattle.tn_nvt.specs.Spelling.{spells}
 use Rattle.tn_nvt.specs.declared.items.Item.{Item}
 
-types-push : (h : History) (keys : List ℕ) (key : ℕ) → types h (keys ++ key ∷ []) ≡ next (types h keys) (typed key)
-types-push h [] key = refl
-types-push h (k ∷ ks) key = types-push (next h (typed k)) ks key
-
 types-append : (h : History) (front back : List ℕ) → types h (front ++ back) ≡ types (types h front) back
-types-append h [] back = refl
-types-append h (k ∷ ks) back = types-append (next h (typed k)) ks back
+types-append = folding.after_both (λ h key. next h (typed key))
 
 -- no item comes by a key
 pub items-types : (h : History) (keys : List ℕ) → items (types h keys) ≡ items h
-items-types h [] = refl
-items-types h (k ∷ ks) = items-types (next h (typed k)) ks
+items-types = folding.kept_all (λ h key. next h (typed key)) items (λ h key. refl)
 
 said-types : (h : History) (keys : List ℕ) → (rest : List Item) × (items_said (types h keys) ≡ items_said h ++ rest)
 said-types h [] = ([], sym (append-nil (items_said h)))
@@ -57,47 +55,50 @@ shown_front h keys front back text e f =
           ∙ append_assoc (text_shown h) text r.0,
     )
 
-pub types_none : (end : End) (x u : List ℕ) → TypesAll end [] x x u u end
-types_none end x u = record {
-  said = [];
-  text = [];
-  appended = sym (append-nil x);
-  displayed = sym (append-nil u);
-  sends = λ h s. sym (append-nil (items_said h));
-  shows = λ h s. sym (append-nil (text_shown h));
-  leads = λ h s. s;
-  keeps = record { decoder = refl; failed = refl };
-}
+-- WHERE KEYS LEAD
+pub stands_keys : (h : History) (old : End) (keys : List ℕ) → LeadsTo h old → LeadsTo (types h keys) (end_after_keys old keys)
+stands_keys = folding.stands_after (λ h key. next h (typed key)) end_after_key LeadsTo (λ h old key s. stands h old (typed key) s)
 
-pub types_more : (a b d : End) (keys : List ℕ) (key : ℕ) (x y z u v w : List ℕ) → TypesAll a keys x y u v b → TypesKey b key y z v w d
-    → TypesAll a (keys ++ key ∷ []) x z u w d
-types_more a b d keys key x y z u v w t k = let sends = k.sends in let shows = k.shows in record {
-  said = t.said ++ sends.said;
-  text = t.text ++ shows.text;
-  appended = sends.appended ∙ ap (λ (bs : List ℕ). bs ++ spells sends.said) t.appended ∙ append_assoc x (spells t.said) (spells sends.said)
-      ∙ ap (λ (bs : List ℕ). x ++ bs) (sym (spells-append t.said sends.said));
-  displayed = shows.appended ∙ ap (λ (bs : List ℕ). bs ++ shows.text) t.displayed ∙ append_assoc u t.text shows.text;
-  sends = λ h s.
-      ap items_said (types-push h keys key) ∙ ap (λ (xs : List Item). items_said (types h keys) ++ xs) (sends.replies (types h keys) (t.leads h s))
-      ∙ ap (λ (xs : List Item). xs ++ sends.said) (t.sends h s)
-      ∙ append_assoc (items_said h) t.said sends.said;
-  shows = λ h s.
-      ap text_shown (types-push h keys key) ∙ ap (λ (bs : List ℕ). text_shown (types h keys) ++ bs) (shows.shows (types h keys) (t.leads h s))
-      ∙ ap (λ (bs : List ℕ). bs ++ shows.text) (t.shows h s)
-      ∙ append_assoc (text_shown h) t.text shows.text;
-  leads = λ h s. subst (λ (k : History). LeadsTo k d) (sym (types-push h keys key)) (k.goes.leads (types h keys) (t.leads h s));
-  keeps = record { decoder = k.keeps.decoder ∙ t.keeps.decoder; failed = k.keeps.failed ∙ t.keeps.failed };
+pub said_keys : (h : History) (old : End) (keys : List ℕ) → LeadsTo h old → items_said (types h keys) ≡ items_said h ++ says_keys old keys
+said_keys = folding.said_after (λ h key. next h (typed key)) end_after_key LeadsTo (λ h old key s. stands h old (typed key) s) says_key items_said
+    (λ h old key s. ap (λ (xs : List Item). items_said h ++ xs) (says_as h old (typed key) s))
+
+pub shown_keys : (h : History) (old : End) (keys : List ℕ) → LeadsTo h old → text_shown (types h keys) ≡ text_shown h ++ shows_keys old keys
+shown_keys = folding.said_after (λ h key. next h (typed key)) end_after_key LeadsTo (λ h old key s. stands h old (typed key) s) shows_key text_shown
+    (λ h old key s. ap (λ (bs : List ℕ). text_shown h ++ bs) (displays_as h old (typed key) s))
+
+pub decoder_keys : (old : End) (keys : List ℕ) → (end_after_keys old keys).decoder ≡ old.decoder
+decoder_keys = folding.kept_all end_after_key (λ (e : End). e.decoder) (λ e key. refl)
+
+pub failed_keys : (old : End) (keys : List ℕ) → (end_after_keys old keys).failed ≡ old.failed
+failed_keys = folding.kept_all end_after_key (λ (e : End). e.failed) (λ e key. refl)
+
+-- one key more
+says_push : (a : End) (keys : List ℕ) (key : ℕ) → says_keys a (keys ++ key ∷ []) ≡ says_keys a keys ++ says_key (end_after_keys a keys) key
+says_push a keys key =
+    folding.said_both end_after_key says_key a keys (key ∷ [])
+    ∙ ap (λ (xs : List Item). says_keys a keys ++ xs) (append-nil (says_key (end_after_keys a keys) key))
+
+shows_push : (a : End) (keys : List ℕ) (key : ℕ) → shows_keys a (keys ++ key ∷ []) ≡ shows_keys a keys ++ shows_key (end_after_keys a keys) key
+shows_push a keys key =
+    folding.said_both end_after_key shows_key a keys (key ∷ [])
+    ∙ ap (λ (bs : List ℕ). shows_keys a keys ++ bs) (append-nil (shows_key (end_after_keys a keys) key))
+
+pub types_none : (end : End) (x u : List ℕ) → TypesAll end [] x x u u end
+types_none end x u = record { step = refl; said = sym (append-nil x); shown = sym (append-nil u) }
+
+pub types_more : (a b d : End) (keys : List ℕ) (key : ℕ) (x y z u v w : List ℕ) → TypesAll a keys x y u v b → d ≡ end_after_key b key
+    → z ≡ y ++ spells (says_key b key) → w ≡ v ++ shows_key b key → TypesAll a (keys ++ key ∷ []) x z u w d
+types_more a b d keys key x y z u v w t step said shown = record {
+  step = step ∙ ap (λ (e : End). end_after_key e key) t.step ∙ sym (folding.after_both end_after_key a keys (key ∷ []));
+  said =
+      spelled_on (says_keys a keys) (says_key (end_after_keys a keys) key) x y z t.said (said ∙ ap (λ (e : End). y ++ spells (says_key e key)) t.step)
+      ∙ ap (λ (xs : List Item). x ++ spells xs) (sym (says_push a keys key));
+  shown =
+      added_on (shows_keys a keys) (shows_key (end_after_keys a keys) key) u _ _ t.shown (shown ∙ ap (λ (e : End). v ++ shows_key e key) t.step)
+      ∙ ap (λ (bs : List ℕ). u ++ bs) (sym (shows_push a keys key));
 }
 
 -- a key that was refused was not typed
 pub types_kept : (a b d : End) (keys x y z u v w : List ℕ) → Untouched b y z v w d → TypesAll a keys x y u v b → TypesAll a keys x z u w d
-types_kept a b d keys x y z u v w same t = record {
-  said = t.said;
-  text = t.text;
-  appended = same.out ∙ t.appended;
-  displayed = same.screen ∙ t.displayed;
-  sends = t.sends;
-  shows = t.shows;
-  leads = λ h s. subst (λ (e : End). LeadsTo (types h keys) e) (sym same.end) (t.leads h s);
-  keeps = record { decoder = ap (λ (e : End). e.decoder) same.end ∙ t.keeps.decoder; failed = ap (λ (e : End). e.failed) same.end ∙ t.keeps.failed };
-}
+types_kept a b d keys x y z u v w same t = record { step = same.end ∙ t.step; said = same.out ∙ t.said; shown = same.screen ∙ t.shown }

@@ -4,9 +4,13 @@ use Rattle.std.proofs.Common.{append-nil, append_assoc, length, arith, ◌<◌, 
 use Rattle.std.specs.List.{concat}
 use Rattle.std.proofs.lemmas.List.Elements.{All-nil, All-cons}
 use Rattle.tn_machines.proofs.lemmas.Pieces.{read_on}
-use Rattle.tn_server.proofs.lemmas.Histories.{gets-append, sent-gets}
 use Rattle.tn_server.specs.Faults.{IsOfItem, IsOfPiece}
-use Rattle.tn_server.specs.Calls.{End, StopsWithin, first_replies}
+use Rattle.tn_server.specs.Answering.{StopsWithin}
+use Rattle.tn_server.specs.Calls.{End}
+use Rattle.tn_server.specs.Steps.{end_after_items, says_items}
+use Rattle.tn_server.proofs.lemmas.Gathering.{says_both}
+use Rattle.tn_server.proofs.lemmas.Leading.{says_all}
+use Rattle.tn_server.proofs.lemmas.Stopping.{front_said}
 use Rattle.tn_server.specs.declared.faults.ServerFault.{ServerFault}
 use Rattle.tn_server.specs.declared.faults.ServerFault.TheVariants as server
 use Rattle.tn_machines.proofs.of_terminal.Following.{in_parts-append}
@@ -15,7 +19,7 @@ use Rattle.tn_nvt.proofs.lemmas.Reading.{spells-append}
 use Rattle.tn_nvt.specs.Spelling.{spells}
 use Rattle.tn_nvt.specs.declared.items.Item.{Item}
 use Rattle.tn_server.specs.Course.{in_parts}
-use Rattle.tn_server.specs.Events.{History, next, got, took, wrote, pulled, gets, items}
+use Rattle.tn_server.specs.Events.{History, next, took, wrote, pulled, gets, items}
 use Rattle.tn_server.specs.Lines.{waiting}
 use Rattle.tn_server.specs.Replies.{items_said, replies}
 use Rattle.tn_server.specs.Screen.{queue}
@@ -164,24 +168,6 @@ breaks_part old new mid part x y is same = record {
   puts = λ c at. sym (append-nil c.puts);
 }
 
--- the first items of a piece were done, and one or the decoder was refused
-first_said : (k : History) (left more : List Item) (part : List Item) → (rest : List Item) × (first_replies k left ≡ part ++ rest) → (rest : List Item)
-    × (items_said (gets k (left ++ more)) ≡ items_said k ++ (part ++ rest))
-first_said k [] more part (rest, e) =
-    let none = append_is_nil part rest (sym e) in
-    let m = sent-gets k more in
-    (m.0, m.1 ∙ ap (λ (xs : List Item). items_said k ++ (xs ++ m.0)) (sym none))
-  where
-    append_is_nil : (xs ys : List Item) → xs ++ ys ≡ [] → xs ≡ []
-    append_is_nil [] ys e = refl
-    append_is_nil (x ∷ xs) ys e = cc
-first_said k (item ∷ left) more part (rest, e) =
-    let m = sent-gets (next k (got item)) (left ++ more) in (
-      rest ++ m.0,
-      m.1 ∙ append_assoc (items_said k) (replies k (got item)) m.0 ∙ ap (λ (xs : List Item). items_said k ++ (xs ++ m.0)) e
-          ∙ ap (λ (xs : List Item). items_said k ++ xs) (append_assoc part rest m.0),
-    )
-
 -- the items of the whole piece go on from those of its front
 pub read_past : (old : Term) (end : End) (piece x y : List ℕ) (f : ServerFault) → old.progress.over ≡ false → All (λ b. b < 256) piece
     → (h : StopsWithin old.end piece f x y end) → (c : Run) → LeadsTo c old → (more : List Item) × Reads c piece (h.done ++ (h.left ++ more))
@@ -190,31 +176,32 @@ read_past old end piece x y f on small h c at =
     let before = h.reads c.stream (items c.history) l.read in
     read_on c.stream piece h.front h.back (items c.history) h.done h.left l.bytes small h.whole (before.rest, before.reading)
 
+-- the first items of a piece were done, and one or the decoder was refused
 halts_break : (old new : Term) (end : End) (piece x y : List ℕ) (f : ServerFault) → old.progress.over ≡ false
     → new ≡ record old { end = end; progress = after_piece old.progress } → All (λ b. b < 256) piece → StopsWithin old.end piece f x y end
     → FeedBreaksOff old piece x y new
-halts_break old new end piece x y f on is small h = record {
-  part = spells (h.said ++ h.part);
-  appended = h.appended;
-  leads = λ c at.
-      let l = at.live on in
-      let past = read_past old end piece x y f on small h c at in
-      let more : List Item = past.0 in
-      let xs : List Item = h.done ++ (h.left ++ more) in
-      let k = gets c.history h.done in
-      let r = first_said k h.left more h.part (h.begins c.history l.leads) in
-      let said : items_said (gets c.history xs) ≡ items_said c.history ++ ((h.said ++ h.part) ++ r.0) =
-      ap items_said (gets-append c.history h.done (h.left ++ more)) ∙ r.1 ∙ ap (λ (ys : List Item). ys ++ (h.part ++ r.0)) (h.sends c.history l.leads)
-      ∙ append_assoc (items_said c.history) h.said (h.part ++ r.0) ∙ ap (λ (ys : List Item). items_said c.history ++ ys) (sym (append_assoc h.said h.part r.0))
-      in (
-        xs,
-        past.1,
-        spells r.0,
-        ap spells said ∙ spells-append (items_said c.history) ((h.said ++ h.part) ++ r.0)
-            ∙ ap (λ (bs : List ℕ). spells (items_said c.history) ++ bs) (spells-append (h.said ++ h.part) r.0),
-      );
-  progress = ap (λ (t : Term). t.progress) is;
-}
+halts_break old new end piece x y f on is small h =
+    let said = says_items old.end h.done ++ h.part in
+    record {
+      part = spells said;
+      appended = h.said;
+      leads = λ c at.
+          let l = at.live on in
+          let past = read_past old end piece x y f on small h c at in
+          let xs : List Item = h.done ++ (h.left ++ past.0) in
+          let u = front_said (end_after_items old.end h.done) h.left past.0 h.part h.rest h.begins in
+          let all : items_said (gets c.history xs) ≡ items_said c.history ++ (said ++ u.0) =
+          says_all c.history old.end xs l.leads
+          ∙ ap (λ (ys : List Item). items_said c.history ++ ys) (says_both old.end h.done (h.left ++ past.0)
+          ∙ ap (λ (ys : List Item). says_items old.end h.done ++ ys) u.1 ∙ sym (append_assoc (says_items old.end h.done) h.part u.0)) in (
+            xs,
+            past.1,
+            spells u.0,
+            ap spells all ∙ spells-append (items_said c.history) (said ++ u.0)
+                ∙ ap (λ (bs : List ℕ). spells (items_said c.history) ++ bs) (spells-append said u.0),
+          );
+      progress = ap (λ (t : Term). t.progress) is;
+    }
 
 -- an end that had failed is fed nothing, but a run never leads there
 failed_break : (old new : Term) (end : End) (piece x y : List ℕ) → old.progress.over ≡ false

@@ -11,20 +11,23 @@ use Rattle.tn_jobs.specs.declared.verdicts.JobState.{JobState}
 use Rattle.tn_jobs.specs.declared.verdicts.JobState.TheVariants.{Stopped, Ended}
 use Rattle.tn_jobs.specs.declared.verdicts.Why.{Why}
 use Rattle.tn_server.specs.Lines.{waiting}
-use Rattle.tn_server.specs.Calls.{Feeds as EndFeeds}
-use Rattle.tn_server.specs.Calls as server
+use Rattle.tn_server.specs.Answering.{Feeds as EndFeeds}
 use Rattle.tn_server.specs.Events.{History, next, took, wrote, items, begun, wished}
 use Rattle.tn_server.specs.Replies.{items_said, opening as opening_words}
 use Rattle.tn_server.specs.declared.wishes.Editing.{Editing}
 use Rattle.tn_discipline.specs.Canon.{Canon}
-use Rattle.tn_server.specs.Calls.{End, Advances, ReadsNothing}
+use Rattle.tn_server.specs.Calls.{End}
+use Rattle.tn_server.specs.Steps.{end_after, says, says_items}
+use Rattle.tn_server.proofs.lemmas.Ends.{waits_are}
+use Rattle.tn_server.proofs.lemmas.Gathering.{items_keep}
+use Rattle.tn_server.proofs.lemmas.Leading.{stands_fed, says_as, says_all}
 use Rattle.tn_server.specs.Calls as server
 use Rattle.tn_machines.specs.declared.server.progress.ServerProgress.{ServerProgress}
 use Rattle.tn_machines.specs.declared.server.terminal.Term.{Term}
 use Rattle.tn_machines.specs.server.Counting.{after_answer, after_no_entry, after_piece, after_halt, nothing_yet}
 use Rattle.tn_machines.specs.server.Run.{Run, flushed_history, ask, answer, end_if, show, move, stop_job, end_job, in_foreground, halt, halt_if, start, opening}
 use Rattle.tn_machines.specs.server.Reaching.{LeadsTo, FollowsPath, AdvancesRun, Feeds, HaltsIf}
-use Rattle.tn_machines.proofs.of_terminal.Following.{follows_took, follows_wrote, follows_then, follows_none, in_parts-push, spelled_on}
+use Rattle.tn_machines.proofs.of_terminal.Following.{follows_call, follows_then, follows_none, in_parts-push, spelled_on}
 use Rattle.tn_server.proofs.lemmas.Histories.{items-gets, opening-gets}
 use Rattle.tn_nvt.specs.Spelling.{spells}
 use Rattle.tn_nvt.proofs.lemmas.Reading.{spells-append}
@@ -95,19 +98,22 @@ does_nothing t x = record {
 
 -- an entry goes to Desk
 pub does_answer : (old new : Term) (end : End) (e : Entry) (x y : List ℕ) → old.progress.over ≡ false
-    → new ≡ record old { end = end; progress = after_answer old.progress } → Advances old.end took x y end → ReadsNothing old.end end
-    → ((h : History) → server.LeadsTo h old.end → waiting h ≡ e ∷ waiting (next h took)) → AdvancesRun ask old x y (Some e ∷ []) new
-does_answer old new end e x y on is goes keeps entry =
-    does_same _ ask old new x y (Some e ∷ []) (λ c at. ap (answer (record c { history = next c.history took })) (entry c.history (at.live on).leads))
-    (does_all (λ h. next h took) (λ j. j) after_answer (Some e ∷ []) old new end x y on is (follows_took old.end end x y goes keeps))
+    → new ≡ record old { end = end; progress = after_answer old.progress } → end ≡ end_after old.end took
+    → y ≡ x ++ spells (says old.end took) → old.end.terminal.entries ≡ e ∷ end.terminal.entries → AdvancesRun ask old x y (Some e ∷ []) new
+does_answer old new end e x y on is step said entry =
+    let f = follows_call old.end end took x y tt step said in
+    let first : (h : History) → server.LeadsTo h old.end → waiting h ≡ e ∷ waiting (next h took) = λ h s.
+    waits_are h old.end s ∙ entry ∙ ap (λ (es : List Entry). e ∷ es) (sym (waits_are (next h took) end (f.leads h s))) in
+    does_same _ ask old new x y (Some e ∷ []) (λ c at. ap (answer (record c { history = next c.history took })) (first c.history (at.live on).leads))
+    (does_all (λ h. next h took) (λ j. j) after_answer (Some e ∷ []) old new end x y on is f)
 
 -- no entry waits
 pub does_wait : (old new : Term) (end : End) (put : List (Option Entry)) (x y : List ℕ) → old.progress.over ≡ false
-    → new ≡ record old { end = end; progress = after_no_entry old.progress } → put ≡ end_if old.progress.at_end → Advances old.end took x y end
-    → ReadsNothing old.end end → ((h : History) → server.LeadsTo h old.end → waiting h ≡ []) → AdvancesRun ask old x y put new
-does_wait old new end put x y on is puts goes keeps entry =
+    → new ≡ record old { end = end; progress = after_no_entry old.progress } → put ≡ end_if old.progress.at_end → end ≡ end_after old.end took
+    → y ≡ x ++ spells (says old.end took) → old.end.terminal.entries ≡ [] → AdvancesRun ask old x y put new
+does_wait old new end put x y on is puts step said none =
     does_same _ ask old new x y put same (does_all (λ h. next h took) (λ j. j) after_no_entry put old new end x y on is
-    (follows_took old.end end x y goes keeps))
+    (follows_call old.end end took x y tt step said))
   where
     same : (c : Run) → LeadsTo c old → ask c ≡ record {
       history = next c.history took;
@@ -117,7 +123,7 @@ does_wait old new end put x y on is puts goes keeps entry =
       progress = after_no_entry c.progress;
     }
     same c at =
-        ap (answer (record c { history = next c.history took })) (entry c.history (at.live on).leads)
+        ap (answer (record c { history = next c.history took })) (waits_are c.history old.end (at.live on).leads ∙ none)
         ∙ ap (λ (ps : List (Option Entry)). record {
           history = next c.history took;
           stream = c.stream;
@@ -129,36 +135,38 @@ does_wait old new end put x y on is puts goes keeps entry =
 -- a piece came
 pub feeds : (old new : Term) (end : End) (piece x y : List ℕ) → All (λ b. b < 256) piece → old.progress.over ≡ false
     → new ≡ record old { end = end; progress = after_piece old.progress } → EndFeeds old.end piece x y end → Feeds old piece x y new
-feeds old new end piece x y small on is f = record {
-  items = f.items;
-  reads = λ c at. let l = at.live on in let r = f.reads c.stream (items c.history) l.read in (r.rest, r.reading);
-  does = record {
-    said = f.said;
-    appended = f.appended;
-    leads = λ c at. record {
-      live = λ _.
-          let l = at.live on in
-          rw is (record {
-            leads = f.leads c.history l.leads;
-            read = rw (items-gets c.history f.items) (f.reads c.stream (items c.history) l.read);
-            bytes = All-append (λ b. b < 256) c.stream piece l.bytes small;
-            failed = f.failed ∙ l.failed;
-            closed = f.closed ∙ l.closed;
-            tostop = l.tostop ∙ ap (λ s. s.flags.tostop) (sym (opening-gets c.history f.items));
-            jobs = l.jobs;
-          });
-      progress = ap (λ (t : Term). t.progress) is ∙ ap after_piece at.progress;
-    };
-    sends = λ c at. f.sends c.history (at.live on).leads;
-    puts = λ c at. sym (append-nil c.puts);
-  };
-}
+feeds old new end piece x y small on is f =
+    let keeps = f.step ∙ ap (λ (e : End). record e { decoder = end.decoder }) (items_keep old.end f.items) in
+    record {
+      items = f.items;
+      reads = λ c at. let l = at.live on in let r = f.reads c.stream (items c.history) l.read in (r.rest, r.reading);
+      does = record {
+        said = says_items old.end f.items;
+        appended = f.said;
+        leads = λ c at. record {
+          live = λ _.
+              let l = at.live on in
+              rw is (record {
+                leads = stands_fed c.history old.end end piece x y f l.leads;
+                read = rw (items-gets c.history f.items) (f.reads c.stream (items c.history) l.read);
+                bytes = All-append (λ b. b < 256) c.stream piece l.bytes small;
+                failed = ap (λ (e : End). e.failed) keeps ∙ l.failed;
+                closed = ap (λ (e : End). e.terminal.closed) keeps ∙ l.closed;
+                tostop = l.tostop ∙ ap (λ s. s.flags.tostop) (sym (opening-gets c.history f.items));
+                jobs = l.jobs;
+              });
+          progress = ap (λ (t : Term). t.progress) is ∙ ap after_piece at.progress;
+        };
+        sends = λ c at. says_all c.history old.end f.items (at.live on).leads;
+        puts = λ c at. sym (append-nil c.puts);
+      };
+    }
 
 pub does_part : (old new : Term) (mid end : End) (part x y z : List ℕ) → old.progress.over ≡ false → new ≡ record old { end = end }
-    → Advances old.end (wrote part) x y mid → ReadsNothing old.end mid → FollowsPath flushed_history mid y z end → AdvancesRun (show (part ∷ [])) old x z [] new
-does_part old new mid end part x y z on is goes keeps f =
+    → mid ≡ end_after old.end (wrote part) → y ≡ x → FollowsPath flushed_history mid y z end → AdvancesRun (show (part ∷ [])) old x z [] new
+does_part old new mid end part x y z on is step same f =
     does_follow (λ h. flushed_history (next h (wrote part))) old new end x z on is
-    (follows_then (λ h. next h (wrote part)) flushed_history old.end mid end x y z (follows_wrote old.end mid part x y goes keeps) f)
+    (follows_then (λ h. next h (wrote part)) flushed_history old.end mid end x y z (follows_call old.end mid (wrote part) x y tt step (same ∙ sym (append-nil x))) f)
 
 -- one more part
 pub does_push : (done : List (List ℕ)) (part : List ℕ) (a b d : Term) (x y z : List ℕ) → AdvancesRun (show done) a x y [] b
@@ -245,15 +253,16 @@ does_halt_if false old new put x h =
 -- the end is started
 pub starts : (canon : Canon) (editing : Editing) (jobs : Jobs) (begun_end wished_end end : End) (term : Term) (x y z : List ℕ)
     → server.LeadsTo (begun canon) begun_end → nvt.LeadsTo [] [] begun_end.decoder → begun_end.failed ≡ false → begun_end.terminal.closed ≡ false
-    → Advances begun_end (wished editing) x y wished_end → ReadsNothing begun_end wished_end → FollowsPath flushed_history wished_end y z end
+    → wished_end ≡ end_after begun_end (wished editing) → y ≡ x ++ spells (says begun_end (wished editing)) → FollowsPath flushed_history wished_end y z end
     → term ≡ record { end = end; table = jobs; tostop = canon.settings.flags.tostop; progress = nothing_yet } → LeadsTo (start canon editing jobs) term
-starts canon editing jobs begun_end wished_end end term x y z s r runs opens goes keeps f is =
+starts canon editing jobs begun_end wished_end end term x y z s r runs opens step said f is =
+    let goes = follows_call begun_end wished_end (wished editing) x y tt step said in
     rw is (record {
       live = λ _. record {
         leads = f.leads (next (begun canon) (wished editing)) (goes.leads (begun canon) s);
-        read = read_as begun_end.decoder end.decoder [] [] [] (f.decoder ∙ keeps.decoder) refl r;
+        read = read_as begun_end.decoder end.decoder [] [] [] (f.decoder ∙ goes.decoder) refl r;
         bytes = All-nil (λ b. b < 256);
-        failed = f.failed ∙ keeps.failed ∙ runs;
+        failed = f.failed ∙ goes.failed ∙ runs;
         closed = f.closed ∙ goes.closed ∙ opens;
         tostop = refl;
         jobs = refl;
@@ -262,13 +271,15 @@ starts canon editing jobs begun_end wished_end end term x y z s r runs opens goe
     })
 
 pub start_sends : (canon : Canon) (editing : Editing) (begun_end wished_end end : End) (x₀ x y z : List ℕ) → x₀ ≡ [] → x ≡ x₀ ++ spells opening_words
-    → server.LeadsTo (begun canon) begun_end → Advances begun_end (wished editing) x y wished_end → FollowsPath flushed_history wished_end y z end
+    → server.LeadsTo (begun canon) begun_end → wished_end ≡ end_after begun_end (wished editing) → y ≡ x ++ spells (says begun_end (wished editing))
+    → FollowsPath flushed_history wished_end y z end
     → z ≡ spells (items_said (opening canon editing))
-start_sends canon editing begun_end wished_end end x₀ x y z e₀ e s goes f =
+start_sends canon editing begun_end wished_end end x₀ x y z e₀ e s step said f =
     let h = begun canon in
+    let goes = follows_call begun_end wished_end (wished editing) x y tt step said in
     let first : x ≡ spells opening_words = e ∙ ap (λ (bs : List ℕ). bs ++ spells opening_words) e₀ in
     let second : y ≡ spells (items_said (next h (wished editing))) =
-    goes.appended ∙ ap (λ (bs : List ℕ). bs ++ spells goes.said) first ∙ sym (spells-append opening_words goes.said)
-    ∙ ap (λ (xs : List Item). spells (opening_words ++ xs)) (sym (goes.replies h s)) in
+    said ∙ ap (λ (bs : List ℕ). bs ++ spells (says begun_end (wished editing))) first
+    ∙ sym (spells-append opening_words (says begun_end (wished editing))) ∙ ap (λ (xs : List Item). spells (opening_words ++ xs)) (sym (says_as h begun_end (wished editing) s)) in
     f.appended ∙ ap (λ (bs : List ℕ). bs ++ spells f.said) second ∙ sym (spells-append (items_said (next h (wished editing))) f.said)
     ∙ ap spells (sym (f.sends (next h (wished editing)) (goes.leads h s)))

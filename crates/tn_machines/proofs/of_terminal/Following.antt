@@ -7,11 +7,15 @@ use Rattle.tn_nvt.proofs.lemmas.Reading.{spells-append}
 use Rattle.tn_nvt.specs.Spelling.{spells}
 use Rattle.tn_nvt.specs.declared.items.Item.{Item}
 use Rattle.tn_pty.specs.Terminal.{queue_with}
-use Rattle.tn_server.specs.Course.{in_parts}
-use Rattle.tn_server.specs.Events.{History, begun, next, got, took, wrote, pulled, wished, char_set, echo_set, mask_set}
+use Rattle.tn_server.specs.Course.{in_parts, IsCall}
+use Rattle.tn_server.specs.Events.{Event, History, begun, next, got, took, wrote, pulled, wished, char_set, echo_set, mask_set}
 use Rattle.tn_server.specs.Replies.{items_said, replies}
 use Rattle.tn_server.specs.Screen.{queue}
-use Rattle.tn_server.specs.Calls.{End, LeadsTo, Advances, ReadsNothing}
+use Rattle.tn_server.specs.Calls.{End, LeadsTo}
+use Rattle.tn_server.specs.Steps.{end_after, says}
+use Rattle.tn_server.proofs.lemmas.Courses.{calls_read}
+use Rattle.tn_server.proofs.lemmas.Gathering.{call_keeps}
+use Rattle.tn_server.proofs.lemmas.Leading.{stands, says_as}
 use Rattle.tn_machines.specs.server.Reaching.{FollowsPath}
 use Rattle.tn_machines.specs.server.Run.{flushed_history}
 
@@ -34,50 +38,41 @@ queue_bound (next h (char_set func value)) = queue_bound h
 queue_bound (next h (echo_set on)) = queue_bound h
 queue_bound (next h (mask_set mask)) = queue_bound h
 
-pub follows_pulled : (old new : End) (n : ℕ) (before after : List ℕ) → Advances old (pulled n) before after new → ReadsNothing old new
-    → ((h : History) → LeadsTo h old → n ≡ min 4096 (length (queue h))) → FollowsPath flushed_history old before after new
-follows_pulled old new n before after goes keeps count = record {
-  said = goes.said;
-  appended = goes.appended;
-  sends = λ h s. ap (λ (m : ℕ). items_said h ++ replies h (pulled m)) (sym (all h s)) ∙ ap (λ (xs : List Item). items_said h ++ xs) (goes.replies h s);
-  leads = λ h s. let P : ℕ → Type 0 = λ m. LeadsTo (next h (pulled m)) new in subst P (all h s) (goes.leads h s);
-  decoder = keeps.decoder;
-  failed = keeps.failed;
-  closed = goes.closed;
-  items = λ h. refl;
-  settings = λ h. refl;
-}
+-- a call of the end
+pub follows_call : (old new : End) (e : Event) (before after : List ℕ) → IsCall e → new ≡ end_after old e → after ≡ before ++ spells (says old e)
+    → FollowsPath (λ h. next h e) old before after new
+follows_call old new e before after call step said =
+    let keeps = step ∙ call_keeps old e in
+    record {
+      said = says old e;
+      appended = said;
+      sends = λ h s. ap (λ (xs : List Item). items_said h ++ xs) (says_as h old e s);
+      leads = λ h s. subst (LeadsTo (next h e)) (sym step) (stands h old e s);
+      decoder = ap (λ (x : End). x.decoder) keeps;
+      failed = ap (λ (x : End). x.failed) keeps;
+      closed = ap (λ (x : End). x.terminal.closed) keeps;
+      items = λ h. calls_read h e call;
+      settings = λ h. refl;
+    }
+
+pub follows_pulled : (old new : End) (n : ℕ) (before after : List ℕ) → new ≡ end_after old (pulled n) → after ≡ before ++ spells (says old (pulled n))
+    → n ≡ min 4096 (length old.terminal.queue) → FollowsPath flushed_history old before after new
+follows_pulled old new n before after step said count =
+    let f = follows_call old new (pulled n) before after tt step said in
+    record {
+      said = f.said;
+      appended = f.appended;
+      sends = λ h s. ap (λ (m : ℕ). items_said h ++ replies h (pulled m)) (sym (all h s)) ∙ f.sends h s;
+      leads = λ h s. let P : ℕ → Type 0 = λ m. LeadsTo (next h (pulled m)) new in subst P (all h s) (f.leads h s);
+      decoder = f.decoder;
+      failed = f.failed;
+      closed = f.closed;
+      items = λ h. refl;
+      settings = λ h. refl;
+    }
   where
     all : (h : History) → LeadsTo h old → n ≡ length (queue h)
-    all h s = let b = queue_bound h in let c = count h s in omega (arith, b, c)
-
-pub follows_wrote : (old new : End) (bytes before after : List ℕ) → Advances old (wrote bytes) before after new → ReadsNothing old new
-    → FollowsPath (λ h. next h (wrote bytes)) old before after new
-follows_wrote old new bytes before after goes keeps = record {
-  said = goes.said;
-  appended = goes.appended;
-  sends = λ h s. ap (λ (xs : List Item). items_said h ++ xs) (goes.replies h s);
-  leads = goes.leads;
-  decoder = keeps.decoder;
-  failed = keeps.failed;
-  closed = goes.closed;
-  items = λ h. refl;
-  settings = λ h. refl;
-}
-
-pub follows_took : (old new : End) (before after : List ℕ) → Advances old took before after new → ReadsNothing old new
-    → FollowsPath (λ h. next h took) old before after new
-follows_took old new before after goes keeps = record {
-  said = goes.said;
-  appended = goes.appended;
-  sends = λ h s. ap (λ (xs : List Item). items_said h ++ xs) (goes.replies h s);
-  leads = goes.leads;
-  decoder = keeps.decoder;
-  failed = keeps.failed;
-  closed = goes.closed;
-  items = λ h. refl;
-  settings = λ h. refl;
-}
+    all h s = let b = queue_bound h in let c = count ∙ ap (λ (q : List Symbol). min 4096 (length q)) s.queue in omega (arith, b, c)
 
 pub in_parts-push : (h : History) (parts : List (List ℕ)) (part : List ℕ)
     → in_parts h (parts ++ part ∷ []) ≡ flushed_history (next (in_parts h parts) (wrote part))

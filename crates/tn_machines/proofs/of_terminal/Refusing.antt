@@ -17,7 +17,12 @@ use Rattle.tn_pty.specs.Terminal.{fitting_count, output_symbols}
 use Rattle.tn_pty.specs.declared.pty.PtyFault.{PtyFault}
 use Rattle.tn_pty.specs.declared.pty.PtyFault.TheVariants as pty
 use Rattle.tn_server.proofs.lemmas.Stopping.{has_read}
-use Rattle.tn_server.specs.Calls.{End, StopsWithin, IsStopCause}
+use Rattle.tn_server.proofs.lemmas.Causes.{causes}
+use Rattle.tn_server.proofs.lemmas.Leading.{stands_all}
+use Rattle.tn_server.specs.Answering.{StopsWithin, IsStopCause}
+use Rattle.tn_server.specs.Calls.{End}
+use Rattle.tn_server.specs.Calls as server_end
+use Rattle.tn_server.specs.Steps.{end_after_items}
 use Rattle.tn_server.specs.Course.{in_parts}
 use Rattle.tn_server.specs.Events.{History, next, took, wrote, pulled, gets, items}
 use Rattle.tn_server.specs.Faults.{IsOfItem, IsOfPiece, SaysSomething}
@@ -98,19 +103,19 @@ wait_asked old mid x y put does waits c at =
     subst (λ (h : History). SymbolsWait h) (kept_history (record c { history = next c.history took }) (waiting c.history)) (waits (ask c) (does.leads c at))
 
 -- PIECES
-at_stop : (c : Run) (piece front back : List ℕ) (f : ServerFault) (done left more : List Item) (here : DecoderState) → piece ≡ front ++ back
+at_stop : (c : Run) (end : End) (piece front back : List ℕ) (f : ServerFault) (done left more : List Item) (here : DecoderState) → piece ≡ front ++ back
     → nvt.LeadsTo (c.stream ++ front) (items c.history ++ (done ++ left)) here → Reads c piece (done ++ (left ++ more))
-    → IsStopCause (gets c.history done) left here back f → RefusesAtItem c piece f ⊎ ((f ≡ server.Memory) × RefusesAtByte c piece)
-at_stop c piece front back f done [] more here whole at r why = inr (why.0, (front, back, whole, done ++ [], here, at, why.1))
-at_stop c piece front back f done (item ∷ left) more here whole at r why = inl (done, item, left ++ more, r, why)
+    → server_end.LeadsTo (gets c.history done) end → IsStopCause end left here back f → RefusesAtItem c piece f ⊎ ((f ≡ server.Memory) × RefusesAtByte c piece)
+at_stop c end piece front back f done [] more here whole at r s why = inr (why.0, (front, back, whole, done ++ [], here, at, why.1))
+at_stop c end piece front back f done (item ∷ left) more here whole at r s why = inl (done, item, left ++ more, r, causes (gets c.history done) end item f s why)
 
 stopped_at : (old : Term) (end : End) (piece x y : List ℕ) (f : ServerFault) → old.progress.over ≡ false → All (λ b. b < 256) piece
     → StopsWithin old.end piece f x y end → (c : Run) → LeadsTo c old → RefusesAtItem c piece f ⊎ ((f ≡ server.Memory) × RefusesAtByte c piece)
 stopped_at old end piece x y f on small h c at =
     let l = at.live on in
     let past = read_past old end piece x y f on small h c at in
-    at_stop c piece h.front h.back f h.done h.left past.0 h.here h.whole (h.reads c.stream (items c.history) l.read) past.1
-    (h.cause (has_read old.end.decoder c.stream (items c.history) l.read) c.history l.leads)
+    at_stop c (end_after_items old.end h.done) piece h.front h.back f h.done h.left past.0 h.here h.whole (h.reads c.stream (items c.history) l.read) past.1
+    (stands_all c.history old.end h.done l.leads) (h.cause (has_read old.end.decoder c.stream (items c.history) l.read))
 
 item_refused : (old : Term) (end : End) (piece x y : List ℕ) (g : PtyFault) → old.progress.over ≡ false → All (λ b. b < 256) piece
     → StopsWithin old.end piece (server.Pty g) x y end → (c : Run) → LeadsTo c old → RefusesAtItem c piece (server.Pty g)

@@ -1,14 +1,16 @@
 -- Where a run leads the core, and what a message adds to it, whatever the run was.
 use Rattle.std.specs.Prelude.{◌≡◌, ℕ, ◌<◌, All, Bool, true, IsTrue, false, IsFalse, List, [], ◌++◌}
-use Rattle.tn_client.specs.Calls.{End, ReadsNothing}
+use Rattle.tn_client.specs.Calls.{End}
 use Rattle.tn_client.specs.Calls as client
-use Rattle.tn_client.specs.Events.{History, items}
+use Rattle.tn_client.specs.Events.{items}
 use Rattle.tn_client.specs.Replies.{items_said}
 use Rattle.tn_client.specs.Screen.{text_shown}
+use Rattle.tn_linemode.specs.Folding.{after_all, said_all}
+use Rattle.tn_client.specs.Steps.{end_after_key, says_key, shows_key}
 use Rattle.tn_client.specs.declared.faults.ClientFault.{ClientFault}
 use Rattle.tn_machines.specs.client.Marks.{Turns, is_written, is_whole}
 use Rattle.tn_machines.specs.client.Refusing.{IsRefusalCause}
-use Rattle.tn_machines.specs.client.Run.{Run, Handles, types, sent_after}
+use Rattle.tn_machines.specs.client.Run.{Run, Handles, sent_after}
 use Rattle.tn_machines.specs.declared.client.machine.Core.{Core}
 use Rattle.tn_machines.specs.declared.client.messages.ClientMark.{ClientMark}
 use Rattle.tn_machines.specs.declared.client.messages.Told.{Told}
@@ -29,16 +31,21 @@ pub record LeadsTo (c : Run) (core : Core) : Type 0 where
   pub live : IsFalse core.progress.over → IsLive c core
   pub progress : core.progress ≡ c.progress
 
--- Some keys, one after another: where the end stands, what it said and what it showed.
+-- the end after some keys, one after another, what it says and what it shows
+abbrev pub end_after_keys : End → List ℕ → End
+end_after_keys old keys = after_all end_after_key old keys
+
+abbrev pub says_keys : End → List ℕ → List Item
+says_keys old keys = said_all end_after_key says_key old keys
+
+abbrev pub shows_keys : End → List ℕ → List ℕ
+shows_keys old keys = said_all end_after_key shows_key old keys
+
+-- Some keys were typed.
 pub record TypesAll (old : End) (keys before after seen now : List ℕ) (new : End) : Type 0 where
-  pub said : List Item
-  pub text : List ℕ
-  pub appended : after ≡ before ++ spells said
-  pub displayed : now ≡ seen ++ text
-  pub sends : (h : History) → client.LeadsTo h old → items_said (types h keys) ≡ items_said h ++ said
-  pub shows : (h : History) → client.LeadsTo h old → text_shown (types h keys) ≡ text_shown h ++ text
-  pub leads : (h : History) → client.LeadsTo h old → client.LeadsTo (types h keys) new
-  pub keeps : ReadsNothing old new
+  pub step : new ≡ end_after_keys old keys
+  pub said : after ≡ before ++ spells (says_keys old keys)
+  pub shown : now ≡ seen ++ shows_keys old keys
 
 -- a prefix of the keys was typed
 abbrev pub TypesPrefix : End → List ℕ → List ℕ → List ℕ → List ℕ → List ℕ → End → Type 0

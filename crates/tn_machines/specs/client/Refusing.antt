@@ -1,8 +1,10 @@
 -- Why a call of the client end is refused within a message: memory runs out for what the message leads to.
 use Rattle.std.specs.Prelude.{◌≡◌, ◌≢◌, ℕ, ◌⊎◌, List, [], ◌∷◌, ◌++◌}
-use Rattle.tn_client.specs.Calls.{SaysOrShows, MayWantMemory}
-use Rattle.tn_client.specs.Events.{History, typed, resized, gets, items}
+use Rattle.tn_client.specs.Calls.{ReadsList}
+use Rattle.tn_client.specs.Events.{Event, History, typed, got, resized, gets, items}
 use Rattle.tn_client.specs.Replies.{replies}
+use Rattle.tn_client.specs.Screen.{shows}
+use Rattle.tn_client.specs.Terms.{options}
 use Rattle.tn_client.specs.declared.faults.ClientFault.{ClientFault}
 use Rattle.tn_client.specs.declared.faults.ClientFault.TheVariants.{Memory}
 use Rattle.tn_machines.specs.client.Run.{Run, Reads, types}
@@ -12,6 +14,14 @@ use Rattle.tn_nvt.specs.declared.items.Item.{Item}
 use Rattle.tn_machines.specs.Pieces.{WantsMemoryWithin}
 use Rattle.tn_machines.specs.declared.messages.Message.{Message}
 use Rattle.tn_machines.specs.declared.messages.Message.TheVariants.{Piece, Resized, Asked}
+
+-- the event makes the client say or show something
+abbrev pub SaysOrShows : History → Event → Type 0
+SaysOrShows h e = (replies h e ≢ []) ⊎ (shows h e ≢ [])
+
+-- an item needs memory: to say or to show something, or to read a list
+abbrev pub MayWantMemory : History → Item → Type 0
+MayWantMemory h item = (replies h (got item) ≢ []) ⊎ ((shows h (got item) ≢ []) ⊎ ReadsList (options h) item)
 
 -- one of these keys says or shows something, once those before it were typed
 abbrev pub RefusesAtKey : History → List ℕ → Type 0

@@ -1,7 +1,8 @@
 -- What the messages do: a fold over those that were handled, over the history of the client end.
-use Rattle.std.specs.Prelude.{◌≡◌, ℕ, Bool, true, false, List, [], ◌∷◌, ◌++◌}
+use Rattle.std.specs.Prelude.{◌≡◌, ℕ, Bool, true, false, List, [], ◌++◌}
 use Rattle.tn_client.specs.Events.{History, begun, next, typed, resized, gets, items}
 use Rattle.tn_client.specs.Events as client
+use Rattle.tn_linemode.specs.Folding.{after_all}
 use Rattle.tn_machines.specs.client.Commands.{command_of}
 use Rattle.tn_machines.specs.client.Counting as counting
 use Rattle.tn_machines.specs.declared.client.messages.Origin.{Origin}
@@ -26,8 +27,7 @@ pub record Run : Type 0 where
 
 -- these keys were typed, one after another
 abbrev pub types : History → List ℕ → History
-types h [] = h
-types h (key ∷ keys) = types (next h (typed key)) keys
+types h keys = after_all (λ k key. next k (typed key)) h keys
 
 -- once no more keys come, no more replies go to the network
 abbrev pub sent_after : Bool → History → History → History

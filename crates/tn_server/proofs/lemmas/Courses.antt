@@ -19,7 +19,11 @@ use Rattle.tn_server.specs.Events.{Event, History, begun, next, got, took, wrote
 use Rattle.tn_server.specs.Replies.{data_of, items_said}
 use Rattle.tn_server.specs.Screen.{queue}
 use Rattle.tn_server.specs.Terms.{settings}
-use Rattle.tn_server.specs.Calls.{End, LeadsTo, Advances, ReadsNothing, Feeds}
+use Rattle.tn_server.specs.Answering.{Feeds}
+use Rattle.tn_server.specs.Calls.{End, LeadsTo}
+use Rattle.tn_server.specs.Steps.{end_after, says_items}
+use Rattle.tn_server.proofs.lemmas.Leading.{stands, stands_fed, says_all}
+use Rattle.tn_server.proofs.lemmas.Gathering.{call_keeps}
 use Rattle.tn_server.proofs.lemmas.Histories.{items-gets, gets-append}
 
 pub one_history : (c : Course) (h k : History) → ReadsAs c h → ReadsAs c k → h ≡ k
@@ -40,37 +44,37 @@ fed_on c old new piece before after a f =
     record {
       history = gets a.history f.items;
       reads_as = (a.history, f.items, a.reads_as, (read.rest, read.reading), refl);
-      leads = f.leads a.history a.leads;
+      leads = stands_fed a.history old new piece before after f a.leads;
       reads = subst (λ (xs : List Item). nvt.LeadsTo (stream c ++ piece) xs new.decoder) (sym (items-gets a.history f.items)) read;
     }
 
 pub fed_says : (c : Course) (old new : End) (piece before after : List ℕ) (h k : History) → CourseLeadsTo c old → (f : Feeds old piece before after new)
-    → ReadsAs c h → ReadsAs (fed c piece) k → items_said k ≡ items_said h ++ f.said
+    → ReadsAs c h → ReadsAs (fed c piece) k → items_said k ≡ items_said h ++ says_items old f.items
 fed_says c old new piece before after h k a f leads also =
     let read = f.reads (stream c) (items a.history) a.reads in
     ap items_said (one_history (fed c piece) k (gets a.history f.items) also (a.history, f.items, a.reads_as, (read.rest, read.reading), refl))
-    ∙ f.sends a.history a.leads
-    ∙ ap (λ (x : History). items_said x ++ f.said) (one_history c a.history h a.reads_as leads)
+    ∙ says_all a.history old f.items a.leads
+    ∙ ap (λ (x : History). items_said x ++ says_items old f.items) (one_history c a.history h a.reads_as leads)
 
-pub called_on : (c : Course) (old new : End) (e : Event) (before after : List ℕ) → CourseLeadsTo c old → IsCall e → Advances old e before after new
-    → ReadsNothing old new → CourseLeadsTo (called c e) new
-called_on c old new e before after a call g keeps = record {
+-- a call brings no item
+pub calls_read : (h : History) (e : Event) → IsCall e → items (next h e) ≡ items h
+calls_read h (got item) is = absurd is
+calls_read h took is = refl
+calls_read h (wrote bytes) is = refl
+calls_read h (pulled n) is = refl
+calls_read h (wished editing) is = refl
+calls_read h (char_set func value) is = refl
+calls_read h (echo_set on) is = refl
+calls_read h (mask_set mask) is = refl
+
+pub called_on : (c : Course) (old : End) (e : Event) → CourseLeadsTo c old → IsCall e → CourseLeadsTo (called c e) (end_after old e)
+called_on c old e a call = record {
   history = next a.history e;
   reads_as = (a.history, a.reads_as, call, refl);
-  leads = g.leads a.history a.leads;
-  reads = subst (λ d. nvt.LeadsTo (stream c) (items (next a.history e)) d) (sym keeps.decoder)
-      (subst (λ (xs : List Item). nvt.LeadsTo (stream c) xs old.decoder) (sym (calls_read e call)) a.reads);
+  leads = stands a.history old e a.leads;
+  reads = subst (λ d. nvt.LeadsTo (stream c) (items (next a.history e)) d) (sym (ap (λ (x : End). x.decoder) (call_keeps old e)))
+      (subst (λ (xs : List Item). nvt.LeadsTo (stream c) xs old.decoder) (sym (calls_read a.history e call)) a.reads);
 }
-  where
-    calls_read : (e : Event) → IsCall e → items (next a.history e) ≡ items a.history
-    calls_read (got item) is = absurd is
-    calls_read took is = refl
-    calls_read (wrote bytes) is = refl
-    calls_read (pulled n) is = refl
-    calls_read (wished editing) is = refl
-    calls_read (char_set func value) is = refl
-    calls_read (echo_set on) is = refl
-    calls_read (mask_set mask) is = refl
 
 -- the items of a history are those of the stream
 pub reads_all : (c : Course) (h : History) → ReadsAs c h → IsRead (stream c) (items h)
@@ -80,16 +84,6 @@ reads_all (fed c piece) h (old, more, leads, read, is) =
 reads_all (called c e) h (old, leads, call, is) =
     let read = reads_all c old leads in
     (read.0, subst (λ xs. Reading (stream c) xs read.0) (sym (ap items is ∙ calls_read old e call)) read.1)
-  where
-    calls_read : (old : History) (e : Event) → IsCall e → items (next old e) ≡ items old
-    calls_read old (got item) is = absurd is
-    calls_read old took is = refl
-    calls_read old (wrote bytes) is = refl
-    calls_read old (pulled n) is = refl
-    calls_read old (wished editing) is = refl
-    calls_read old (char_set func value) is = refl
-    calls_read old (echo_set on) is = refl
-    calls_read old (mask_set mask) is = refl
 
 pub joined : (c : Course) (p q : List ℕ) (h : History) → ReadsAs (fed (fed c p) q) h → ReadsAs (fed c (p ++ q)) h
 joined c p q h (mid, last, (old, more, leads, read, is_mid), reads, is) = (

@@ -22,10 +22,12 @@ use Rattle.tn_nvt.proofs.lemmas.Reading.{one_reading, reads_on, has_reading}
 use Rattle.tn_nvt.proofs.lemmas.Sizes.{doubled_some, total, IsWeight, weighs_at_most}
 use Rattle.tn_pty.specs.declared.pty.PtyFault.TheVariants.{TooFarAhead}
 use Rattle.tn_linemode.specs.Prefixes.{IsRead}
-use Rattle.tn_server.specs.Calls.{End, IsStopCause, StopsWithin}
+use Rattle.tn_server.specs.Answering.{IsStopCause, StopsWithin}
+use Rattle.tn_server.specs.Calls.{End}
 use Rattle.tn_server.specs.Course.{Course, fed, stream, ReadsAs, CourseLeadsTo}
 use Rattle.tn_server.specs.Events.{History, next, got, items, gets, limit}
 use Rattle.tn_server.specs.Lines.{roles, entries, role_of_item, taken_count, waiting}
+use Rattle.tn_server.specs.Steps.{end_after_items}
 use Rattle.tn_server.specs.declared.faults.ServerFault.{ServerFault}
 use Rattle.tn_server.specs.declared.faults.ServerFault.TheVariants.{Pty}
 use Rattle.tn_server.proofs.lemmas.Courses.{one_history, reads_all}
@@ -227,25 +229,26 @@ makes_few c h whole piece bytes leads (old, more, before, read, is) =
     )
 
 -- the item that finds too many waiting is one of those that are left
-some_left : (h : History) (left : List Item) (here : DecoderState) (back : List ℕ) → IsStopCause h left here back (Pty TooFarAhead) → 1 ≤ length left
-some_left h [] here back why = absurd (let f = why.0 in cc)
-some_left h (item ∷ left) here back why = omega arith
+some_left : (end : End) (left : List Item) (here : DecoderState) (back : List ℕ) → IsStopCause end left here back (Pty TooFarAhead) → 1 ≤ length left
+some_left end [] here back why = absurd (let f = why.0 in cc)
+some_left end (item ∷ left) here back why = omega arith
 
 pub finds_room : (c : Course) (h : History) (old new : End) (piece before after : List ℕ) (fault : ServerFault) → All (λ b. b < 256) (stream c)
     → CourseLeadsTo c old → ReadsAs c h → length piece ≤ 512 → length (waiting h) ≤ 511 → StopsWithin old piece fault before after new → fault ≢ Pty TooFarAhead
 finds_room c h old new piece before after fault bytes a leads short few s = λ is.
     let k = a.history in
     let runs = has_read old.decoder (stream c) (items k) a.reads in
-    let why : IsStopCause (gets k s.done) s.left s.here s.back (Pty TooFarAhead) =
-    subst (λ (f : ServerFault). IsStopCause (gets k s.done) s.left s.here s.back f) is (s.cause runs k a.leads) in
+    let end = end_after_items old s.done in
+    let why : IsStopCause end s.left s.here s.back (Pty TooFarAhead) =
+    subst (λ (f : ServerFault). IsStopCause end s.left s.here s.back f) is (s.cause runs) in
     let read = s.reads (stream c) (items k) a.reads in
     omega (
       arith,
       short,
       few,
       ap (λ (x : History). length (waiting x)) (one_history c k h a.reads_as leads),
-      many_wait (gets k s.done) s.left s.here s.back why,
-      some_left (gets k s.done) s.left s.here s.back why,
+      many_wait k old new piece before after fault s is runs a.leads,
+      some_left end s.left s.here s.back why,
       waits_few k s.done,
       length-append s.done s.left,
       ap length s.whole,

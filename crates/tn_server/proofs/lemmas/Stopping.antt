@@ -1,47 +1,62 @@
 -- What a refused piece leaves, seen from the piece's items.
-use Rattle.std.proofs.Common.{◌≡◌, ◌≢◌, ℕ, List, [], ◌∷◌, ◌++◌, length, refl, sym, ap, ◌∙◌, subst}
+use Rattle.std.proofs.Common.{◌≡◌, ◌≢◌, ℕ, List, [], ◌∷◌, ◌++◌, length, refl, sym, ap, ◌∙◌, subst, append_assoc}
 use Rattle.tn_nvt.specs.Feeding.{DecoderState, failed}
 use Rattle.tn_nvt.specs.Feeding as nvt
 use Rattle.tn_nvt.specs.declared.items.Item.{Item}
 use Rattle.tn_pty.specs.Terminal.{max_waiting}
 use Rattle.tn_pty.specs.declared.pty.PtyFault.TheVariants.{TooFarAhead}
 use Rattle.tn_linemode.proofs.lemmas.Reading.{stopped_in}
-use Rattle.tn_linemode.proofs.lemmas.Cutting.{parted_on, front_on}
+use Rattle.tn_server.specs.Answering.{first_said, IsStopCause, StopsWithin}
+use Rattle.tn_server.specs.Calls.{End, LeadsTo}
 use Rattle.tn_server.specs.Course.{Course, fed, stream, ReadsAs, CourseLeadsTo}
-use Rattle.tn_server.specs.Events.{History, next, got, items, gets}
+use Rattle.tn_server.specs.Events.{History, items, gets}
 use Rattle.tn_server.specs.Lines.{waiting}
-use Rattle.tn_server.specs.Replies.{replies, items_said}
-use Rattle.tn_server.specs.Calls.{End, first_replies, IsStopCause, StopsWithin}
+use Rattle.tn_server.specs.Replies.{items_said}
+use Rattle.tn_server.specs.Steps.{end_after_item, end_after_items, says_items}
 use Rattle.tn_server.specs.Stopping.{StopsBetween}
 use Rattle.tn_server.specs.declared.faults.ServerFault.{ServerFault}
 use Rattle.tn_server.specs.declared.faults.ServerFault.TheVariants.{Pty}
+use Rattle.tn_server.proofs.lemmas.Leading.{stands_all, says_all, stands_halted}
 use Rattle.tn_server.proofs.lemmas.Courses.{one_history}
-use Rattle.tn_server.proofs.lemmas.Histories.{gets-append, sent-gets}
+use Rattle.tn_server.proofs.lemmas.Ends.{waits_are}
+use Rattle.tn_server.proofs.lemmas.Gathering.{says_both}
+use Rattle.tn_server.proofs.lemmas.Histories.{gets-append}
 
--- a prefix of the first reply is a prefix of all that the items make the server say
-front_said : (h : History) (left more part rest : List Item) → first_replies h left ≡ part ++ rest → (unsaid : List Item)
-    × (items_said (gets h (left ++ more)) ≡ items_said h ++ (part ++ unsaid))
-front_said h [] more part rest e =
-    let m = sent-gets h more in
-    let none : part ≡ [] = no_front part rest (sym e) in
-    (m.0, m.1 ∙ ap (λ (xs : List Item). items_said h ++ (xs ++ m.0)) (sym none))
+-- a prefix of the first reply is a prefix of all that the items make the end say
+pub front_said : (end : End) (left more part rest : List Item) → first_said end left ≡ part ++ rest → (unsaid : List Item)
+    × (says_items end (left ++ more) ≡ part ++ unsaid)
+front_said end [] more part rest e =
+    (says_items end more, ap (λ (xs : List Item). xs ++ says_items end more) (no_front part rest (sym e)))
   where
-    no_front : (xs ys : List Item) → xs ++ ys ≡ [] → xs ≡ []
+    no_front : (xs ys : List Item) → xs ++ ys ≡ [] → [] ≡ xs
     no_front [] ys f = refl
     no_front (x ∷ xs) ys f = absurd (cc)
-front_said h (item ∷ left) more part rest e =
-    let m = sent-gets (next h (got item)) (left ++ more) in
-    (rest ++ m.0, front_on (replies h (got item)) part rest m.0 (items_said h) _ m.1 e)
+front_said end (item ∷ left) more part rest e =
+    let later = says_items (end_after_item end item) (left ++ more) in
+    (rest ++ later, ap (λ (xs : List Item). xs ++ later) e ∙ append_assoc part rest later)
 
 -- a decoder that has read a stream has not failed
 pub has_read : (d : DecoderState) (bytes : List ℕ) (had : List Item) → nvt.LeadsTo bytes had d → d ≢ failed
 has_read d bytes had r = λ is. (subst (λ x. nvt.LeadsTo bytes had x) is r).stands
 
+-- after a refused piece the end is at the history that has the items that were done
+pub stands_stopped : (h : History) (old new : End) (piece before after : List ℕ) (fault : ServerFault) → (s : StopsWithin old piece fault before after new)
+    → LeadsTo h old → LeadsTo (gets h s.done) new
+stands_stopped h old new piece before after fault s leads =
+    stands_halted (gets h s.done) (end_after_items old s.done) new s.step (stands_all h old s.done leads)
+
 -- the pair was too far behind at an item, and then as many waited as may
-pub many_wait : (h : History) (left : List Item) (here : DecoderState) (back : List ℕ) → IsStopCause h left here back (Pty TooFarAhead)
-    → length (waiting h) ≡ max_waiting
-many_wait h [] here back why = absurd (let f = why.0 in cc)
-many_wait h (item ∷ left) here back why = why.1
+pub many_by : (end : End) (left : List Item) (here : DecoderState) (back : List ℕ) → IsStopCause end left here back (Pty TooFarAhead)
+    → length end.terminal.entries ≡ max_waiting
+many_by end [] here back why = absurd (let f = why.0 in cc)
+many_by end (item ∷ left) here back why = why.1
+
+pub many_wait : (h : History) (old new : End) (piece before after : List ℕ) (fault : ServerFault) (s : StopsWithin old piece fault before after new)
+    → fault ≡ Pty TooFarAhead → old.decoder ≢ failed → LeadsTo h old → length (waiting (gets h s.done)) ≡ max_waiting
+many_wait h old new piece before after fault s is runs leads =
+    let end = end_after_items old s.done in
+    ap length (waits_are (gets h s.done) end (stands_all h old s.done leads))
+    ∙ many_by end s.left s.here s.back (subst (λ (f : ServerFault). IsStopCause end s.left s.here s.back f) is (s.cause runs))
 
 pub stopped : (c : Course) (old new : End) (piece before after : List ℕ) (fault : ServerFault) (h whole : History) → CourseLeadsTo c old
     → StopsWithin old piece fault before after new → ReadsAs c h → ReadsAs (fed c piece) whole → StopsBetween h whole fault before after new
@@ -55,19 +70,21 @@ stopped c old new piece before after fault h whole a s leads also =
         let here = s.reads (stream c) (items k) a.reads in
         let others = stopped_in items gets gets-append also.0 k whole (stream c) piece s.front s.back also.1 s.done s.left same s.whole
         (a.reads.rest, a.reads.reading) (here.rest, here.reading) also.3 also.4 in
-        let b = s.begins k a.leads in
-        let u = front_said (gets k s.done) s.left others.0 s.part b.0 b.1 in
+        let all = s.done ++ (s.left ++ others.0) in
+        let said = says_items old s.done in
+        let u = front_said (end_after_items old s.done) s.left others.0 s.part s.rest s.begins in
+        let told : says_items old all ≡ (said ++ s.part) ++ u.0 =
+        says_both old s.done (s.left ++ others.0) ∙ ap (λ (xs : List Item). said ++ xs) u.1 ∙ sym (append_assoc said s.part u.0) in
         record {
           done = s.done;
           left = s.left ++ others.0;
           goes_on = others.1;
-          leads = s.leads k a.leads;
-          said = s.said ++ s.part;
+          leads = stands_stopped k old new piece before after fault s a.leads;
+          said = said ++ s.part;
           unsaid = u.0;
-          appended = s.appended;
-          sends = ap items_said others.1 ∙ parted_on s.said s.part u.0 (items_said k) _ _ (s.sends k a.leads) u.1;
-          too_far = λ is.
-              many_wait (gets k s.done) s.left s.here s.back
-              (subst (λ (f : ServerFault). IsStopCause (gets k s.done) s.left s.here s.back f) is
-              (s.cause (has_read old.decoder (stream c) (items k) a.reads) k a.leads));
+          appended = s.said;
+          sends =
+              ap items_said (others.1 ∙ sym (gets-append k s.done (s.left ++ others.0))) ∙ says_all k old all a.leads
+              ∙ ap (λ (xs : List Item). items_said k ++ xs) told;
+          too_far = λ is. many_wait k old new piece before after fault s is (has_read old.decoder (stream c) (items k) a.reads) a.leads;
         }

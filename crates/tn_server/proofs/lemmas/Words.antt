@@ -27,7 +27,9 @@ use Rattle.tn_option.proofs.lemmas.Agreement.{Moves, then-Moves}
 use Rattle.tn_linemode.specs.OptionWords.{words_in}
 use Rattle.tn_linemode.proofs.lemmas.OptionWords.{words_in-append, words_in-word, words_in-list, words_in-mode}
 use Rattle.tn_linemode.specs.Words.{payload_items, list_items, mode_items}
-use Rattle.tn_server.specs.Calls.{End, LeadsTo, Advances, Feeds}
+use Rattle.tn_server.specs.Calls.{End, LeadsTo}
+use Rattle.tn_server.specs.Steps.{end_after, says, end_after_items, says_items}
+use Rattle.tn_server.proofs.lemmas.Leading.{stands, says_as, stands_all, says_all}
 use Rattle.tn_server.specs.Course.{IsCall}
 use Rattle.tn_server.specs.Events.{Event, History, next, got, took, wrote, pulled, wished, char_set, echo_set, mask_set, gets}
 use Rattle.tn_server.specs.Replies.{asked_word_items, reply_items, table_items, new_table_items, echo_items, items_by, items_at, list_replies, triple_items}
@@ -201,19 +203,25 @@ opening_leads there = record {
 }
 
 -- AN END, after a piece and after a call
-pub feeds_moves : (h : History) (old new : End) (piece before after : List ℕ) (there : Options) (ws vs : List (Verb × ℕ)) → LeadsTo h old
-    → (f : Feeds old piece before after new) → Moves (pair old.terms.options there (words_in f.items ++ ws) vs)
-    (pair new.terms.options there ws (vs ++ words_in f.said))
-feeds_moves h old new piece before after there ws vs s f =
-    let all = gets_moves h f.items there ws vs in
-    let same : all.0 ≡ f.said = append_cancel_left (items_said h) all.0 f.said (sym all.1 ∙ f.sends h s) in
-    let was = ap (λ (t : Terms). t.options) s.terms in
-    let is = ap (λ (t : Terms). t.options) (f.leads h s).terms in
-    rw (was, is, sym same) all.2
+from_to : (o p q r there : Options) (ws us vs : List (Verb × ℕ)) (xs ys : List Item) → o ≡ p → q ≡ r → xs ≡ ys
+    → Moves (pair o there ws vs) (pair q there us (vs ++ words_in xs)) → Moves (pair p there ws vs) (pair r there us (vs ++ words_in ys))
+from_to o p q r there ws us vs xs ys a b e m = rw (← a, ← b, ← e) m
 
-pub advances_moves : (h : History) (old new : End) (e : Event) (before after : List ℕ) (there : Options) (ws vs : List (Verb × ℕ)) → IsCall e → LeadsTo h old
-    → (g : Advances old e before after new) → Moves (pair old.terms.options there ws vs) (pair new.terms.options there ws (vs ++ words_in g.said))
-advances_moves h old new e before after there ws vs call s g =
+pub feeds_moves : (h : History) (old : End) (xs : List Item) (there : Options) (ws vs : List (Verb × ℕ)) → LeadsTo h old
+    → Moves (pair old.terms.options there (words_in xs ++ ws) vs) (pair (end_after_items old xs).terms.options there ws (vs ++ words_in (says_items old xs)))
+feeds_moves h old xs there ws vs s =
+    let all = gets_moves h xs there ws vs in
+    let said = says_items old xs in
+    let same : all.0 ≡ said = append_cancel_left (items_said h) all.0 said (sym all.1 ∙ says_all h old xs s) in
     let was = ap (λ (t : Terms). t.options) s.terms in
-    let is = ap (λ (t : Terms). t.options) (g.leads h s).terms in
-    rw (was, is, sym (g.replies h s)) (call_moves h e there ws vs call)
+    let is = ap (λ (t : Terms). t.options) (stands_all h old xs s).terms in
+    from_to (options h) old.terms.options (options (gets h xs)) (end_after_items old xs).terms.options there (words_in xs ++ ws) ws vs all.0 said (sym was) (sym is)
+    same all.2
+
+pub event_moves : (h : History) (old : End) (e : Event) (there : Options) (ws vs : List (Verb × ℕ)) → IsCall e → LeadsTo h old
+    → Moves (pair old.terms.options there ws vs) (pair (end_after old e).terms.options there ws (vs ++ words_in (says old e)))
+event_moves h old e there ws vs call s =
+    let was = ap (λ (t : Terms). t.options) s.terms in
+    let is = ap (λ (t : Terms). t.options) (stands h old e s).terms in
+    from_to (options h) old.terms.options (options (next h e)) (end_after old e).terms.options there ws ws vs (replies h e) (says old e) (sym was) (sym is)
+    (says_as h old e s) (call_moves h e there ws vs call)

@@ -1,85 +1,84 @@
 -- The relation of two histories, with no end and no flight of bytes: it holds of the opening where the special
 -- characters are the standard ones, and each event keeps it.
-use Rattle.std.proofs.Common.{◌≡◌, ℕ, Bool, true, false, List, [], ◌∷◌, ◌++◌, refl, sym, ap, ◌∙◌, subst, append_assoc, append-nil}
+use Rattle.std.proofs.Common.{◌≡◌, ℕ, Bool, false, List, [], ◌∷◌, ◌++◌, refl, sym, ap, ◌∙◌, subst, append_assoc, append-nil}
 use Rattle.std.specs.Prelude.{All, Option, Some, None, option_to_list}
-use Rattle.std.proofs.lemmas.List.{append_cancel_left}
+use Rattle.std.proofs.lemmas.List.{append_cancel_left, take-append-drop}
 use Rattle.std.proofs.lemmas.List.Elements.{All-nil, All-head, All-tail, All-append}
 use Rattle.tn_client.proofs.lemmas.Fitting.{sent-fits}
+use Rattle.tn_client.specs.Calls.{End}
 use Rattle.tn_client.specs.Events as client
 use Rattle.tn_client.specs.Replies as client_says
-use Rattle.tn_client.specs.Terms as client_terms
 use Rattle.tn_client.specs.declared.commands.UserCommand.{UserCommand}
 use Rattle.tn_client.specs.declared.commands.UserCommand.TheVariants as user
 use Rattle.tn_codes.specs.declared.codes.Command.TheVariants as command
 use Rattle.tn_discipline.specs.Canon.{Canon, typed_entries}
 use Rattle.tn_discipline.specs.Characters.{standard_characters}
-use Rattle.tn_discipline.specs.Steps.{half_next}
-use Rattle.tn_discipline.specs.declared.keys.Role.{Role}
 use Rattle.tn_discipline.specs.declared.termios.Settings.{Settings}
 use Rattle.tn_discipline.specs.declared.reads.Entry.{Entry}
-use Rattle.tn_linemode.specs.Modes.{edits}
+use Rattle.tn_discipline.specs.HalfLine.{HalfLine}
+use Rattle.tn_linemode.specs.Modes.{Modes, edits}
 use Rattle.tn_nvt.specs.Spelling.{Fits}
 use Rattle.tn_nvt.specs.declared.items.Item.{Item}
 use Rattle.tn_server.specs.Events as server
-use Rattle.tn_server.specs.Lines.{entries, half}
+use Rattle.tn_server.specs.Calls.{End as ServerEnd, LeadsTo}
+use Rattle.tn_server.specs.Lines.{entries, taken_count, waiting}
 use Rattle.tn_server.specs.Replies as server_says
+use Rattle.tn_server.specs.Steps.{end_after as server_after, says as server_said}
 use Rattle.tn_server.specs.Terms as server_terms
+use Rattle.tn_server.specs.Terms.{Terms}
+use Rattle.tn_server.proofs.lemmas.Ends.{end_at as server_at, stands_there as server_there, taken_at, taken_got, taken_took, line_is, waits_are}
+use Rattle.tn_server.proofs.lemmas.Gathering.{call_keeps}
+use Rattle.tn_server.proofs.lemmas.Leading as server_leads
 use Rattle.tn_server.specs.declared.wishes.Editing.{Editing}
-use Rattle.tn_world.proofs.Changing.{key-agrees, message-agrees, interrupt-agrees}
+use Rattle.tn_client.specs.Steps.{end_after, says}
+use Rattle.tn_client.proofs.lemmas.Standings.{says_as}
+use Rattle.tn_client.proofs.lemmas.Lines.{end_at, end_next, stands_there}
+use Rattle.tn_nvt.specs.Feeding.{failed}
+use Rattle.tn_world.proofs.Changing.{key-agrees, interrupt-agrees, beside-agrees}
 use Rattle.tn_world.proofs.ClientSteps as client_steps
 use Rattle.tn_world.proofs.Interrupting.{interrupts_there}
 use Rattle.tn_world.proofs.Opening.{opening_calm, server_kept, client_kept, begun_agrees}
-use Rattle.tn_world.proofs.Prefixes.{agreed, read-more}
+use Rattle.tn_world.proofs.Prefixes.{prefix_after, agreed, read-more, take-agrees}
 use Rattle.tn_world.proofs.ServerSteps as server_steps
-use Rattle.tn_world.proofs.ServerSteps.{IsCall, linemode_got, edit_got, half_got, entries_got, kept_got, kept_call, calm_got, calm_call, terms_keep}
-use Rattle.tn_world.proofs.Tied.{all_parts, sent, askable_as}
+use Rattle.tn_world.proofs.ServerSteps.{IsCall}
+use Rattle.tn_world.proofs.Reading.{all_parts}
+use Rattle.tn_world.proofs.Tied.{sent}
 use Rattle.tn_streams.specs.Prefixes.{IsPrefixOf}
 use Rattle.tn_world.specs.Commands.{IsTypeable, key_for, interrupt_key}
-use Rattle.tn_world.specs.relation.Calm.{IsCalmToServer, IsCalmToClient, server_item, client_message}
-use Rattle.tn_world.specs.relation.Ends.{server_items, SaysItems}
+use Rattle.tn_world.specs.relation.Calm.{IsCalmToServer, IsCalmToClient}
+use Rattle.tn_world.specs.relation.Ends.{server_items, AreSaid, SaysItems}
+use Rattle.tn_world.specs.relation.Pictures.{server_core, ServerStays, ClientStays}
 use Rattle.tn_world.specs.relation.Machine as machine
-use Rattle.tn_world.specs.relation.Machine.{Server, Sent, item_role, linemode_after, edit_after, read, read_all, client_after_key, client_after_message}
+use Rattle.tn_world.specs.relation.Machine.{Server, read_all}
 use Rattle.tn_world.specs.relation.Relation.{Agrees}
 
--- the server of a history, with all its entries, whoever took them
-abbrev pub core_all : server.History → Server
-core_all h =
-    record {
-      linemode = server_terms.linemode (server_terms.options h);
-      edit = edits (server_terms.mode h);
-      half = half h;
-      waiting = entries h;
-      failed = false;
-    }
+-- TWO ENDS that one history leads to
+same_core : (h : server.History) (a b : ServerEnd) → LeadsTo h a → LeadsTo h b → a.failed ≡ b.failed → server_core a ≡ server_core b
+same_core h a b s t works =
+    ap (λ (x : Terms). record (server_core a) { linemode = server_terms.linemode x.options }) (s.terms ∙ sym t.terms)
+    ∙ ap (λ (x : Modes). record (server_core a) { linemode = server_terms.linemode b.terms.options; edit = edits x.current }) (s.modes ∙ sym t.modes)
+    ∙ ap (λ (x : HalfLine). record (server_core b) { half = x.held; waiting = a.terminal.entries; failed = a.failed }) (line_is h a s ∙ sym (line_is h b t))
+    ∙ ap (λ (x : List Entry). record (server_core b) { waiting = x; failed = a.failed }) (sym (waits_are h a s) ∙ waits_are h b t)
+    ∙ ap (λ (x : Bool). record (server_core b) { failed = x }) works
 
-core_all_got : (canon : Canon) (h : server.History) (item : Item) → server_steps.IsKept canon h → Fits item → IsCalmToServer canon.settings item
-    → core_all (server.next h (server.got item)) ≡ read canon (core_all h) (server_item item)
-core_all_got canon h item k f c =
-    let h2 = server.next h (server.got item) in
-    let edit = edits (server_terms.mode h) in
-    let l = linemode_after (server_terms.linemode (server_terms.options h)) (server_item item) in
-    let e = edit_after (server_terms.linemode (server_terms.options h)) edit (server_item item) in
-    let i : Role = item_role canon.settings edit (server_item item) in
-    ap (λ (b : Bool). record { linemode = b; edit = edits (server_terms.mode h2); half = half h2; waiting = entries h2; failed = false })
-    (linemode_got canon h item k c)
-    ∙ ap (λ (b : Bool). record { linemode = l; edit = b; half = half h2; waiting = entries h2; failed = false }) (edit_got canon h item k f c)
-    ∙ ap (λ (bytes : List ℕ). record { linemode = l; edit = e; half = bytes; waiting = entries h2; failed = false }) (half_got canon h item k)
-    ∙ ap (λ (es : List Entry). record { linemode = l; edit = e; half = half_next canon.limit (half h) i; waiting = es; failed = false })
-    (entries_got canon h item k)
+same_stays : (canon : Canon) (h : server.History) (a b : ServerEnd) → LeadsTo h a → LeadsTo h b → ServerStays canon a → ServerStays canon b
+same_stays canon h a b s t k =
+    server_steps.stays_aside canon a b (t.terms ∙ sym s.terms) (t.table ∙ sym s.table) (t.settings ∙ sym s.settings) (line_is h b t ∙ sym (line_is h a s)) k
 
--- a call reads nothing
-core_all_call : (h : server.History) (e : server.Event) → IsCall e → core_all (server.next h e) ≡ core_all h
-core_all_call h (server.got item) is = absurd is
-core_all_call h (server.char_set func value) is = absurd is
-core_all_call h server.took is = refl
-core_all_call h (server.wrote bytes) is = refl
-core_all_call h (server.pulled n) is = refl
-core_all_call h (server.wished editing) is =
-    ap (λ (b : Bool). record (core_all h) { linemode = b }) (terms_keep (server_terms.flags h) (server_terms.terms h) (Some editing) false)
-core_all_call h (server.echo_set on) is =
-    ap (λ (b : Bool). record (core_all h) { linemode = b }) (terms_keep (server_terms.flags (server.next h (server.echo_set on)))
-    (server_terms.terms h) None true)
-core_all_call h (server.mask_set mask) is = refl
+-- the end after one more event
+next_core : (h : server.History) (e : server.Event) → server_core (server_at (server.next h e)) ≡ server_core (server_after (server_at h) e)
+next_core h e =
+    same_core (server.next h e) (server_at (server.next h e)) (server_after (server_at h) e) (server_there (server.next h e))
+    (server_leads.stands h (server_at h) e (server_there h)) (sym (ap (λ (x : ServerEnd). x.failed) (call_keeps (server_at h) e)))
+
+next_stays : (canon : Canon) (h : server.History) (e : server.Event) → ServerStays canon (server_after (server_at h) e)
+    → ServerStays canon (server_at (server.next h e))
+next_stays canon h e k =
+    same_stays canon (server.next h e) (server_after (server_at h) e) (server_at (server.next h e)) (server_leads.stands h (server_at h) e (server_there h))
+    (server_there (server.next h e)) k
+
+next_said : (h : server.History) (e : server.Event) → server_says.replies h e ≡ server_said (server_at h) e
+next_said h e = server_leads.says_as h (server_at h) e (server_there h)
 
 items_call : (h : server.History) (e : server.Event) → IsCall e → server.items (server.next h e) ≡ server.items h
 items_call h (server.got item) is = absurd is
@@ -112,9 +111,9 @@ pub record TiedHistories (canon : Canon) (h : server.History) (k : client.Histor
   pub back : List Item
   pub told : server_says.items_said h ≡ client.items k ++ back
   pub calm_back : All (IsCalmToClient canon.settings) back
-  pub agrees : Agrees canon (keys_typed canon.settings k) [] (read_all canon (core_all h) (server_items there)) (client_steps.core_of k)
-  pub server : server_steps.IsKept canon h
-  pub client : client_steps.IsKept canon k
+  pub agrees : Agrees canon (keys_typed canon.settings k) (taken_at h) (read_all canon (server_core (server_at h)) (server_items there)) (end_at k)
+  pub server : ServerStays canon (server_at h)
+  pub client : ClientStays canon (end_at k)
 
 -- the first of what is left
 next_of : (xs there all : List Item) (x : Item) → all ≡ xs ++ there → IsPrefixOf (xs ++ x ∷ []) all → (later : List Item) × (there ≡ x ∷ later)
@@ -130,82 +129,117 @@ reaches canon h k x p t =
     let first = All-head P x n.0 calm in
     let whole = t.said ∙ ap (λ (l : List Item). server.items h ++ l) n.1 in
     let fit = All-head Fits x n.0 (all_parts Fits (server.items h) (x ∷ n.0) (subst (λ (l : List Item). All Fits l) whole (sent-fits k))).1 in
-    let agrees = subst (λ (l : List Item). Agrees canon (keys_typed canon.settings k) [] (read_all canon (core_all h) (server_items l))
-    (client_steps.core_of k)) n.1 t.agrees in
+    let keys = keys_typed canon.settings k in
+    let v = server_at h in
+    let agrees = subst (λ (l : List Item). Agrees canon keys (taken_at h) (read_all canon (server_core v) (server_items l)) (end_at k)) n.1 t.agrees in
     record {
       there = n.0;
       said = whole ∙ sym (append_assoc (server.items h) (x ∷ []) n.0);
       calm = All-tail P x n.0 calm;
       back = t.back ++ r;
       told = ap (λ (l : List Item). l ++ r) t.told ∙ append_assoc (client.items k) t.back r;
-      calm_back = All-append (IsCalmToClient canon.settings) t.back r t.calm_back (calm_got canon h x t.server first);
-      agrees = subst (λ (v : Server). Agrees canon (keys_typed canon.settings k) [] (read_all canon v (server_items n.0)) (client_steps.core_of k))
-          (sym (core_all_got canon h x t.server fit first)) agrees;
-      server = kept_got canon h x t.server first;
+      calm_back = All-append (IsCalmToClient canon.settings) t.back r t.calm_back
+          (subst (All (IsCalmToClient canon.settings)) (sym (next_said h (server.got x))) (server_steps.calm_got canon v x t.server first));
+      agrees =
+          subst (λ (es : List Entry). Agrees canon keys es (read_all canon (server_core (server_at (server.next h (server.got x)))) (server_items n.0)) (end_at k))
+          (sym (taken_got h x))
+          (subst (λ (u : Server). Agrees canon keys (taken_at h) (read_all canon u (server_items n.0)) (end_at k))
+          (sym (next_core h (server.got x) ∙ server_steps.core_got canon v x t.server refl fit first)) agrees);
+      server = next_stays canon h (server.got x) (server_steps.stays_got canon v x t.server first);
       client = t.client;
     }
+
+-- a call that takes no entry, and one that takes the first
+agrees_called : (canon : Canon) (h : server.History) (e : server.Event) (keys : List ℕ) (items : List machine.Item) (c : End) → IsCall e
+    → Agrees canon keys (taken_at h) (read_all canon (server_core (server_at h)) items) c
+    → Agrees canon keys (taken_at (server.next h e)) (read_all canon (server_core (server_after (server_at h) e)) items) c
+agrees_called canon h (server.got item) keys items c is a = absurd is
+agrees_called canon h (server.char_set func value) keys items c is a = absurd is
+agrees_called canon h server.took keys items c is a =
+    subst (λ (es : List Entry). Agrees canon keys es (read_all canon (server_core (server_after (server_at h) server.took)) items) c) (sym (taken_took h))
+    (take-agrees canon keys (taken_at h) (server_core (server_at h)) c items a)
+agrees_called canon h (server.wrote bytes) keys items c is a = a
+agrees_called canon h (server.pulled n) keys items c is a = a
+agrees_called canon h (server.wished editing) keys items c is a =
+    subst (λ (u : Server). Agrees canon keys (taken_at h) (read_all canon u items) c) (sym (server_steps.core_call (server_at h) (server.wished editing) tt)) a
+agrees_called canon h (server.echo_set on) keys items c is a =
+    subst (λ (u : Server). Agrees canon keys (taken_at h) (read_all canon u items) c) (sym (server_steps.core_call (server_at h) (server.echo_set on) tt)) a
+agrees_called canon h (server.mask_set mask) keys items c is a = a
 
 pub called : (canon : Canon) (h : server.History) (k : client.History) (e : server.Event) → IsCall e → TiedHistories canon h k
     → TiedHistories canon (server.next h e) k
 called canon h k e is t =
     let r = server_says.replies h e in
+    let keys = keys_typed canon.settings k in
     record {
       there = t.there;
       said = t.said ∙ ap (λ (l : List Item). l ++ t.there) (sym (items_call h e is));
       calm = t.calm;
       back = t.back ++ r;
       told = ap (λ (l : List Item). l ++ r) t.told ∙ append_assoc (client.items k) t.back r;
-      calm_back = All-append (IsCalmToClient canon.settings) t.back r t.calm_back (calm_call canon h e is t.server);
-      agrees = subst (λ (v : Server). Agrees canon (keys_typed canon.settings k) [] (read_all canon v (server_items t.there)) (client_steps.core_of k))
-          (sym (core_all_call h e is)) t.agrees;
-      server = kept_call canon h e is t.server;
+      calm_back = All-append (IsCalmToClient canon.settings) t.back r t.calm_back
+          (subst (All (IsCalmToClient canon.settings)) (sym (next_said h e)) (server_steps.calm_call canon (server_at h) e is t.server));
+      agrees =
+          subst (λ (u : Server). Agrees canon keys (taken_at (server.next h e)) (read_all canon u (server_items t.there)) (end_at k)) (sym (next_core h e))
+          (agrees_called canon h e keys (server_items t.there) (end_at k) is t.agrees);
+      server = next_stays canon h e (server_steps.stays_call canon (server_at h) e is t.server);
       client = t.client;
     }
 
 -- what the client says joins what is on its way
-says_more : (canon : Canon) (h : server.History) (k : client.History) (e : client.Event) (done : Sent) (back : List Item) (keys : List ℕ)
-    (t : TiedHistories canon h k) → SaysItems canon done.items (client_says.replies k e) → client_steps.core_of (client.next k e) ≡ done.client
-    → keys ≡ keys_typed canon.settings (client.next k e) → server_says.items_said h ≡ client.items (client.next k e) ++ back
-    → All (IsCalmToClient canon.settings) back → client_steps.IsKept canon (client.next k e)
-    → Agrees canon keys [] (read_all canon (read_all canon (core_all h) (server_items t.there)) done.items) done.client
-    → TiedHistories canon h (client.next k e)
-says_more canon h k e done back keys t s core same told calm kept agrees =
-    let v = read_all canon (core_all h) (server_items t.there) in
-    let r = client_says.replies k e in
-    let all = sent canon (core_all h) t.there r done.items s.says_so in
+says_more : (canon : Canon) (h : server.History) (k : client.History) (e : client.Event) (back : List Item) (t : TiedHistories canon h k)
+    → AreSaid canon (says (end_at k) e) → server_says.items_said h ≡ client.items (client.next k e) ++ back
+    → All (IsCalmToClient canon.settings) back → ClientStays canon (end_after (end_at k) e)
+    → Agrees canon (keys_typed canon.settings (client.next k e)) (taken_at h) (read_all canon (read_all canon (server_core (server_at h)) (server_items t.there))
+    (server_items (says (end_at k) e))) (end_after (end_at k) e) → TiedHistories canon h (client.next k e)
+says_more canon h k e back t s told calm kept agrees =
+    let r = says (end_at k) e in
+    let new = end_after (end_at k) e in
+    let keys = keys_typed canon.settings (client.next k e) in
     record {
       there = t.there ++ r;
-      said = ap (λ (l : List Item). l ++ r) t.said ∙ append_assoc (server.items h) t.there r;
+      said = ap (λ (l : List Item). client_says.items_said k ++ l) (says_as k (end_at k) e (stands_there k)) ∙ ap (λ (l : List Item). l ++ r) t.said
+          ∙ append_assoc (server.items h) t.there r;
       calm = All-append (IsCalmToServer canon.settings) t.there r t.calm s.calm;
       back = back;
       told = told;
       calm_back = calm;
-      agrees = subst (λ (u : Server). Agrees canon (keys_typed canon.settings (client.next k e)) [] u (client_steps.core_of (client.next k e))) (sym all)
-          (subst (λ (c : machine.Client). Agrees canon (keys_typed canon.settings (client.next k e)) [] (read_all canon v done.items) c) (sym core)
-          (subst (λ (ks : List ℕ). Agrees canon ks [] (read_all canon v done.items) done.client) same agrees));
+      agrees =
+          subst (λ (u : Server). Agrees canon keys (taken_at h) u (end_at (client.next k e))) (sym (sent canon (server_core (server_at h)) t.there r (server_items r) (λ v. refl)))
+          (subst (Agrees canon keys (taken_at h) (read_all canon (read_all canon (server_core (server_at h)) (server_items t.there)) (server_items r))) (sym (end_next k e))
+          (beside-agrees canon keys (taken_at h) (read_all canon (read_all canon (server_core (server_at h)) (server_items t.there)) (server_items r)) new
+          (record new { decoder = failed; failed = false }) refl refl agrees));
       server = t.server;
-      client = kept;
+      client = subst (ClientStays canon) (sym (end_next k e))
+          (record { agreed = kept.agreed; linemode = kept.linemode; chars = kept.chars; limit = kept.limit });
     }
+
+-- and what it says is read as these items
+says_as_read : (canon : Canon) (h : server.History) (k : client.History) (e : client.Event) (t : TiedHistories canon h k) (reads : List machine.Item)
+    → SaysItems canon reads (says (end_at k) e) → server_says.items_said h ≡ client.items (client.next k e) ++ t.back
+    → ClientStays canon (end_after (end_at k) e)
+    → Agrees canon (keys_typed canon.settings (client.next k e)) (taken_at h) (read_all canon (read_all canon (server_core (server_at h)) (server_items t.there)) reads)
+    (end_after (end_at k) e) → TiedHistories canon h (client.next k e)
+says_as_read canon h k e t reads w told kept agrees =
+    says_more canon h k e t.back t (record { fit = w.fit; calm = w.calm }) told t.calm_back kept
+    (subst (λ (u : Server). Agrees canon (keys_typed canon.settings (client.next k e)) (taken_at h) u (end_after (end_at k) e))
+    (sym (w.says_so (read_all canon (server_core (server_at h)) (server_items t.there)))) agrees)
 
 pub types : (canon : Canon) (h : server.History) (k : client.History) (key : ℕ) → TiedHistories canon h k
     → TiedHistories canon h (client.next k (client.typed key))
 types canon h k key t =
-    let edit = edits (client_terms.mode k) in
-    let c = client_steps.core_of k in
-    let one = client_steps.key-step canon k key edit refl t.client t.agrees.askable in
-    says_more canon h k (client.typed key) (client_after_key canon edit c key) t.back
-    (keys_typed canon.settings k ++ key ∷ []) t one.writes one.core refl t.told t.calm_back
-    (record { on = t.client.on; characters = t.client.characters; limit = t.client.limit })
-    (key-agrees canon (keys_typed canon.settings k) [] (read_all canon (core_all h) (server_items t.there)) c key edit refl t.agrees)
+    let c = end_at k in
+    says_more canon h k (client.typed key) t.back t (client_steps.key_said canon c key) t.told t.calm_back (client_steps.key_stays canon c key t.client)
+    (key-agrees canon (keys_typed canon.settings k) (taken_at h) (read_all canon (server_core (server_at h)) (server_items t.there)) c key t.client t.agrees)
 
 pub resizes : (canon : Canon) (h : server.History) (k : client.History) (width height : ℕ) → TiedHistories canon h k
     → TiedHistories canon h (client.next k (client.resized width height))
 resizes canon h k width height t =
-    let done : Sent = record { client = client_steps.core_of k; items = [] } in
-    says_more canon h k (client.resized width height) done t.back (keys_typed canon.settings k) t
-    (client_steps.resized-writes canon k width height) refl refl t.told t.calm_back
-    (record { on = t.client.on; characters = t.client.characters; limit = t.client.limit })
-    t.agrees
+    let c = end_at k in
+    says_as_read canon h k (client.resized width height) t [] (client_steps.resized-writes canon c width height) t.told
+    (record { agreed = t.client.agreed; linemode = t.client.linemode; chars = t.client.chars; limit = t.client.limit })
+    (beside-agrees canon (keys_typed canon.settings k) (taken_at h) (read_all canon (server_core (server_at h)) (server_items t.there)) c
+    (end_after c (client.resized width height)) refl refl t.agrees)
 
 -- a command that interrupts, as the key would
 interrupts : (canon : Canon) (h : server.History) (k : client.History) (sending : UserCommand) (key : ℕ) → key_for sending canon.settings ≡ Some key
@@ -213,23 +247,20 @@ interrupts : (canon : Canon) (h : server.History) (k : client.History) (sending 
     → TiedHistories canon h k → TiedHistories canon h (client.next k (client.sent sending))
 interrupts canon h k sending key is there writes t =
     let ks = keys_typed canon.settings k in
-    let done : Sent = record { client = client_steps.core_of k; items = machine.command command.Ip ∷ [] } in
-    says_more canon h k (client.sent sending) done t.back (ks ++ key ∷ []) t writes refl
-    (ap (λ (o : Option ℕ). ks ++ option_to_list o) (sym is)) t.told t.calm_back
-    (record { on = t.client.on; characters = t.client.characters; limit = t.client.limit })
-    (interrupt-agrees canon ks [] (read_all canon (core_all h) (server_items t.there)) (client_steps.core_of k) key
-    (interrupts_there canon.settings canon.settings.chars.intr key there) t.agrees)
+    let v = read_all canon (server_core (server_at h)) (server_items t.there) in
+    says_as_read canon h k (client.sent sending) t (machine.command command.Ip ∷ []) writes t.told t.client
+    (subst (λ (o : Option ℕ). Agrees canon (ks ++ option_to_list o) (taken_at h) (read_all canon v (machine.command command.Ip ∷ [])) (end_at k)) (sym is)
+    (interrupt-agrees canon ks (taken_at h) v (end_at k) key (interrupts_there canon.settings canon.settings.chars.intr key there) t.agrees))
 
 -- and one that is no input
 passes : (canon : Canon) (h : server.History) (k : client.History) (sending : UserCommand) → key_for sending canon.settings ≡ None
     → SaysItems canon [] (client_says.replies k (client.sent sending)) → TiedHistories canon h k → TiedHistories canon h (client.next k (client.sent sending))
 passes canon h k sending is writes t =
     let ks = keys_typed canon.settings k in
-    let done : Sent = record { client = client_steps.core_of k; items = [] } in
-    says_more canon h k (client.sent sending) done t.back ks t writes refl
-    (sym (append-nil ks) ∙ ap (λ (o : Option ℕ). ks ++ option_to_list o) (sym is)) t.told t.calm_back
-    (record { on = t.client.on; characters = t.client.characters; limit = t.client.limit })
-    t.agrees
+    let v = read_all canon (server_core (server_at h)) (server_items t.there) in
+    says_as_read canon h k (client.sent sending) t [] writes t.told t.client
+    (subst (λ (o : Option ℕ). Agrees canon (ks ++ option_to_list o) (taken_at h) v (end_at k)) (sym is)
+    (subst (λ (l : List ℕ). Agrees canon l (taken_at h) v (end_at k)) (sym (append-nil ks)) t.agrees))
 
 pub sends : (canon : Canon) (h : server.History) (k : client.History) (sending : UserCommand) → IsTypeable sending canon.settings → TiedHistories canon h k
     → TiedHistories canon h (client.next k (client.sent sending))
@@ -244,15 +275,11 @@ returns canon h k x p t =
     let P = IsCalmToClient canon.settings in
     let n = next_of (client.items k) t.back (server_says.items_said h) x t.told p in
     let calm = subst (λ (l : List Item). All P l) n.1 t.calm_back in
-    let first = All-head P x n.0 calm in
-    let c = client_steps.core_of k in
-    let m = client_message x in
-    let one = client_steps.item-came canon k x t.client first in
-    says_more canon h k (client.got x) (client_after_message canon c m) n.0 (keys_typed canon.settings k) t one.writes one.core refl
+    let one = client_steps.item-comes canon (end_at k) x t.client (All-head P x n.0 calm) in
+    says_more canon h k (client.got x) n.0 t one.said
     (t.told ∙ ap (λ (l : List Item). client.items k ++ l) n.1 ∙ sym (append_assoc (client.items k) (x ∷ []) n.0))
-    (All-tail P x n.0 calm) (client_steps.item-stays canon k x t.client first)
-    (message-agrees canon (keys_typed canon.settings k) [] (read_all canon (core_all h) (server_items t.there)) c m t.agrees
-    (askable_as canon.settings x first))
+    (All-tail P x n.0 calm) one.stays
+    (one.agrees (keys_typed canon.settings k) (taken_at h) (read_all canon (server_core (server_at h)) (server_items t.there)) t.agrees)
 
 -- THE OPENING
 begun : (canon : Canon) (width height : ℕ) → canon.settings.chars ≡ standard_characters
@@ -264,9 +291,10 @@ begun canon width height standard = record {
   back = server_says.opening;
   told = refl;
   calm_back = opening_calm canon.settings standard;
-  agrees = begun_agrees canon width height;
-  server = server_kept canon;
-  client = client_kept canon width height standard;
+  agrees = begun_agrees canon width height (server_at (server.begun canon)) (end_at (client.begun width height canon.limit)) (server_there (server.begun canon))
+      refl (stands_there (client.begun width height canon.limit));
+  server = server_kept canon (server_at (server.begun canon)) (server_there (server.begun canon));
+  client = client_kept canon width height (end_at (client.begun width height canon.limit)) (stands_there (client.begun width height canon.limit)) standard;
 }
 
 -- with a wish, and with what it echoes shown
@@ -278,17 +306,22 @@ begins canon editing width height n standard =
     called canon (server.next h (server.wished editing)) k (server.pulled n) tt
     (called canon h k (server.wished editing) tt (begun canon width height standard))
 
--- WHAT IT SAYS OF ENTRIES
+-- WHAT IT SAYS OF ENTRIES: those that were taken, and those that wait
 pub prefix : (canon : Canon) (h : server.History) (k : client.History) → TiedHistories canon h k
     → IsPrefixOf (entries h) (typed_entries canon (keys_typed canon.settings k))
 prefix canon h k t =
-    let v = read_all canon (core_all h) (server_items t.there) in
-    let more = read-more canon (core_all h) (server_items t.there) in
-    (more.0, more.1 ∙ agreed canon (keys_typed canon.settings k) [] v (client_steps.core_of k) t.agrees)
+    let v = read_all canon (server_core (server_at h)) (server_items t.there) in
+    let more = prefix_after (taken_at h) (waiting h) v.waiting (read-more canon (server_core (server_at h)) (server_items t.there)) in (
+      more.0,
+      ap (λ (es : List Entry). es ++ more.0) (sym (take-append-drop (taken_count h) (entries h))) ∙ more.1
+          ∙ agreed canon (keys_typed canon.settings k) (taken_at h) v (end_at k) t.agrees,
+    )
 
 pub complete : (canon : Canon) (h : server.History) (k : client.History) → TiedHistories canon h k → server.items h ≡ client_says.items_said k
     → entries h ≡ typed_entries canon (keys_typed canon.settings k)
 complete canon h k t all =
     let none = append_cancel_left (server.items h) t.there [] (sym t.said ∙ sym all ∙ sym (append-nil (server.items h))) in
-    subst (λ (l : List Item). (read_all canon (core_all h) (server_items l)).waiting ≡ typed_entries canon (keys_typed canon.settings k)) none
-    (agreed canon (keys_typed canon.settings k) [] (read_all canon (core_all h) (server_items t.there)) (client_steps.core_of k) t.agrees)
+    sym (take-append-drop (taken_count h) (entries h))
+    ∙ subst (λ (l : List Item). taken_at h ++ (read_all canon (server_core (server_at h)) (server_items l)).waiting
+    ≡ typed_entries canon (keys_typed canon.settings k)) none
+    (agreed canon (keys_typed canon.settings k) (taken_at h) (read_all canon (server_core (server_at h)) (server_items t.there)) (end_at k) t.agrees)

@@ -1,6 +1,6 @@
 -- What is in flight after a mark, and from the opening on: nothing that turns LINEMODE off or changes a
 -- special character, and nothing that turns it on but where the special characters are the standard ones.
-use Rattle.std.specs.Prelude.{◌≡◌, ◌⊎◌, ℕ, ◌==◌, Bool, true, IsTrue, false, IsFalse, Option, Some, None}
+use Rattle.std.specs.Prelude.{◌≡◌, ◌⊎◌, ℕ, ◌==◌, Bool, true, IsTrue, false, IsFalse, Option, Some}
 use Rattle.tn_codes.specs.declared.codes.Verb.{Verb}
 use Rattle.tn_codes.specs.declared.codes.Verb.TheVariants.{Will, DoIt}
 use Rattle.tn_codes.specs.OptionCodes as option_code
@@ -13,10 +13,8 @@ use Rattle.tn_linemode.specs.Exchange.{announcement}
 use Rattle.tn_linemode.specs.Modes.{edits, is_acknowledged, traps}
 use Rattle.tn_nvt.specs.declared.items.Item.{Item}
 use Rattle.tn_nvt.specs.declared.items.Item.TheVariants.{Byte, Newline, Cmd, Neg, Sub}
-use Rattle.tn_client.specs.Lines.{is_forward}
 use Rattle.tn_world.specs.relation.Machine as machine
-use Rattle.tn_world.specs.relation.Machine.{Mode, Message, mode, forward_at, linemode_asked, chatter, byte}
-use Rattle.tn_world.specs.relation.Machine.{newline, command, mode_ack, linemode_on, other, IsAskable}
+use Rattle.tn_world.specs.relation.Machine.{Mode, byte, newline, command, mode_ack, linemode_on, other, IsAskable}
 
 -- RFC 1184, section 2.2: the two bits of a mask that both ends keep
 abbrev pub bits : ℕ → Mode
@@ -65,19 +63,3 @@ server_item Newline = newline
 server_item (Cmd c) = command c
 server_item (Neg verb option) = seen_word (option == option_code.linemode)
 server_item (Sub option params) = seen_payload (payload_of option params)
-
--- and to the client
-abbrev pub heard_payload : Option Payload → Message
-heard_payload (Some (payload.Mode mask)) = mode (bits mask)
-heard_payload (Some (payload.ForwardOn mask)) = forward_at (is_forward (Some mask))
-heard_payload (Some payload.ForwardOff) = forward_at (is_forward None)
-heard_payload _ = chatter
-
-abbrev pub heard_word : Bool → Message
-heard_word true = linemode_asked
-heard_word false = chatter
-
-abbrev pub client_message : Item → Message
-client_message (Neg verb option) = heard_word (option == option_code.linemode)
-client_message (Sub option params) = heard_payload (payload_of option params)
-client_message _ = chatter

@@ -1,21 +1,21 @@
--- The ends as the relation between them sees them, and what stays as it was at a mark.
-use Rattle.std.specs.Prelude.{◌≡◌}
+-- The server as the relation between both ends sees it, and what stays as it was at a mark.
+use Rattle.std.specs.Prelude.{◌≡◌, ◌⊎◌, ℕ, IsTrue, Some}
 use Rattle.tn_codes.specs.OptionCodes as option_code
 use Rattle.tn_discipline.specs.Canon.{Canon}
+use Rattle.tn_discipline.specs.declared.termios.Flags.{Flags}
+use Rattle.tn_discipline.specs.declared.termios.Settings.{Settings}
 use Rattle.tn_linemode.specs.Modes.{edits}
-use Rattle.tn_option.specs.Options.{state_of}
+use Rattle.tn_option.specs.Options.{agrees_to, state_of}
 use Rattle.tn_option.specs.declared.q_method.QState.{QState}
 use Rattle.tn_option.specs.declared.q_method.QState.TheVariants.{No, Yes, WantNoEmpty, WantNoOpposite}
 use Rattle.tn_option.specs.declared.q_method.QState.TheVariants.{WantYesEmpty, WantYesOpposite}
 use Rattle.tn_option.specs.declared.q_method.Side.TheVariants.{Us, Them}
 use Rattle.tn_server.specs.Calls as server
 use Rattle.tn_server.specs.Terms as server_terms
+use Rattle.tn_server.specs.declared.wishes.Editing.TheVariants.{Local}
 use Rattle.tn_client.specs.Calls as client
-use Rattle.tn_client.specs.Lines.{is_forward}
-use Rattle.tn_client.specs.Terms as client_terms
-use Rattle.tn_world.specs.relation.Machine.{Server, Client}
-use Rattle.tn_world.specs.relation.Calm.{bits}
-use Rattle.tn_world.specs.relation.Ends.{ServerEnd, ClientEnd}
+use Rattle.tn_world.specs.relation.Machine.{Server}
+use Rattle.tn_world.specs.relation.Ends.{ServerEnd}
 
 abbrev pub server_core : server.End → Server
 server_core end =
@@ -29,22 +29,6 @@ server_core end =
 
 abbrev pub server_picture : server.End → ServerEnd
 server_picture end = record { decoder = end.decoder; core = server_core end }
-
-abbrev pub client_core : client.End → Client
-client_core end =
-    record {
-      linemode = client_terms.linemode end.options;
-      mask = bits end.mode;
-      held = end.line.held;
-      ahead = end.line.ahead;
-      forward = is_forward end.forward;
-      trapped = end.trapped;
-      plain = end.plain;
-      failed = end.failed;
-    }
-
-abbrev pub client_picture : client.End → ClientEnd
-client_picture end = record { decoder = end.decoder; core = client_core end }
 
 -- LINEMODE is off, on or asked for, and never on its way off
 abbrev pub NeverEnds : QState → Type 0
@@ -64,15 +48,28 @@ IsOffOrOn WantNoEmpty = ⊥
 IsOffOrOn WantNoOpposite = ⊥
 IsOffOrOn WantYesOpposite = ⊥
 
--- LINEMODE does not end; the special characters and every flag but ECHO are as they were
+-- a wish that these flags allow
+abbrev pub IsAllowed : Flags → ℕ → Type 0
+IsAllowed f wish = (wish ≡ 0) ⊎ (server_terms.mask_for f Local ≡ Some wish)
+
+-- every flag but ECHO is as it was
+abbrev pub IsFlagged : Canon → Settings → Type 0
+IsFlagged canon s = s.flags ≡ record (canon.settings.flags) { echo = s.flags.echo }
+
+-- LINEMODE is agreed to and does not end, and the wish in force is allowed; the special characters, of the end
+-- and of its terminal, and every flag but ECHO are as they were; nothing of the half line was handed on
 pub record ServerStays (canon : Canon) (end : server.End) : Type 0 where
+  pub agreed : IsTrue (agrees_to end.terms.options Them option_code.linemode)
   pub linemode : NeverEnds (state_of end.terms.options Them option_code.linemode)
+  pub wish : IsAllowed end.terminal.settings.flags end.terms.wish
   pub chars : end.table ≡ canon.settings.chars
-  pub flags : end.terminal.settings.flags
-      ≡ record (canon.settings.flags) { echo = end.terminal.settings.flags.echo }
+  pub own : end.terminal.settings.chars ≡ canon.settings.chars
+  pub flags : IsFlagged canon end.terminal.settings
   pub limit : end.terminal.line.limit ≡ canon.limit
+  pub ahead : end.terminal.line.ahead ≡ 0
 
 pub record ClientStays (canon : Canon) (end : client.End) : Type 0 where
+  pub agreed : IsTrue (agrees_to end.options Us option_code.linemode)
   pub linemode : IsOffOrOn (state_of end.options Us option_code.linemode)
   pub chars : end.table ≡ canon.settings.chars
   pub limit : end.line.limit ≡ canon.limit

@@ -8,15 +8,18 @@ use Rattle.tn_discipline.specs.declared.keys.Role.TheVariants as role
 use Rattle.tn_discipline.specs.declared.reads.Entry.{Entry}
 use Rattle.tn_nvt.specs.declared.items.Item.{Item}
 use Rattle.tn_server.specs.Terms.{allows_local}
+use Rattle.tn_client.specs.Calls as client
+use Rattle.tn_client.specs.Terms.{linemode}
+use Rattle.tn_linemode.specs.Modes.{edits}
 use Rattle.tn_world.specs.Headline.{local_entries}
 use Rattle.tn_streams.specs.Prefixes.{IsPrefixOf}
 use Rattle.tn_world.specs.Past.{HasPast}
-use Rattle.tn_world.specs.relation.Calm.{IsCalmToServer, IsCalmToClient}
+use Rattle.tn_world.specs.relation.Calm.{bits, IsCalmToServer, IsCalmToClient}
 use Rattle.tn_world.specs.relation.Ends as ends
 use Rattle.tn_world.specs.relation.Ends.{server_items}
 use Rattle.tn_world.specs.Flight.{InFlight}
-use Rattle.tn_world.specs.relation.Machine.{Server, read_all, Client, IsAskable}
-use Rattle.tn_world.specs.relation.Pictures.{server_core, server_picture, client_picture, ServerStays}
+use Rattle.tn_world.specs.relation.Machine.{Server, read_all, IsAskable}
+use Rattle.tn_world.specs.relation.Pictures.{server_core, server_picture, ServerStays}
 use Rattle.tn_world.specs.relation.Pictures.{ClientStays}
 use Rattle.tn_world.specs.Worlds.{World}
 
@@ -36,18 +39,18 @@ AreOrdinary chars (b ∷ bs) = (literal_role chars b ≡ role.Ordinary b) × Are
 -- client edits, it knows how long the half line of `v` is; where it does not, it holds nothing, and the count
 -- that ISIG names is that length, if Local is a mode that the server may ask for.
 pub record Agrees (canon : Canon) (typed : List ℕ) (taken : List Entry) (v : Server)
-    (c : Client) : Type 0 where
+    (c : client.End) : Type 0 where
   pub half : List ℕ
   pub waiting : List Entry
-  pub is : v ≡ server_at c.linemode c.mask.edit half waiting
-  pub off : IsFalse c.linemode → IsFalse c.mask.edit
+  pub is : v ≡ server_at (linemode c.options) (edits c.mode) half waiting
+  pub off : IsFalse (linemode c.options) → IsFalse (edits c.mode)
   pub entries : typed_entries canon typed ≡ taken ++ waiting
-  pub line : typed_half canon typed ≡ half ++ c.held
-  pub askable : IsAskable canon.settings c.mask
-  pub ahead : IsTrue c.mask.edit → length half ≡ c.ahead
-  pub none : IsFalse c.mask.edit → c.held ≡ []
-  pub plain : AreOrdinary canon.settings.chars c.held
-  pub count : IsFalse c.mask.edit → IsTrue (allows_local canon.settings.flags)
+  pub line : typed_half canon typed ≡ half ++ c.line.held
+  pub askable : IsAskable canon.settings (bits c.mode)
+  pub ahead : IsTrue (edits c.mode) → length half ≡ c.line.ahead
+  pub none : IsFalse (edits c.mode) → c.line.held ≡ []
+  pub plain : AreOrdinary canon.settings.chars c.line.held
+  pub count : IsFalse (edits c.mode) → IsTrue (allows_local canon.settings.flags)
       → (if canon.settings.flags.isig then c.trapped else c.plain) ≡ length half
 
 -- The same of both ends and the bytes between them, which are whole items and calm.
@@ -59,7 +62,7 @@ pub record IsTied (canon : Canon) (w : ends.World) : Type 0 where
   pub back : InFlight w.client.decoder w.to_client messages
   pub calm_back : All (IsCalmToClient canon.settings) messages
   pub agrees : Agrees canon w.typed w.taken (read_all canon w.server.core (server_items items))
-      w.client.core
+      w.client
 
 abbrev pub picture : World → ends.World
 picture w =
@@ -67,12 +70,12 @@ picture w =
       typed = w.typed;
       taken = w.taken;
       server = server_picture w.server;
-      client = client_picture w.client;
+      client = w.client;
       to_server = w.to_server;
       to_client = w.to_client;
     }
 
--- The same of a world, with the server's settings and line limit at its mark.
+-- The relation of a world, with the server's settings and line limit at its mark.
 pub record IsRelated (canon : Canon) (w : World) : Type 0 where
   pub tied : IsTied canon (picture w)
   pub server : ServerStays canon w.server

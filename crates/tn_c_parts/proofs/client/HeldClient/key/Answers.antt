@@ -7,7 +7,7 @@ returns c =
     let told = c.key.ensures in
     let is = c.code_of.ensures in
     record {
-      acts = key_acts c.args.key c.key.result c.code_of.result _ _ is told.ok told.failed told.err;
-      shows = λ done. (when_done c.key.result c.code_of.result is told.ok done).shows;
+      acts = key_acts c.args.key c.key.result c.code_of.result _ _ is told.step told.out told.failed told.err;
+      shows = when_done c.key.result c.code_of.result is told.screen;
       memory = for_fault Memory c.key.result c.code_of.result is told.memory;
     }

@@ -5,8 +5,8 @@ pub returns-in-Ok : goal.returns-in-Ok
 returns-in-Ok c =
     record {
       codes = inl refl;
-      ok = λ _. c.in-Ok.ensures.ok;
-      keeps = c.in-Ok.ensures.keeps;
+      step = λ _. c.in-Ok.ensures.step;
+      sends = λ _. c.in-Ok.ensures.out;
       counts = λ _. c.in-Ok.ensures.count;
       entry = refl;
       err = search rules;
@@ -19,8 +19,8 @@ pub returns-in-Err : goal.returns-in-Err
 returns-in-Err c =
     record {
       codes = inr refl;
-      ok = search rules;
-      keeps = search rules;
+      step = search rules;
+      sends = search rules;
       counts = search rules;
       entry = refl;
       err = search rules;

@@ -10,8 +10,8 @@ use Rattle.tn_c_parts.proofs.server.HeldServer.set_char.Goals as goal
 pub returns-in-Ok-clause-call : goal.returns-in-Ok-clause-call
 returns-in-Ok-clause-call c =
     record {
-      ok = λ _. c.in-Ok.ensures.ok;
-      keeps = c.in-Ok.ensures.keeps;
+      step = λ _. c.in-Ok.ensures.step;
+      sends = λ _. c.in-Ok.ensures.out;
       accepted = λ _. c.in-Ok.ensures.accepted;
       refused = inl refl;
       err = search rules;
@@ -22,8 +22,8 @@ returns-in-Ok-clause-call c =
 pub returns-in-Err-Memory-clause-call : goal.returns-in-Err-Memory-clause-call
 returns-in-Err-Memory-clause-call c =
     record {
-      ok = search rules;
-      keeps = search rules;
+      step = search rules;
+      sends = search rules;
       accepted = search rules;
       refused = inr (server_told (char_fault_at c.args.self.now.end c.args.func c.args.value) c.in-Err-Memory.field-0 fault.Memory c.in-Err-Memory.field-0-is
           c.in-Err-Memory.ensures.fault);
@@ -35,8 +35,8 @@ returns-in-Err-Memory-clause-call c =
 pub returns-in-Err-Failed-clause-call : goal.returns-in-Err-Failed-clause-call
 returns-in-Err-Failed-clause-call c =
     record {
-      ok = search rules;
-      keeps = search rules;
+      step = search rules;
+      sends = search rules;
       accepted = search rules;
       refused = inr (server_told (char_fault_at c.args.self.now.end c.args.func c.args.value) c.in-Err-Failed.field-0 fault.Failed c.in-Err-Failed.field-0-is
           c.in-Err-Failed.ensures.fault);
@@ -48,8 +48,8 @@ returns-in-Err-Failed-clause-call c =
 pub returns-in-Err-NotOn-clause-call : goal.returns-in-Err-NotOn-clause-call
 returns-in-Err-NotOn-clause-call c =
     record {
-      ok = search rules;
-      keeps = search rules;
+      step = search rules;
+      sends = search rules;
       accepted = search rules;
       refused = inr (server_told (char_fault_at c.args.self.now.end c.args.func c.args.value) c.in-Err-NotOn.field-0 fault.NotOn c.in-Err-NotOn.field-0-is
           c.in-Err-NotOn.ensures.fault);
@@ -61,8 +61,8 @@ returns-in-Err-NotOn-clause-call c =
 pub returns-in-Err-Pty-TooFarAhead-clause-call : goal.returns-in-Err-Pty-TooFarAhead-clause-call
 returns-in-Err-Pty-TooFarAhead-clause-call c =
     record {
-      ok = search rules;
-      keeps = search rules;
+      step = search rules;
+      sends = search rules;
       accepted = search rules;
       refused = inr (server_told (char_fault_at c.args.self.now.end c.args.func c.args.value) c.in-Err-Pty-TooFarAhead.field-0 (fault.Pty pty.TooFarAhead)
           (c.in-Err-Pty-TooFarAhead.field-0-is ∙ ap fault.Pty c.in-Err-Pty-TooFarAhead.field-0-0-is) c.in-Err-Pty-TooFarAhead.ensures.fault);
@@ -74,13 +74,13 @@ returns-in-Err-Pty-TooFarAhead-clause-call c =
 pub returns-in-Err-Pty-Memory-clause-call : goal.returns-in-Err-Pty-Memory-clause-call
 returns-in-Err-Pty-Memory-clause-call c =
     record {
-      ok = search rules;
-      keeps = search rules;
+      step = search rules;
+      sends = search rules;
       accepted = search rules;
       refused = inr (server_told (char_fault_at c.args.self.now.end c.args.func c.args.value) c.in-Err-Pty-Memory.field-0 (fault.Pty pty.Memory)
           (c.in-Err-Pty-Memory.field-0-is ∙ ap fault.Pty c.in-Err-Pty-Memory.field-0-0-is) c.in-Err-Pty-Memory.ensures.fault);
       err = search rules;
-      full = λ _ _ _. absurd
+      full = λ _. absurd
           (never_pty c.args.self.now.end.failed (char_fault c.args.self.now.end.table c.args.func c.args.value) c.in-Err-Pty-Memory.field-0
           c.in-Err-Pty-Memory.field-0-0 c.in-Err-Pty-Memory.field-0-is c.in-Err-Pty-Memory.ensures.fault);
       entry = search rules;
@@ -89,8 +89,8 @@ returns-in-Err-Pty-Memory-clause-call c =
 pub returns-in-Err-Pty-Closed-clause-call : goal.returns-in-Err-Pty-Closed-clause-call
 returns-in-Err-Pty-Closed-clause-call c =
     record {
-      ok = search rules;
-      keeps = search rules;
+      step = search rules;
+      sends = search rules;
       accepted = search rules;
       refused = inr (server_told (char_fault_at c.args.self.now.end c.args.func c.args.value) c.in-Err-Pty-Closed.field-0 (fault.Pty pty.Closed)
           (c.in-Err-Pty-Closed.field-0-is ∙ ap fault.Pty c.in-Err-Pty-Closed.field-0-0-is) c.in-Err-Pty-Closed.ensures.fault);
@@ -102,8 +102,8 @@ returns-in-Err-Pty-Closed-clause-call c =
 pub returns-in-Err-Char-NotSettable-clause-call : goal.returns-in-Err-Char-NotSettable-clause-call
 returns-in-Err-Char-NotSettable-clause-call c =
     record {
-      ok = search rules;
-      keeps = search rules;
+      step = search rules;
+      sends = search rules;
       accepted = search rules;
       refused = inr (server_told (char_fault_at c.args.self.now.end c.args.func c.args.value) c.in-Err-Char-NotSettable.field-0 (fault.Char char.NotSettable)
           (c.in-Err-Char-NotSettable.field-0-is ∙ ap fault.Char c.in-Err-Char-NotSettable.field-0-0-is) c.in-Err-Char-NotSettable.ensures.fault);
@@ -115,8 +115,8 @@ returns-in-Err-Char-NotSettable-clause-call c =
 pub returns-in-Err-Char-Reserved-clause-call : goal.returns-in-Err-Char-Reserved-clause-call
 returns-in-Err-Char-Reserved-clause-call c =
     record {
-      ok = search rules;
-      keeps = search rules;
+      step = search rules;
+      sends = search rules;
       accepted = search rules;
       refused = inr (server_told (char_fault_at c.args.self.now.end c.args.func c.args.value) c.in-Err-Char-Reserved.field-0 (fault.Char char.Reserved)
           (c.in-Err-Char-Reserved.field-0-is ∙ ap fault.Char c.in-Err-Char-Reserved.field-0-0-is) c.in-Err-Char-Reserved.ensures.fault);
@@ -128,8 +128,8 @@ returns-in-Err-Char-Reserved-clause-call c =
 pub returns-in-Err-Char-Taken-clause-call : goal.returns-in-Err-Char-Taken-clause-call
 returns-in-Err-Char-Taken-clause-call c =
     record {
-      ok = search rules;
-      keeps = search rules;
+      step = search rules;
+      sends = search rules;
       accepted = search rules;
       refused = inr (server_told (char_fault_at c.args.self.now.end c.args.func c.args.value) c.in-Err-Char-Taken.field-0 (fault.Char char.Taken)
           (c.in-Err-Char-Taken.field-0-is ∙ ap fault.Char c.in-Err-Char-Taken.field-0-0-is) c.in-Err-Char-Taken.ensures.fault);

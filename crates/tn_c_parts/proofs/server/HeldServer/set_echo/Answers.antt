@@ -4,8 +4,8 @@ use Rattle.tn_c_parts.proofs.server.HeldServer.set_echo.Goals as goal
 pub returns-in-Ok : goal.returns-in-Ok
 returns-in-Ok c =
     record {
-      ok = λ _. c.in-Ok.ensures.ok;
-      keeps = c.in-Ok.ensures.keeps;
+      step = λ _. c.in-Ok.ensures.step;
+      sends = λ _. c.in-Ok.ensures.out;
       accepted = λ _. c.in-Ok.ensures.accepted;
       refused = inl refl;
       err = search rules;

@@ -4,8 +4,8 @@ use Rattle.tn_c_parts.proofs.server.HeldServer.set_mask.Goals as goal
 pub returns-in-Ok-clause-call : goal.returns-in-Ok-clause-call
 returns-in-Ok-clause-call c =
     record {
-      ok = λ _. c.in-Ok.ensures.ok;
-      keeps = c.in-Ok.ensures.keeps;
+      step = λ _. c.in-Ok.ensures.step;
+      sends = λ _. c.in-Ok.ensures.out;
       accepted = λ _. c.in-Ok.ensures.accepted;
       refused = inl refl;
       err = search rules;
@@ -16,8 +16,8 @@ returns-in-Ok-clause-call c =
 pub returns-in-Err-Memory-clause-call : goal.returns-in-Err-Memory-clause-call
 returns-in-Err-Memory-clause-call c =
     record {
-      ok = search rules;
-      keeps = search rules;
+      step = search rules;
+      sends = search rules;
       accepted = search rules;
       refused = search rules;
       err = search rules;

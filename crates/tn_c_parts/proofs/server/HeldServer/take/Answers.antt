@@ -5,8 +5,8 @@ pub returns-in-Ok : goal.returns-in-Ok
 returns-in-Ok c =
     record {
       codes = inl refl;
-      ok = λ _. c.in-Ok.ensures.ok;
-      keeps = c.in-Ok.ensures.keeps;
+      step = λ _. c.in-Ok.ensures.step;
+      sends = λ _. c.in-Ok.ensures.out;
       entry = λ _. c.in-Ok.ensures.entry;
       kind = λ _. c.kind_number.ensures;
       err = search rules;

@@ -5,8 +5,8 @@ pub returns-in-Ok : goal.returns-in-Ok
 returns-in-Ok c =
     record {
       acts = record {
-        ok = λ _. c.in-Ok.ensures.ok;
-        keeps = c.in-Ok.ensures.keeps;
+        step = λ _. c.in-Ok.ensures.step;
+        sends = λ _. c.in-Ok.ensures.out;
         accepted = λ _. c.in-Ok.ensures.accepted;
         refused = inl refl;
         err = search rules;

@@ -1,12 +1,13 @@
-use Rattle.std.proofs.Common.{◌≡◌, true, false, ℕ, Bool, OnOk, IfErr, IsErrOf, List, map, refl, sym, ap, ◌∙◌, subst}
+use Rattle.std.proofs.Common.{◌≡◌, true, false, Bool, OnOk, IfErr, map, refl, sym, ap, ◌∙◌, subst}
 use Rattle.tn_linemode.specs.Modes.{edits}
 use Rattle.tn_nvt.specs.declared.items.Item.TheVariants.{Byte}
 use Rattle.tn_pty.specs.declared.pty.Input.TheVariants.{Keys, Edited}
-use Rattle.tn_pty.specs.declared.pty.PtyFault.TheVariants as pty
-use Rattle.tn_server.specs.Calls.{End, AdvancesAll, StopsWithinItems}
+use Rattle.tn_server.specs.Calls.{End}
+use Rattle.tn_server.specs.Lending.{RefusesByte}
+use Rattle.tn_server.specs.Steps.{end_after_items}
 use Rattle.tn_server.specs.Terms.{echoes}
 use Rattle.tn_server.specs.declared.faults.ServerFault.TheVariants.{Pty}
-use Rattle.tn_server.proofs.Running.{input_of, input_at, run_done, run_stops, run_shut}
+use Rattle.tn_server.proofs.Running.{input_of, input_at, run_done, run_stops}
 use Rattle.tn_server.proofs.end.ServerEnd.bytes.Goals as goal
 
 pub returns-then-edit : goal.returns-then-edit
@@ -28,15 +29,11 @@ returns-then-edit c =
     let input : Edited ≡ input_at old = ap (λ (e : Bool). input_of e (echoes p.terms.options)) (sym edit) in
     record {
       ok =
-          subst (λ (e : End). OnOk r ((before : List ℕ) → AdvancesAll e (map Byte bytes) before before new)) c.self.view_is
+          subst (λ (e : End). OnOk r (new ≡ end_after_items e (map Byte bytes))) c.self.view_is
           (run_done old new bytes Edited input refl r c.edited_run.ensures.pair);
       err =
-          subst (λ (e : End). IfErr r (λ fault. (before : List ℕ) → StopsWithinItems e (map Byte bytes) (Pty fault) before before new)) c.self.view_is
+          subst (λ (e : End). IfErr r (λ fault. RefusesByte e bytes (Pty fault) new)) c.self.view_is
           (run_stops old new bytes Edited input refl r c.edited_run.ensures.refused);
-      failed = ap (λ (e : End). e.failed) c.self.view_is;
-      shut =
-          subst (λ (e : End). IsErrOf r pty.Closed → e.terminal.closed ≡ true) c.self.view_is
-          (run_shut old new bytes Edited input refl r c.edited_run.ensures.refused);
     }
 
 pub returns : goal.returns
@@ -58,13 +55,9 @@ returns c =
     let input : Keys c.echoes-echo.result ≡ input_at old = ap Keys c.echoes-echo.ensures ∙ ap (λ (e : Bool). input_of e (echoes p.terms.options)) (sym edit) in
     record {
       ok =
-          subst (λ (e : End). OnOk r ((before : List ℕ) → AdvancesAll e (map Byte bytes) before before new)) c.self.view_is
+          subst (λ (e : End). OnOk r (new ≡ end_after_items e (map Byte bytes))) c.self.view_is
           (run_done old new bytes (Keys c.echoes-echo.result) input refl r c.type_run.ensures.pair);
       err =
-          subst (λ (e : End). IfErr r (λ fault. (before : List ℕ) → StopsWithinItems e (map Byte bytes) (Pty fault) before before new)) c.self.view_is
+          subst (λ (e : End). IfErr r (λ fault. RefusesByte e bytes (Pty fault) new)) c.self.view_is
           (run_stops old new bytes (Keys c.echoes-echo.result) input refl r c.type_run.ensures.refused);
-      failed = ap (λ (e : End). e.failed) c.self.view_is;
-      shut =
-          subst (λ (e : End). IsErrOf r pty.Closed → e.terminal.closed ≡ true) c.self.view_is
-          (run_shut old new bytes (Keys c.echoes-echo.result) input refl r c.type_run.ensures.refused);
     }

@@ -1,8 +1,10 @@
-use Rattle.std.proofs.Common.{Err, refl, ap}
-use Rattle.tn_server.proofs.Loans.{refused_item}
+use Rattle.std.proofs.Common.{refl}
+use Rattle.tn_server.proofs.Loans.{took_item, refused_item}
 use Rattle.tn_server.proofs.taking.LentSink.item.Goals as goal
+
+pub returns-in-Ok-clause-ok : goal.returns-in-Ok-clause-ok
+returns-in-Ok-clause-ok c = took_item c.args.self.now _ c.args.item (record { end = refl; out = refl }) c.in-Ok.ensures.ok c.in-Ok.ensures.out refl
 
 pub returns-in-Err-clause-err : goal.returns-in-Err-clause-err
 returns-in-Err-clause-err c =
-    refused_item c.args.self.now _ c.args.item (record { end = refl; out = refl }) c.in-Err.ensures.err c.in-Err.ensures.fault
-    (λ e. c.in-Err.ensures.shut (ap Err e))
+    refused_item c.args.self.now _ c.args.item (record { end = refl; out = refl }) c.in-Err.ensures.cut c.in-Err.ensures.cause c.in-Err.ensures.err

@@ -5,7 +5,7 @@ use Rattle.tn_world.proofs.Bodies.{asks_sound, asks_refused}
 use Rattle.tn_world.proofs.world.World.echo.Goals as goal
 
 pub invariant_of-self-2 : goal.invariant_of-self-2
-invariant_of-self-2 c = asks_sound _ _ (server_calls.echo_set c.args.on) _ tt c.in_ok-set_echo.ensures.ok c.in_ok-set_echo.ensures.keeps c.self.invariant
+invariant_of-self-2 c = asks_sound _ _ (server_calls.echo_set c.args.on) _ tt c.in_ok-set_echo.ensures.step c.in_ok-set_echo.ensures.out c.self.invariant
 
 pub returns-in_err-set_echo-clause-err : goal.returns-in_err-set_echo-clause-err
 returns-in_err-set_echo-clause-err c =

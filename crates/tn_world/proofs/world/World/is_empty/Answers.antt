@@ -1,9 +1,9 @@
 use Rattle.std.proofs.Common.{ap, sym, subst, ◌∙◌}
+use Rattle.tn_discipline.specs.HalfLine.{HalfLine}
+use Rattle.tn_server.proofs.lemmas.Ends.{line_is}
 use Rattle.tn_world.specs.Headline.{IsUncounted, IsEmpty}
-use Rattle.tn_world.specs.relation.Machine.{Server}
 use Rattle.tn_world.specs.Worlds.{World}
 use Rattle.tn_world.proofs.Resting.{empty_where}
-use Rattle.tn_world.proofs.ServerSteps.{core_at}
 use Rattle.tn_world.proofs.world.World.is_empty.Goals as goal
 
 pub returns : goal.returns
@@ -12,7 +12,7 @@ returns c =
     let stands = c.self.invariant.server in
     let same = ap (λ (w : World). w.server.terminal.entries) c.self.view_is in (
       λ t. subst (λ (w : World). IsEmpty w) c.self.view_is (record {
-        half = ap (λ (v : Server). v.half) (core_at h c.self.inside.server stands) ∙ sym (c.half.ensures h stands)
+        half = ap (λ (l : HalfLine). l.held) (line_is h c.self.inside.server stands) ∙ sym (c.half.ensures h stands)
             ∙ empty_where c.is_empty.result c.half.result.now c.is_empty.ensures c.if-not-is_empty.false;
         held = sym c.half-else-not-is_empty.ensures.value ∙ empty_where c.is_empty-else-not-is_empty.result c.half-else-not-is_empty.result.now
             c.is_empty-else-not-is_empty.ensures c.if-not-is_empty-2.false;

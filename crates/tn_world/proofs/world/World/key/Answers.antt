@@ -5,7 +5,7 @@ use Rattle.tn_world.proofs.Bodies.{key_sound, key_refused}
 use Rattle.tn_world.proofs.world.World.key.Goals as goal
 
 pub invariant_of-self-2 : goal.invariant_of-self-2
-invariant_of-self-2 c = key_sound _ _ c.args.key _ _ _ c.in_ok-key.ensures.failed c.in_ok-key.ensures.ok c.self.invariant
+invariant_of-self-2 c = key_sound _ _ c.args.key _ _ _ c.in_ok-key.ensures.failed c.in_ok-key.ensures.step c.in_ok-key.ensures.out c.self.invariant
 
 pub returns-in_err-key-clause-err : goal.returns-in_err-key-clause-err
 returns-in_err-key-clause-err c =

@@ -5,7 +5,7 @@ use Rattle.tn_world.proofs.Bodies.{asks_sound, asks_refused}
 use Rattle.tn_world.proofs.world.World.mask.Goals as goal
 
 pub invariant_of-self-2 : goal.invariant_of-self-2
-invariant_of-self-2 c = asks_sound _ _ (server_calls.mask_set c.args.mask) _ tt c.in_ok-set_mask.ensures.ok c.in_ok-set_mask.ensures.keeps c.self.invariant
+invariant_of-self-2 c = asks_sound _ _ (server_calls.mask_set c.args.mask) _ tt c.in_ok-set_mask.ensures.step c.in_ok-set_mask.ensures.out c.self.invariant
 
 pub returns-in_err-set_mask-clause-err : goal.returns-in_err-set_mask-clause-err
 returns-in_err-set_mask-clause-err c =

@@ -1,4 +1,4 @@
-use Rattle.std.proofs.Common.{◌≡◌, ◌≤◌, length, take, drop, refl, sym, ap, ◌∙◌, Err, arith}
+use Rattle.std.proofs.Common.{◌≡◌, ◌≤◌, length, take, drop, sym, ap, ◌∙◌, Err, arith}
 use Rattle.std.proofs.lemmas.List.{take_all, drop_all}
 use Rattle.tn_world.proofs.Bodies.{reaches_sound}
 use Rattle.tn_world.proofs.Delivering.{if_err, never_err, never_ok, on_ok, server_refuses, to_server}

@@ -7,7 +7,8 @@ use Rattle.tn_world.proofs.world.World.resize.Goals as goal
 
 pub invariant_of-self-2 : goal.invariant_of-self-2
 invariant_of-self-2 c =
-    tells_sound _ _ (client_calls.resized c.args.width c.args.height) _ tt c.in_ok-resize.ensures.failed c.in_ok-resize.ensures.ok c.self.invariant
+    tells_sound _ _ (client_calls.resized c.args.width c.args.height) _ tt c.in_ok-resize.ensures.failed c.in_ok-resize.ensures.step
+    c.in_ok-resize.ensures.out c.self.invariant
 
 pub returns-in_err-resize-clause-err : goal.returns-in_err-resize-clause-err
 returns-in_err-resize-clause-err c =

@@ -5,7 +5,7 @@ use Rattle.tn_world.proofs.Bodies.{asks_sound, asks_refused}
 use Rattle.tn_world.proofs.world.World.set_char.Goals as goal
 
 pub invariant_of-self-2 : goal.invariant_of-self-2
-invariant_of-self-2 c = asks_sound _ _ (server_calls.char_set c.args.func c.args.value) _ tt c.in_ok-set_char.ensures.ok c.in_ok-set_char.ensures.keeps
+invariant_of-self-2 c = asks_sound _ _ (server_calls.char_set c.args.func c.args.value) _ tt c.in_ok-set_char.ensures.step c.in_ok-set_char.ensures.out
     c.self.invariant
 
 pub returns-in_err-set_char-clause-err : goal.returns-in_err-set_char-clause-err

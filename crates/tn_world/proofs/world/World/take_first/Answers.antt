@@ -7,10 +7,10 @@ use Rattle.tn_world.proofs.Taking.{take_refused, take_wants, takes_entry}
 use Rattle.tn_world.proofs.world.World.take_first.Goals as goal
 
 pub invariant_of-self-in-Some : goal.invariant_of-self-in-Some
-invariant_of-self-in-Some c = takes_sound _ _ _ _ c.in_ok-entry.ensures.ok c.in_ok-entry.ensures.keeps c.self.invariant
+invariant_of-self-in-Some c = takes_sound _ _ _ _ c.in_ok-entry.ensures.step c.in_ok-entry.ensures.out c.self.invariant
 
 pub invariant_of-self-in_default : goal.invariant_of-self-in_default
-invariant_of-self-in_default c = takes_sound _ _ _ _ c.in_ok-entry.ensures.ok c.in_ok-entry.ensures.keeps c.self.invariant
+invariant_of-self-in_default c = takes_sound _ _ _ _ c.in_ok-entry.ensures.step c.in_ok-entry.ensures.out c.self.invariant
 
 pub returns-in_err-reserve-clause-err : goal.returns-in_err-reserve-clause-err
 returns-in_err-reserve-clause-err c =
@@ -25,12 +25,12 @@ returns-in_err-entry-clause-err c =
 
 pub returns-in-Some-clause-ok : goal.returns-in-Some-clause-ok
 returns-in-Some-clause-ok c =
-    takes_entry _ _ _ _ _ c.in_ok-entry.ensures.entry c.in_ok-entry.ensures.ok c.in_ok-entry.ensures.keeps
+    takes_entry _ _ _ _ _ _ c.in_ok-entry.ensures.entry c.in_ok-entry.ensures.step c.in_ok-entry.ensures.out
     (c.push_reserved.ensures.items ∙ ap (λ (l : List Entry). l ++ c.in-Some.entry ∷ []) c.reserve.ensures.items
     ∙ sym (ap (λ (o : Option Entry). c.self.inside.taken.items ++ option_to_list o) c.in-Some.is)) _ c.self.view_is
 
 pub returns-in_default-clause-ok : goal.returns-in_default-clause-ok
 returns-in_default-clause-ok c =
     let taken = c.self.inside.taken.items in
-    takes_entry _ _ _ _ _ c.in_ok-entry.ensures.entry c.in_ok-entry.ensures.ok c.in_ok-entry.ensures.keeps
+    takes_entry _ _ _ _ _ _ c.in_ok-entry.ensures.entry c.in_ok-entry.ensures.step c.in_ok-entry.ensures.out
     (c.reserve.ensures.items ∙ sym (append-nil taken) ∙ sym (ap (λ (o : Option Entry). taken ++ option_to_list o) c.in_default.is)) _ c.self.view_is

@@ -5,7 +5,7 @@ use Rattle.tn_world.proofs.Taking.{take_refused, takes_none}
 use Rattle.tn_world.proofs.world.World.take_none.Goals as goal
 
 pub invariant_of-self-2 : goal.invariant_of-self-2
-invariant_of-self-2 c = takes_sound _ _ _ _ c.in_ok-_none.ensures.ok c.in_ok-_none.ensures.keeps c.self.invariant
+invariant_of-self-2 c = takes_sound _ _ _ _ c.in_ok-_none.ensures.step c.in_ok-_none.ensures.out c.self.invariant
 
 pub returns-in_err-_none-clause-err : goal.returns-in_err-_none-clause-err
 returns-in_err-_none-clause-err c =
@@ -14,4 +14,4 @@ returns-in_err-_none-clause-err c =
     c.in_err-_none.ensures.err_appends refl _ c.self.view_is)
 
 pub returns-clause-ok : goal.returns-clause-ok
-returns-clause-ok c = takes_none _ _ _ c.in_ok-_none.ensures.ok c.in_ok-_none.ensures.keeps _ c.self.view_is c.requires
+returns-clause-ok c = takes_none _ _ _ c.in_ok-_none.ensures.step c.in_ok-_none.ensures.out _ c.self.view_is c.requires

@@ -5,7 +5,7 @@ use Rattle.tn_world.proofs.Bodies.{asks_sound, asks_refused}
 use Rattle.tn_world.proofs.world.World.wish.Goals as goal
 
 pub invariant_of-self-2 : goal.invariant_of-self-2
-invariant_of-self-2 c = asks_sound _ _ (server_calls.wished c.args.editing) _ tt c.in_ok-wish.ensures.ok c.in_ok-wish.ensures.keeps c.self.invariant
+invariant_of-self-2 c = asks_sound _ _ (server_calls.wished c.args.editing) _ tt c.in_ok-wish.ensures.step c.in_ok-wish.ensures.out c.self.invariant
 
 pub returns-in_err-wish-clause-err : goal.returns-in_err-wish-clause-err
 returns-in_err-wish-clause-err c =

@@ -18,7 +18,8 @@ loop-key-init c = record {
 pub loop-key-preserved : goal.loop-key-preserved
 loop-key-preserved c = record {
   types = rw (take_more c.args.keys.now c.loop-key.key-index 0 c.loop-key-test.true)
-      (types_more c.args.self.now.end c.loop-key.self.end c.key.new.self _ _ _ _ _ _ _ _ c.loop-key.invariant.types c.in_ok-key.ensures.ok);
+      (types_more c.args.self.now.end c.loop-key.self.end c.key.new.self _ _ _ _ _ _ _ _ c.loop-key.invariant.types c.in_ok-key.ensures.step
+      c.in_ok-key.ensures.out c.in_ok-key.ensures.screen);
   progress = c.loop-key.invariant.progress;
 }
 

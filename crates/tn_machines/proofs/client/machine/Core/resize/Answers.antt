@@ -7,7 +7,7 @@ use Rattle.tn_machines.proofs.of_core.Refusing.{resize_cause}
 use Rattle.tn_machines.proofs.client.machine.Core.resize.Goals as goal
 
 pub returns-clause-ok : goal.returns-clause-ok
-returns-clause-ok c = λ seen. does_resize c.args.from c.args.size c.args.self.now _ _ _ seen c.requires refl c.in_ok-resize.ensures.ok
+returns-clause-ok c = λ seen. does_resize c.args.from c.args.size c.args.self.now _ _ _ seen c.requires refl c.in_ok-resize.ensures.step c.in_ok-resize.ensures.out
 
 pub returns-in_err-resize-clause-err : goal.returns-in_err-resize-clause-err
 returns-in_err-resize-clause-err c =

@@ -1,6 +1,7 @@
-use Rattle.std.proofs.Common.{refl, subst}
+use Rattle.std.proofs.Common.{◌≡◌, ◌++◌, refl, subst}
 use Rattle.std.proofs.lemmas.Result.{err_from_is_err_and}
-use Rattle.tn_client.specs.Answering.{Says}
+use Rattle.tn_client.specs.Steps.{says}
+use Rattle.tn_nvt.specs.Spelling.{spells}
 use Rattle.tn_client.specs.Events.{sent}
 use Rattle.tn_client.specs.declared.commands.UserCommand.{UserCommand}
 use Rattle.tn_machines.proofs.of_core.Doing.{does_send, stops_send}
@@ -9,9 +10,9 @@ use Rattle.tn_machines.proofs.client.machine.Core.send.Goals as goal
 
 pub returns-clause-ok : goal.returns-clause-ok
 returns-clause-ok c =
-    let says = subst (λ (k : UserCommand). Says c.args.self.now.end (sent k) c.args.out.now.items c.send.new.out.items c.send.new.self) c.command_of.ensures
-    c.in_ok-send.ensures.ok in
-    λ seen. does_send c.args.control c.args.self.now _ _ _ seen c.requires refl says
+    let said = subst (λ (k : UserCommand). c.send.new.out.items ≡ c.args.out.now.items ++ spells (says c.args.self.now.end (sent k))) c.command_of.ensures
+    c.in_ok-send.ensures.out in
+    λ seen. does_send c.args.control c.args.self.now _ _ _ seen c.requires refl c.in_ok-send.ensures.step said
 
 pub returns-in_err-send-clause-err : goal.returns-in_err-send-clause-err
 returns-in_err-send-clause-err c =

@@ -1,6 +1,8 @@
-use Rattle.std.proofs.Common.{refl, []}
+use Rattle.std.proofs.Common.{refl, sym, subst}
 use Rattle.std.proofs.lemmas.Result.{err_from_is_err_and}
+use Rattle.tn_server.specs.Calls.{LeadsTo}
 use Rattle.tn_server.specs.Events.{next, wrote}
+use Rattle.tn_server.proofs.lemmas.Leading.{stands}
 use Rattle.tn_machines.proofs.of_terminal.Breaking.{breaks_part}
 use Rattle.tn_machines.proofs.of_terminal.Doing.{does_part}
 use Rattle.tn_machines.proofs.server.terminal.Term.show_part.Goals as goal
@@ -8,7 +10,7 @@ use Rattle.tn_machines.proofs.server.terminal.Term.show_part.Goals as goal
 pub returns-clause-ok : goal.returns-clause-ok
 returns-clause-ok c =
     does_part c.args.self.now _ c.write.new.self c.pull_all.new.end c.args.part.now c.args.out.now.items c.args.out.now.items _ c.requires refl
-    (c.write.ensures.goes c.args.out.now.items) c.write.ensures.keeps c.in_ok-pull_all.ensures.ok
+    c.write.ensures.step refl c.in_ok-pull_all.ensures.ok
 
 pub returns-in_err-pull_all-clause-err : goal.returns-in_err-pull_all-clause-err
 returns-in_err-pull_all-clause-err c = let p = err_from_is_err_and c.from_residual.result c.from_residual.ensures.1
@@ -17,4 +19,4 @@ returns-in_err-pull_all-clause-err c = let p = err_from_is_err_and c.from_residu
 pub returns-in_err-pull_all-clause-grows : goal.returns-in_err-pull_all-clause-grows
 returns-in_err-pull_all-clause-grows c = let p = err_from_is_err_and c.from_residual.result c.from_residual.ensures.1
     in rw p.1 (λ d at. c.in_err-pull_all.ensures.grows (next d.history (wrote c.args.part.now))
-    ((c.write.ensures.goes []).leads d.history (at.live c.requires).leads))
+    (subst (LeadsTo (next d.history (wrote c.args.part.now))) (sym c.write.ensures.step) (stands d.history c.args.self.now.end (wrote c.args.part.now) (at.live c.requires).leads)))

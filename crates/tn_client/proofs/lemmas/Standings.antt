@@ -1,30 +1,30 @@
 -- Where an event leads, from a history to the end.
-use Rattle.std.proofs.Common.{◌≡◌, inl, inr, ℕ, Bool, true, false, min, Option, List, [], ◌++◌, length, Vec, refl, sym, ap, ◌∙◌, if◌then◌else◌, subst}
+use Rattle.std.proofs.Common.{◌≡◌, ℕ, Bool, true, false, min, Option, List, [], ◌∷◌, ◌++◌, length, refl, sym, ap, ◌∙◌, if◌then◌else◌, subst, append-nil}
+use Rattle.std.proofs.Common.{append_assoc}
 use Rattle.tn_codes.specs.declared.masks.Mask.{Mask}
 use Rattle.tn_discipline.specs.Admitted.{count_after, count_of}
 use Rattle.tn_discipline.specs.Characters.{Characters}
 use Rattle.tn_discipline.specs.Entries.{half_of}
 use Rattle.tn_discipline.specs.Keys.{role_of_key, roles_from}
-use Rattle.tn_discipline.specs.HalfLine.{HalfLine, empty_line, line_length, line_after, GivesText}
+use Rattle.tn_discipline.specs.HalfLine.{HalfLine, empty_line, line_length, line_after}
 use Rattle.tn_discipline.specs.Advancing as discipline
 use Rattle.tn_discipline.specs.declared.keys.Role.{Role}
 use Rattle.tn_discipline.proofs.lemmas.Lines.{advances, released_keeps, resumed_leads, after_least, length_at, count_at, count_more}
 use Rattle.tn_linemode.specs.Modes.{edits, traps}
-use Rattle.tn_nvt.specs.Room.{LacksRoom}
-use Rattle.tn_nvt.specs.Spelling.{spells}
 use Rattle.tn_nvt.specs.declared.items.Item.{Item}
 use Rattle.tn_option.specs.Options.{Options}
-use Rattle.tn_client.specs.Events.{History, next, typed, got}
-use Rattle.tn_client.specs.Terms.{options, mode, forward, chars, size, options_after, mode_at, forward_at, chars_by, payload_at, is_echoed}
+use Rattle.tn_nvt.specs.Feeding.{DecoderState}
+use Rattle.tn_client.specs.Answering.{Feeds}
+use Rattle.tn_client.specs.Events.{Event, typed, got, resized, proposed, sent, History, next, gets}
+use Rattle.tn_client.specs.Terms.{options, mode, forward, chars, size, options_after, mode_at, forward_at, chars_by, payload_at, is_echoed, tells_size}
 use Rattle.tn_client.specs.Lines.{settings_by, key_settings, role_of_typed, role_at, roles_under, edited_roles, line_limit, half_line, sends_ahead}
 use Rattle.tn_client.specs.Lines.{is_sent_ahead, ahead, count_under, line}
-use Rattle.tn_client.specs.Replies.{replies, key_items, item_replies}
-use Rattle.tn_client.specs.Screen.{shows, key_shown}
-use Rattle.tn_client.specs.Answering.{TypesKey}
-use Rattle.tn_client.specs.Calls.{End, LeadsTo, Advances, LacksMemoryFor, ReadsList, MayWantMemory, RefusesItem}
-use Rattle.tn_client.specs.Steps.{role_now, is_sent_now, line_sent, line_typed, count_typed, end_after_key, says_key, shows_key, LacksMemoryNow, line_left}
-use Rattle.tn_client.specs.Steps.{count_left, count_told, end_after_item, says_got, MayWantMemoryNow}
-use Rattle.tn_linemode.specs.Prefixes.{AppendsPrefix}
+use Rattle.tn_client.specs.Replies.{replies, key_items, item_replies, resize_items, items_said}
+use Rattle.tn_client.specs.Screen.{shows, key_shown, item_shown, text_shown}
+use Rattle.tn_linemode.proofs.lemmas.Folding as folding
+use Rattle.tn_client.specs.Calls.{End, LeadsTo}
+use Rattle.tn_client.specs.Steps.{role_now, is_sent_now, line_sent, line_typed, count_typed, end_after_key, says_key, shows_key, line_left}
+use Rattle.tn_client.specs.Steps.{count_left, count_told, end_after_item, says_got, end_after, says, displays, end_after_items, says_items, items_shown}
 use Rattle.tn_client.proofs.lemmas.Histories.{unedited, unedited-ahead, edited-typed, edited-stays, edited-begins, under-typed, under-ends, under-stays}
 use Rattle.tn_client.proofs.lemmas.Histories.{count-none, count-is, ahead-typed, ahead-stays, ahead-begins}
 use Rattle.tn_client.proofs.lemmas.Ends.{line_is}
@@ -112,7 +112,7 @@ sent_limit : (sends : Bool) (l : HalfLine) → (line_sent sends l).limit ≡ l.l
 sent_limit true l = refl
 sent_limit false l = refl
 
-typed_limit : (b : Bool) (f : Option Mask) (l : HalfLine) (r : Role) → (line_typed b f l r).limit ≡ l.limit
+pub typed_limit : (b : Bool) (f : Option Mask) (l : HalfLine) (r : Role) → (line_typed b f l r).limit ≡ l.limit
 typed_limit true f l r = sent_limit (is_sent_now f l r) (line_after l r) ∙ (advances l r).limit
 typed_limit false f l r = refl
 
@@ -147,28 +147,6 @@ shows_typed h old key s =
     (sym s.table)
     ∙ ap (λ (l : HalfLine). key_shown (is_echoed old.options) (edits old.mode) (key_settings old.mode old.table) (role_now old key) l key)
     (sym (line_is h old s))
-
-pub types_key : (old new : End) (key : ℕ) (before after seen now : List ℕ) → new ≡ end_after_key old key → after ≡ before ++ spells (says_key old key)
-    → now ≡ seen ++ shows_key old key → TypesKey old key before after seen now new
-types_key old new key before after seen now is said shown = record {
-  goes = record { leads = λ h s. subst (LeadsTo (next h (typed key))) (sym is) (stands_typed h old key s) };
-  sends = record { said = says_key old key; appended = said; replies = λ h s. replies_typed h old key s };
-  shows = record { text = shows_key old key; appended = shown; shows = λ h s. shows_typed h old key s };
-  keeps = record { decoder = ap (λ (e : End). e.decoder) is; failed = ap (λ (e : End). e.failed) is };
-}
-
--- what wants memory by what the end knows wants it by the history
-pub lacks_typed : {Y Z : Type 0} (old : End) (key : ℕ) (out : Vec ℕ Y) (screen : Vec ℕ Z) → LacksMemoryNow old key out screen
-    → LacksMemoryFor old key out screen
-lacks_typed old key out screen (inl lacks) h s = inl (subst (λ (said : List Item). LacksRoom out (length (spells said)))
-    (sym (replies_typed h old key s)) lacks)
-lacks_typed old key out screen (inr (inl lacks)) h s = inr (inl (subst (λ (text : List ℕ). LacksRoom screen (length text))
-    (sym (shows_typed h old key s)) lacks))
-lacks_typed old key out screen (inr (inr text)) h s =
-    inr (inr (
-      sym (ap edits s.mode) ∙ text.0,
-      subst (λ (l : HalfLine). GivesText l (role_at h key)) (line_is h old s) (subst (λ (r : Role). GivesText old.line r) (role_is h old key s) text.1),
-    ))
 
 -- AN ITEM
 -- how many bytes are ahead where EDIT begins
@@ -219,7 +197,7 @@ left_count isig h old item count false false e f s is =
     ∙ ap (λ (rs : List Role). length (half_of (line_limit h) rs)) (sym (under-stays isig h item f))
     ∙ sym (count-is isig (next h (got item)) f)
 
-left_limit : (before after : Bool) (n : ℕ) (l : HalfLine) → (line_left before after n l).limit ≡ l.limit
+pub left_limit : (before after : Bool) (n : ℕ) (l : HalfLine) → (line_left before after n l).limit ≡ l.limit
 left_limit true true n l = refl
 left_limit true false n l = refl
 left_limit false true n l = refl
@@ -261,20 +239,103 @@ replies_got h old item s =
     ∙ ap (λ (z : ℕ × ℕ). item_replies old.options old.mode old.table z (line h) item) (sym s.size)
     ∙ ap (λ (l : HalfLine). item_replies old.options old.mode old.table (old.width, old.height) l item) (sym (line_is h old s))
 
-pub goes_got : (old new : End) (item : Item) → new ≡ end_after_item old item → Advances old (got item) new
-goes_got old new item is = record { leads = λ h s. subst (LeadsTo (next h (got item))) (sym is) (stands_got h old item s) }
+-- ANY EVENT
+same_size : (h : History) (old : End) (width height : ℕ) → LeadsTo h old → replies h (resized width height) ≡ says old (resized width height)
+same_size h old width height s =
+    ap (λ (o : Options). resize_items (tells_size o) (size h) (width, height)) (sym s.options)
+    ∙ ap (λ (z : ℕ × ℕ). resize_items (tells_size old.options) z (width, height)) (sym s.size)
 
--- an item needs memory in every history
-grows_got : (h : History) (old : End) (item : Item) → LeadsTo h old → MayWantMemoryNow old item → MayWantMemory h item
-grows_got h old item s (inl says) = inl (λ e. says (sym (replies_got h old item s) ∙ e))
-grows_got h old item s (inr (inl shows')) = inr (inl shows')
-grows_got h old item s (inr (inr reads)) = inr (inr (subst (λ (o : Options). ReadsList o item) s.options reads))
+pub stands : (h : History) (old : End) (e : Event) → LeadsTo h old → LeadsTo (next h e) (end_after old e)
+stands h old (typed key) s = stands_typed h old key s
+stands h old (got item) s = stands_got h old item s
+stands h old (resized width height) s =
+    record {
+      options = s.options;
+      mode = s.mode;
+      forward = s.forward;
+      table = s.table;
+      line = s.line;
+      ahead = s.ahead;
+      limit = s.limit;
+      trapped = s.trapped;
+      plain = s.plain;
+      size = refl;
+    }
+stands h old (proposed func value) s =
+    record {
+      options = s.options;
+      mode = s.mode;
+      forward = s.forward;
+      table = s.table;
+      line = s.line;
+      ahead = s.ahead;
+      limit = s.limit;
+      trapped = s.trapped;
+      plain = s.plain;
+      size = s.size;
+    }
+stands h old (sent command) s =
+    record {
+      options = s.options;
+      mode = s.mode;
+      forward = s.forward;
+      table = s.table;
+      line = s.line;
+      ahead = s.ahead;
+      limit = s.limit;
+      trapped = s.trapped;
+      plain = s.plain;
+      size = s.size;
+    }
 
-pub refuses_got : (old : End) (item : Item) (before after seen now : List ℕ) → AppendsPrefix (says_got old item) before after → now ≡ seen
-    → MayWantMemoryNow old item → RefusesItem old item before after seen now
-refuses_got old item before after seen now cut same grows = record {
-  part = cut.part;
-  appended = cut.appended;
-  displayed = same;
-  refused = λ h s. record { rest = cut.rest; whole = replies_got h old item s ∙ cut.whole_is; grows = grows_got h old item s grows };
-}
+pub says_as : (h : History) (old : End) (e : Event) → LeadsTo h old → replies h e ≡ says old e
+says_as h old (typed key) s = replies_typed h old key s
+says_as h old (got item) s = replies_got h old item s
+says_as h old (resized width height) s = same_size h old width height s
+says_as h old (proposed func value) s = refl
+says_as h old (sent command) s = refl
+
+pub displays_as : (h : History) (old : End) (e : Event) → LeadsTo h old → shows h e ≡ displays old e
+displays_as h old (typed key) s = shows_typed h old key s
+displays_as h old (got item) s = refl
+displays_as h old (resized width height) s = refl
+displays_as h old (proposed func value) s = refl
+displays_as h old (sent command) s = refl
+
+-- ITEMS, one after another
+pub stands_all : (h : History) (old : End) (items : List Item) → LeadsTo h old → LeadsTo (gets h items) (end_after_items old items)
+stands_all = folding.stands_after (λ h item. next h (got item)) end_after_item LeadsTo stands_got
+
+pub says_all : (h : History) (old : End) (items : List Item) → LeadsTo h old → items_said (gets h items) ≡ items_said h ++ says_items old items
+says_all = folding.said_after (λ h item. next h (got item)) end_after_item LeadsTo stands_got says_got items_said
+    (λ h old item s. ap (λ (xs : List Item). items_said h ++ xs) (replies_got h old item s))
+
+pub shows_all : (h : History) (items : List Item) → text_shown (gets h items) ≡ text_shown h ++ items_shown items
+shows_all h [] = sym (append-nil (text_shown h))
+shows_all h (item ∷ items) = shows_all (next h (got item)) items ∙ append_assoc (text_shown h) (item_shown item) (items_shown items)
+
+-- a history determines neither the decoder nor a failure
+pub stands_decoder : (h : History) (old : End) (d : DecoderState) → LeadsTo h old → LeadsTo h (record old { decoder = d })
+stands_decoder h old d s =
+    record {
+      options = s.options;
+      mode = s.mode;
+      forward = s.forward;
+      table = s.table;
+      line = s.line;
+      ahead = s.ahead;
+      limit = s.limit;
+      trapped = s.trapped;
+      plain = s.plain;
+      size = s.size;
+    }
+
+-- THE END AFTER A PIECE
+pub stands_fed : (h : History) (old new : End) (piece before after seen now : List ℕ) → (f : Feeds old piece before after seen now new)
+    → LeadsTo h old → LeadsTo (gets h f.items) new
+stands_fed h old new piece before after seen now f s =
+    subst (LeadsTo (gets h f.items)) (sym f.step) (stands_decoder (gets h f.items) (end_after_items old f.items) new.decoder (stands_all h old f.items s))
+
+-- which fails no end
+pub fed_failed : (old new : End) (piece before after seen now : List ℕ) → Feeds old piece before after seen now new → new.failed ≡ old.failed
+fed_failed old new piece before after seen now f = ap (λ (e : End). e.failed) f.step ∙ folding.kept_all end_after_item (λ (e : End). e.failed) (λ e item. refl) old f.items

@@ -1,21 +1,18 @@
 -- What a key answers: it is edited here, or sent at once.
-use Rattle.std.proofs.Common.{◌≡◌, ◌⊎◌, inl, inr, ℕ, Bool, true, false, Result, Ok, Err, OnOk, OnErr, IsOk, IsErrOf, List, ◌++◌, length, Vec, refl, sym}
-use Rattle.std.proofs.Common.{◌∙◌, subst}
+use Rattle.std.proofs.Common.{◌≡◌, ◌⊎◌, inl, inr, ℕ, Bool, true, false, Result, Ok, Err, OnOk, OnErr, IsOk, IsErrOf, List, ◌++◌, length, Vec, refl, sym, ◌∙◌, subst}
 use Rattle.tn_discipline.specs.HalfLine.{GivesText}
 use Rattle.tn_linemode.specs.Modes.{edits}
 use Rattle.tn_nvt.specs.Room.{LacksRoom}
 use Rattle.tn_nvt.specs.Spelling.{spells}
 use Rattle.tn_nvt.specs.declared.items.Item.{Item}
-use Rattle.tn_client.specs.Answering.{TypesKey}
-use Rattle.tn_client.specs.Calls.{End, LacksMemoryFor}
+use Rattle.tn_client.specs.Calls.{End}
 use Rattle.tn_client.specs.Lines.{key_settings}
 use Rattle.tn_client.specs.Replies.{key_items}
 use Rattle.tn_client.specs.Screen.{key_shown}
-use Rattle.tn_client.specs.Steps.{role_now, line_typed, count_typed, LacksMemoryNow}
+use Rattle.tn_client.specs.Steps.{role_now, line_typed, count_typed, end_after_key, says_key, shows_key, LacksMemoryFor}
 use Rattle.tn_client.specs.Terms.{is_echoed}
 use Rattle.tn_client.specs.declared.faults.ClientFault.{ClientFault}
 use Rattle.tn_client.specs.declared.faults.ClientFault.TheVariants.{Memory}
-use Rattle.tn_client.proofs.Standings.{types_key, lacks_typed}
 
 -- the end after a key, what it says and what it shows, by whether the end edits
 abbrev pub end_by : Bool → End → ℕ → End
@@ -32,20 +29,29 @@ says_by edit old key = key_items edit old.forward (role_now old key) old.line ke
 abbrev pub shows_by : Bool → End → ℕ → List ℕ
 shows_by edit old key = key_shown (is_echoed old.options) edit (key_settings old.mode old.table) (role_now old key) old.line key
 
-on_ok : {T F : Type 0} (P : Type 0) (answer : Result T F) → P → OnOk answer P
-on_ok P (Ok x) p = p
-on_ok P (Err f) p = tt
+-- what holds of a key that was typed holds of an answer that is no refusal
+pub done : {A E T P Q : Type 0} (typed : Result A E) (answer : Result T ClientFault) → OnErr typed (IsErrOf answer Memory) → OnOk typed P → (P → Q)
+    → OnOk answer Q
+done (Ok x) (Ok y) none p f = f p
+done (Ok x) (Err fault) none p f = tt
+done (Err e) answer none p f = rw none tt
 
-pub key_done : {A E T : Type 0} (edit : Bool) (typed : Result A E) (answer : Result T ClientFault) (old new : End) (key : ℕ)
-    (before said after seen now : List ℕ) → edits old.mode ≡ edit → OnErr typed (IsErrOf answer Memory) → OnOk typed (after ≡ said)
-    → OnOk typed (new ≡ end_by edit old key) → OnOk typed (said ≡ before ++ spells (says_by edit old key))
-    → OnOk typed (now ≡ seen ++ shows_by edit old key) → OnOk answer (TypesKey old key before after seen now new)
-key_done edit (Ok x) answer old new key before said after seen now by none same is says shown =
-    on_ok (TypesKey old key before after seen now new) answer
-    (types_key old new key before after seen now (subst (λ (b : Bool). new ≡ end_by b old key) (sym by) is)
-    (same ∙ subst (λ (b : Bool). said ≡ before ++ spells (says_by b old key)) (sym by) says)
-    (subst (λ (b : Bool). now ≡ seen ++ shows_by b old key) (sym by) shown))
-key_done edit (Err e) answer old new key before said after seen now by none same is says shown = rw none tt
+module _ {A E T : Type 0} (edit : Bool) (typed : Result A E) (answer : Result T ClientFault) (old : End) (key : ℕ) (by : edits old.mode ≡ edit)
+    (none : OnErr typed (IsErrOf answer Memory)) where
+  pub key_step : (new : End) → OnOk typed (new ≡ end_by edit old key) → OnOk answer (new ≡ end_after_key old key)
+  key_step new is = done typed answer none is (subst (λ (b : Bool). new ≡ end_by b old key) (sym by))
+
+  pub key_said : (before said after : List ℕ) → OnOk typed (after ≡ said) → OnOk typed (said ≡ before ++ spells (says_by edit old key))
+      → OnOk answer (after ≡ before ++ spells (says_key old key))
+  key_said before said after same is =
+      done typed answer none (both _ _ typed same is) (λ p. p.0 ∙ subst (λ (b : Bool). said ≡ before ++ spells (says_by b old key)) (sym by) p.1)
+    where
+      both : (P Q : Type 0) (r : Result A E) → OnOk r P → OnOk r Q → OnOk r (P × Q)
+      both P Q (Ok x) p q = (p, q)
+      both P Q (Err e) p q = tt
+
+  pub key_shown_by : (seen now : List ℕ) → OnOk typed (now ≡ seen ++ shows_by edit old key) → OnOk answer (now ≡ seen ++ shows_key old key)
+  key_shown_by seen now is = done typed answer none is (subst (λ (b : Bool). now ≡ seen ++ shows_by b old key) (sym by))
 
 -- what a key lacks that is edited here
 pub edited_lacks : {A E T Y Z : Type 0} (typed : Result A E) (answer : Result T ClientFault) (old : End) (key : ℕ) (out : Vec ℕ Y) (screen : Vec ℕ Z)
@@ -53,7 +59,7 @@ pub edited_lacks : {A E T Y Z : Type 0} (typed : Result A E) (answer : Result T 
     ⊎ (LacksRoom screen (length (shows_by true old key)) ⊎ GivesText old.line (role_now old key))) → IsErrOf answer Memory
     → LacksMemoryFor old key out screen
 edited_lacks (Ok x) answer old key out screen by done lacks is = cc
-edited_lacks (Err e) answer old key out screen by done lacks is = lacks_typed old key out screen (here lacks)
+edited_lacks (Err e) answer old key out screen by done lacks is = subst Lacks (sym by) (there lacks)
   where
     Lacks : Bool → Type 0
     Lacks edit = LacksRoom out (length (spells (says_by edit old key)))
@@ -64,7 +70,3 @@ edited_lacks (Err e) answer old key out screen by done lacks is = lacks_typed ol
     there (inl said) = inl said
     there (inr (inl shown)) = inr (inl shown)
     there (inr (inr text)) = inr (inr (refl, text))
-
-    here : LacksRoom out (length (spells (says_by true old key)))
-        ⊎ (LacksRoom screen (length (shows_by true old key)) ⊎ GivesText old.line (role_now old key)) → LacksMemoryNow old key out screen
-    here lacks = subst Lacks (sym by) (there lacks)

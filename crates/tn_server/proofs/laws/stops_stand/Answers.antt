@@ -1,0 +1,9 @@
+use Rattle.tn_server.proofs.lemmas.Causes.{causes}
+use Rattle.tn_server.proofs.lemmas.Stopping.{stands_stopped}
+use Rattle.tn_server.proofs.laws.stops_stand.Goals as goal
+
+pub returns-clause-leads : goal.returns-clause-leads
+returns-clause-leads c = stands_stopped
+
+pub returns-clause-cause : goal.returns-clause-cause
+returns-clause-cause c = causes
