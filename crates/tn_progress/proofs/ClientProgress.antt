@@ -4,7 +4,7 @@ use Rattle.tn_progress.specs.Server.{one}
 use Rattle.tn_progress.specs.Client.{Net, reading, net_hands, net_tells, net_leaves, net_gone, Keys, held, typing, keys_hands, looking, keys_tells, keys_leaves}
 use Rattle.tn_progress.specs.Client.{keys_gone, Core, receiving, putting, showing, closing, joining, ended, Sending, taking, sends, discards, sent_all, Box}
 use Rattle.tn_progress.specs.Client.{Kind, keys, piece, ending, keys_ending, refusal, net_left, keys_left, State, Sizes, HasRoom, HasPlace, waiting_mails}
-use Rattle.tn_progress.specs.Client.{count_of, busy, unsent}
+use Rattle.tn_progress.specs.Client.{count_of, unsent}
 use Rattle.tn_progress.specs.ClientSteps.{Own, hands_piece, tells_end, leaves_net, may_read, sees_end, hands_keys, goes_on_reading, is_stopped, tells_keys_end}
 use Rattle.tn_progress.specs.ClientSteps.{leaves_keys, handles, puts, puts_in_vain, puts_end, puts_end_in_vain, closes, joins, finishes, takes_write, takes_end}
 use Rattle.tn_progress.specs.ClientSteps.{drops_write, drops_end, Outer, brings, types, shows, is_sent, MayGo, gone_on, MayBeLet, let_on, Goes, IsLet, WaitsFor}
@@ -21,13 +21,7 @@ goes_by : (sizes : Sizes) (s : State) (own : Own) → MayGo sizes own s → Does
 goes_by sizes s own may = inl (gone_on own s, (own, may, refl))
 
 le_or_lt : (a b : ℕ) → (a ≤ b) ⊎ (b < a)
-le_or_lt zero b = inl (omega arith)
-le_or_lt (suc a) zero = inr (omega arith)
-le_or_lt (suc a) (suc b) = by (le_or_lt a b)
-  where
-    by : (a ≤ b) ⊎ (b < a) → (suc a ≤ suc b) ⊎ (suc b < suc a)
-    by (inl l) = inl (omega arith)
-    by (inr l) = inr (omega arith)
+le_or_lt a b = grind arith
 
 -- a message waits, or there is room
 mail_or_room : (box : Box) → ((kind : Kind) × (0 < count_of kind box)) ⊎ (waiting_mails box ≡ 0)
@@ -58,10 +52,7 @@ by_sending sizes s sent_all writes at e f g = g refl
 
 -- where more is unsent than that, something is sent or waits
 unsent_some : (s : State) (a : Sending) (mark : ℕ) → s.sending ≡ a → mark < unsent s → (a ≡ sends) ⊎ (0 < s.writes + s.ends)
-unsent_some s sends mark at more = inl refl
-unsent_some s taking mark at more = inr (let e = ap busy at in omega arith)
-unsent_some s discards mark at more = inr (let e = ap busy at in omega arith)
-unsent_some s sent_all mark at more = inr (let e = ap busy at in omega arith)
+unsent_some s a mark at more = grind arith
 
 -- Keys' turn
 by_keys : (sizes : Sizes) (s : State) (k : Keys) (closed stop : Bool) → HasRoom sizes s → s.typist ≡ k → s.closed ≡ closed → s.stop ≡ stop
@@ -120,35 +111,17 @@ by_place sizes s some place all = by (le_or_lt sizes.queue (s.writes + s.ends))
 
 net_gone_of : (n : Net) → net_gone_in n ≡ 1 → n ≡ net_gone
 net_gone_of net_gone f = refl
-net_gone_of reading f = cc
-net_gone_of net_hands f = cc
-net_gone_of (net_tells e) f = cc
-net_gone_of net_leaves f = cc
+net_gone_of _ f = cc
 
 keys_gone_of : (k : Keys) → keys_gone_in k ≡ 1 → k ≡ keys_gone
 keys_gone_of keys_gone f = refl
-keys_gone_of held f = cc
-keys_gone_of typing f = cc
-keys_gone_of keys_hands f = cc
-keys_gone_of looking f = cc
-keys_gone_of (keys_tells e) f = cc
-keys_gone_of keys_leaves f = cc
+keys_gone_of _ f = cc
 
 at_most_net : (n : Net) → net_gone_in n ≤ 1
-at_most_net net_gone = omega arith
-at_most_net reading = omega arith
-at_most_net net_hands = omega arith
-at_most_net (net_tells e) = omega arith
-at_most_net net_leaves = omega arith
+at_most_net n = grind arith
 
 at_most_keys : (k : Keys) → keys_gone_in k ≤ 1
-at_most_keys keys_gone = omega arith
-at_most_keys held = omega arith
-at_most_keys typing = omega arith
-at_most_keys keys_hands = omega arith
-at_most_keys looking = omega arith
-at_most_keys (keys_tells e) = omega arith
-at_most_keys keys_leaves = omega arith
+at_most_keys k = grind arith
 
 -- once both have left, the end is put: it is sent, or Sending has ended
 finishing : (sizes : Sizes) (s : State) (a : Sending) (writes ends : ℕ) → Holds sizes s → s.core ≡ joining → s.sending ≡ a → s.writes ≡ writes → s.ends ≡ ends

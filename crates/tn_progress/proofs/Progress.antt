@@ -1,15 +1,12 @@
 -- A server's session goes on by itself, or waits for the network, for its foreground job or for a write.
-use Rattle.std.proofs.Common.{arith, ◌≡◌, ◌≢◌, ℕ, zero, suc, ◌+◌, ◌<◌, ◌≤◌, Bool, true, false, ◌⊎◌, inl, inr, refl, ap, subst}
+use Rattle.std.proofs.Common.{arith, ◌≡◌, ◌≢◌, ℕ, zero, suc, ◌+◌, ◌<◌, ◌≤◌, Bool, true, false, ◌⊎◌, inl, inr, refl, subst}
 use Rattle.tn_progress.proofs.Invariant.{Holds, may_have_said, net_left_in, desk_left_in, back_left_in, is_waiting, has_step_credit, has_ended, has_failed}
-use Rattle.tn_progress.proofs.Invariant.{done_by}
-use Rattle.tn_progress.proofs.Invariant.{refused_by, desk_by, has_answer, is_leaving}
+use Rattle.tn_progress.proofs.Invariant.{done_by, refused_by, desk_by, has_answer, is_leaving}
 use Rattle.tn_progress.proofs.Keeps.{holds}
-use Rattle.tn_progress.specs.Server.{one, End, nothing_comes, no_memory, Net, reading, holding, handing, net_says, net_tells, net_leaves, net_gone, is_done}
-use Rattle.tn_progress.specs.Server.{is_refused}
-use Rattle.tn_progress.specs.Server.{Cause, stops, none_comes, Desk, asking, waiting, answering, desk_says, desk_tells, desk_leaves, desk_gone, Back}
+use Rattle.tn_progress.specs.Server.{End, Net, reading, holding, handing, net_says, net_tells, net_leaves, net_gone}
+use Rattle.tn_progress.specs.Server.{Cause, Desk, asking, waiting, answering, desk_says, desk_tells, desk_leaves, desk_gone, Back}
 use Rattle.tn_progress.specs.Server.{back_waits, stepping, back_says, back_tells, back_leaves, back_gone, Term, receiving, writing, joining, ended, Kind, piece}
-use Rattle.tn_progress.specs.Server.{words}
-use Rattle.tn_progress.specs.Server.{ending, take, said, step, done, refusal, left, Box, State, Sizes, HasRoom, waiting_mails, count_of}
+use Rattle.tn_progress.specs.Server.{words, ending, take, said, step, done, refusal, left, Box, State, Sizes, HasRoom, waiting_mails, count_of}
 use Rattle.tn_progress.specs.ServerSteps.{gives, Own, takes_credit, hands_piece, says_words, tells_end, net_left, asks_entry, takes_entry, takes_end}
 use Rattle.tn_progress.specs.ServerSteps.{says_answer}
 use Rattle.tn_progress.specs.ServerSteps.{tells_stop, desk_left, takes_step_credit, says_step, is_stopped, tells_refusal, back_left, handles, joins, finishes}
@@ -48,25 +45,19 @@ record Idle (sizes : Sizes) (s : State) (n : Net) (d : Desk) (b : Back) (asks : 
 -- Net waits for a credit, and then Desk does not wait for an entry, nor has it left
 no_credit : (sizes : Sizes) (s : State) (b : Back) (asks : Bool) (waits : ℕ) → Idle sizes s holding waiting b asks waits → s.credits ≡ 0
     → (s.entries ≡ 0) × (s.ends ≡ 0) → ⊥
-no_credit sizes s b true zero i c e = let h = i.holds in grind arith
-no_credit sizes s b true (suc waits) i c e = let h = i.holds in grind arith
-no_credit sizes s b false waits i c e = let h = i.holds in grind arith
+no_credit sizes s b asks waits i c e = let h = i.holds in grind arith
 
 nor_left : (sizes : Sizes) (s : State) (x : Cause) (b : Back) (asks : Bool) (waits : ℕ) → Idle sizes s holding (desk_gone x) b asks waits → s.credits ≡ 0 → ⊥
-nor_left sizes s (stops is_done) b asks waits i c = let h = i.holds in grind arith
-nor_left sizes s (stops is_refused) b asks waits i c = let h = i.holds in grind arith
-nor_left sizes s none_comes b asks waits i c = let h = i.holds in grind arith
+nor_left sizes s x b asks waits i c = let h = i.holds in grind arith
 
 -- Net has left, and then Back was told to stop, and Desk does not wait for an entry
 gone_waiting : (sizes : Sizes) (s : State) (e : End) (b : Back) (asks : Bool) (waits : ℕ) → Idle sizes s (net_gone e) waiting b asks waits
     → (s.entries ≡ 0) × (s.ends ≡ 0) → ⊥
-gone_waiting sizes s nothing_comes b asks waits i e = let h = i.holds in grind arith
-gone_waiting sizes s no_memory b asks waits i e = let h = i.holds in grind arith
+gone_waiting sizes s e b asks waits i f = let h = i.holds in grind arith
 
 not_stopped : (sizes : Sizes) (s : State) (e : End) (d : Desk) (b : Back) (asks : Bool) (waits : ℕ) → Idle sizes s (net_gone e) d b asks waits
     → s.stop ≡ false → ⊥
-not_stopped sizes s nothing_comes d b asks waits i e = let h = i.holds in let f = ap one e in grind arith
-not_stopped sizes s no_memory d b asks waits i e = let h = i.holds in let f = ap one e in grind arith
+not_stopped sizes s e d b asks waits i f = let h = i.holds in grind arith
 
 all_gone : (sizes : Sizes) (s : State) (e : End) (c : Cause) (asks : Bool) (waits : ℕ) → Idle sizes s (net_gone e) (desk_gone c) back_gone asks waits → ⊥
 all_gone sizes s e c asks waits i = i.not_all (let h = i.holds in omega arith)
@@ -140,55 +131,24 @@ module _ (sizes : Sizes) (s : State) (h : Holds sizes s) (at : s.term ≡ receiv
 -- all have left, once Term has heard of all three
 net_gone_of : (n : Net) → net_left_in n ≡ 1 → (e : End) × (n ≡ net_gone e)
 net_gone_of (net_gone e) f = (e, refl)
-net_gone_of reading f = cc
-net_gone_of holding f = cc
-net_gone_of handing f = cc
-net_gone_of net_says f = cc
-net_gone_of (net_tells e) f = cc
-net_gone_of (net_leaves e) f = cc
+net_gone_of _ f = cc
 
 desk_gone_of : (d : Desk) → desk_left_in d ≡ 1 → (c : Cause) × (d ≡ desk_gone c)
 desk_gone_of (desk_gone c) f = (c, refl)
-desk_gone_of asking f = cc
-desk_gone_of waiting f = cc
-desk_gone_of answering f = cc
-desk_gone_of desk_says f = cc
-desk_gone_of (desk_tells c) f = cc
-desk_gone_of (desk_leaves c) f = cc
+desk_gone_of _ f = cc
 
 back_gone_of : (b : Back) → back_left_in b ≡ 1 → b ≡ back_gone
 back_gone_of back_gone f = refl
-back_gone_of back_waits f = cc
-back_gone_of stepping f = cc
-back_gone_of back_says f = cc
-back_gone_of back_tells f = cc
-back_gone_of back_leaves f = cc
+back_gone_of _ f = cc
 
 at_most_net : (n : Net) → net_left_in n ≤ 1
-at_most_net (net_gone e) = omega arith
-at_most_net reading = omega arith
-at_most_net holding = omega arith
-at_most_net handing = omega arith
-at_most_net net_says = omega arith
-at_most_net (net_tells e) = omega arith
-at_most_net (net_leaves e) = omega arith
+at_most_net n = grind arith
 
 at_most_desk : (d : Desk) → desk_left_in d ≤ 1
-at_most_desk (desk_gone c) = omega arith
-at_most_desk asking = omega arith
-at_most_desk waiting = omega arith
-at_most_desk answering = omega arith
-at_most_desk desk_says = omega arith
-at_most_desk (desk_tells c) = omega arith
-at_most_desk (desk_leaves c) = omega arith
+at_most_desk d = grind arith
 
 at_most_back : (b : Back) → back_left_in b ≤ 1
-at_most_back back_gone = omega arith
-at_most_back back_waits = omega arith
-at_most_back stepping = omega arith
-at_most_back back_says = omega arith
-at_most_back back_tells = omega arith
-at_most_back back_leaves = omega arith
+at_most_back b = grind arith
 
 finishing : (sizes : Sizes) (s : State) → Holds sizes s → s.term ≡ joining → DoesNotGetStuck sizes s
 finishing sizes s h at =
@@ -208,11 +168,8 @@ waiting_on sizes s some credit h at not_all (inr none) = by_net sizes s h at non
 
 by_lefts : (sizes : Sizes) (s : State) (lefts : ℕ) → 0 < sizes.mails → 0 < sizes.ahead → Holds sizes s → s.term ≡ receiving → s.lefts ≡ lefts
     → DoesNotGetStuck sizes s
-by_lefts sizes s zero some credit h at e = waiting_on sizes s some credit h at (λ f. omega arith) (mail_or_room s.box)
-by_lefts sizes s (suc zero) some credit h at e = waiting_on sizes s some credit h at (λ f. omega arith) (mail_or_room s.box)
-by_lefts sizes s (suc (suc zero)) some credit h at e = waiting_on sizes s some credit h at (λ f. omega arith) (mail_or_room s.box)
 by_lefts sizes s (suc (suc (suc zero))) some credit h at e = goes_by sizes s joins (at, e)
-by_lefts sizes s (suc (suc (suc (suc more)))) some credit h at e = waiting_on sizes s some credit h at (λ f. omega arith) (mail_or_room s.box)
+by_lefts sizes s lefts some credit h at e = waiting_on sizes s some credit h at (λ f. omega arith) (mail_or_room s.box)
 
 by_term : (sizes : Sizes) (s : State) (t : Term) → 0 < sizes.mails → 0 < sizes.ahead → Holds sizes s → s.term ≡ t → s.term ≢ ended → DoesNotGetStuck sizes s
 by_term sizes s receiving some credit h at on = by_lefts sizes s s.lefts some credit h at refl
@@ -224,13 +181,7 @@ pub never_gets_stuck : NeverGetsStuck
 never_gets_stuck sizes s some credit r on = by_term sizes s s.term some credit (holds sizes s r) refl on
 
 at_most_waiting : (d : Desk) → is_waiting d ≤ 1
-at_most_waiting waiting = omega arith
-at_most_waiting asking = omega arith
-at_most_waiting answering = omega arith
-at_most_waiting desk_says = omega arith
-at_most_waiting (desk_tells c) = omega arith
-at_most_waiting (desk_leaves c) = omega arith
-at_most_waiting (desk_gone c) = omega arith
+at_most_waiting d = grind arith
 
 pub puts_never_wait : PutsNeverWait
 puts_never_wait sizes s r =
@@ -242,37 +193,13 @@ puts_never_wait sizes s r =
 
 -- how many messages of each thread wait at most
 most_of_net : (n : Net) → may_have_said n + has_ended n + has_failed n + net_left_in n ≤ 3
-most_of_net reading = omega arith
-most_of_net holding = omega arith
-most_of_net handing = omega arith
-most_of_net net_says = omega arith
-most_of_net (net_tells nothing_comes) = omega arith
-most_of_net (net_tells no_memory) = omega arith
-most_of_net (net_leaves nothing_comes) = omega arith
-most_of_net (net_leaves no_memory) = omega arith
-most_of_net (net_gone nothing_comes) = omega arith
-most_of_net (net_gone no_memory) = omega arith
+most_of_net n = grind arith
 
 most_of_desk : (d : Desk) → is_waiting d + desk_by done_by d + desk_by refused_by d + desk_left_in d ≤ 1 + has_answer d
-most_of_desk asking = omega arith
-most_of_desk waiting = omega arith
-most_of_desk answering = omega arith
-most_of_desk desk_says = omega arith
-most_of_desk (desk_tells c) = omega arith
-most_of_desk (desk_leaves none_comes) = omega arith
-most_of_desk (desk_leaves (stops is_done)) = omega arith
-most_of_desk (desk_leaves (stops is_refused)) = omega arith
-most_of_desk (desk_gone none_comes) = omega arith
-most_of_desk (desk_gone (stops is_done)) = omega arith
-most_of_desk (desk_gone (stops is_refused)) = omega arith
+most_of_desk d = grind arith
 
 most_of_back : (b : Back) → is_leaving b + back_left_in b ≤ 1 + has_step_credit b
-most_of_back back_waits = omega arith
-most_of_back stepping = omega arith
-most_of_back back_says = omega arith
-most_of_back back_tells = omega arith
-most_of_back back_leaves = omega arith
-most_of_back back_gone = omega arith
+most_of_back b = grind arith
 
 pub few_mails_wait : FewMailsWait
 few_mails_wait sizes s r =
