@@ -16,6 +16,7 @@
 use std::alloc::{AllocError, Global};
 use std::env::{Env, FillError};
 use std::fs::{File, Files, OpenOptions};
+use std::os::fd::AsRawFd;
 use std::process::ExitCode;
 use std::sync::Arc;
 use std::{env, io, str};
@@ -42,11 +43,31 @@ const JOURNAL: &str = "JOURNAL_STREAM";
 /// The terminal that a process was started at (POSIX).
 const TERMINAL_PATH: &str = "/dev/tty";
 
+/// What is read as nothing, and drops what is written (POSIX).
+const NULL_PATH: &str = "/dev/null";
+
+/// The descriptor of standard error (POSIX), which is the last of the standard streams.
+const LAST_STANDARD: i32 = 2;
+
 /// How many bytes the path of such a pipe has at most.
 const MAX_PATH: usize = 4_096;
 
 /// The status when out of memory before anything is run.
 const NO_MEMORY: u8 = 1;
+
+// A file of nothing in place of the first standard stream that was closed when the program began, if there
+// is one. As long as it is held, no connection and no file gets the descriptor.
+fn in_place_of_closed<R: Files<File = File>>(rt: &R) -> Option<File> {
+    let nothing = OpenOptions::new()
+        .read(true)
+        .write(true)
+        .open(rt, NULL_PATH)
+        .ok()?;
+    if nothing.as_raw_fd() > LAST_STANDARD {
+        return None;
+    }
+    Some(nothing)
+}
 
 fn origin_of(rt: &HostRuntime) -> KeySource {
     let mut value = [0; 1];
@@ -120,6 +141,9 @@ fn is_session(words: &io::Result<Vec<String>>) -> bool {
 }
 
 fn main(rt: HostRuntime) -> ExitCode {
+    let _first = in_place_of_closed(&rt);
+    let _second = in_place_of_closed(&rt);
+    let _third = in_place_of_closed(&rt);
     let alloc = rt.alloc();
     let words = match env::args(&rt) {
         Ok(words) => words.collect(alloc).map_err(io::Error::from),

@@ -16,7 +16,7 @@ const ROUND: u128 = 60_000_000;
 const ASKED: u64 = 4_000;
 
 /// A workload could not be done, or its line could not be printed.
-#[derive(Clone, Copy, Debug)]
+#[derive(Clone, Copy)]
 pub(crate) struct Stuck;
 
 impl From<AllocError> for Stuck {

@@ -47,7 +47,7 @@ foreseen (Terminal own) bytes =
 abbrev pub keyboard_by : KeySource → Option ℕ → Keyboard
 keyboard_by Reader escape = of_bytes
 keyboard_by Input escape = of_bytes
-keyboard_by (Terminal own) escape = record { escape = escape; own = own }
+keyboard_by (Terminal own) escape = record { escape = escape; own = own; editing = own }
 
 abbrev pub keyboard_of : Connecting → Keyboard
 keyboard_of connecting = keyboard_by connecting.origin connecting.escape

@@ -17,14 +17,14 @@ ghost use Rattle.tn_sockets.specs.Queue.{IsNamed, IsSent, put_bytes};
 ghost use Rattle.tn_sockets.specs.declared.sending.Sent.TheVariants.{Whole};
 ghost use Rattle.tn_streams.specs.Known.{known_typing};
 
-use crate::causes::{note, note_unsent};
+use crate::causes::{note, note_log, note_unsent};
 use crate::connected::Connected;
 use crate::fault::ConnectFault;
-use crate::news::tell_that_it_stands;
+use crate::news::{tell_that_it_stands, wait_for_terminal};
 use crate::publishing::Publisher;
 use crate::sending::{Delivered, Sender};
 use crate::settings::{ClientContext, Connecting, KeySource};
-use crate::waiting::{Brought, Patient};
+use crate::waiting::{Brought, LOOK, Patience, Patient};
 use std::alloc::{AllocError, Global};
 use std::fs::File;
 use std::io;
@@ -70,7 +70,7 @@ struct Wires<H, Q: Queue> {
     incoming: Incoming<H, Brought<TcpStream>>,
     outgoing: Outgoing<H, Q>,
     sender: Sender<H, Q>,
-    is_over: Arc<AtomicBool, Global>,
+    flags: Flags,
     // The connection that was split into them, for contracts.
     connection: Snapshot<TcpStream>,
 }
@@ -87,11 +87,49 @@ struct Talked {
     connection: Snapshot<TcpStream>,
 }
 
-// The word that a session is over, for the one that tells it and for the one that hears it.
-fn flags(alloc: Global) -> Result<(Arc<AtomicBool, Global>, Arc<AtomicBool, Global>), AllocError> {
-    let told = Arc::new(alloc, AtomicBool::new(false))?;
-    let heard = Arc::try_clone(&told)?;
-    Ok((told, heard))
+// What the reader of a connection and the reader of keys know of each other.
+#[derive(Drop)]
+struct Flags {
+    // Nothing more comes over the connection.
+    is_over: Arc<AtomicBool, Global>,
+    // The keys have ended, and the server was told.
+    has_ended: Arc<AtomicBool, Global>,
+}
+
+impl Flags {
+    fn new(alloc: Global) -> Result<Flags, AllocError> {
+        let is_over = Arc::new(alloc, AtomicBool::new(false))?;
+        let has_ended = Arc::new(alloc, AtomicBool::new(false))?;
+        Ok(Flags { is_over, has_ended })
+    }
+
+    // The same ones, for the other reader.
+    fn share(&self) -> Result<Flags, AllocError> {
+        let is_over = Arc::try_clone(&self.is_over)?;
+        let has_ended = Arc::try_clone(&self.has_ended)?;
+        Ok(Flags { is_over, has_ended })
+    }
+}
+
+// A connection as it is read, which is silent for so many seconds at most.
+fn brought_by(
+    reader: TcpStream,
+    flags: Flags,
+    link: &Arc<Link, Global>,
+    seconds: u32,
+) -> Result<Brought<TcpStream>, AllocError> {
+    let link = Arc::try_clone(link)?;
+    let Flags { is_over, has_ended } = flags;
+    Ok(Brought {
+        reader,
+        is_over,
+        link,
+        patience: Patience {
+            has_ended,
+            seconds,
+            looks: 0,
+        },
+    })
 }
 
 // Lays out a connection's two directions.
@@ -100,6 +138,7 @@ fn wire<H: Host, Q: Queue>(
     rt: H,
     alloc: Global,
     opened: Opened<H>,
+    patience: u32,
 ) -> Result<Wires<H, Q>, ConnectFault>
     requires new { IsNew opened.queue }
     requires named { IsNamed Q.table Q.key (sends_on opened.queue.to) }
@@ -107,7 +146,8 @@ fn wire<H: Host, Q: Queue>(
     ensures nothing_yet { IfOk result (λ wires. view wires.outgoing.pass ≡ putter []) }
     ensures connection { IfOk result (λ wires. wires.connection.value ≡ opened.stream) }
 {
-    let (is_over, seen) = flags(alloc)?;
+    let flags = Flags::new(alloc)?;
+    let seen = flags.share()?;
     let (sent, trace) = opened.shared()?;
     let Opened {
         stream,
@@ -118,15 +158,13 @@ fn wire<H: Host, Q: Queue>(
     let connection = Snapshot::of(&stream);
     let (reader, writer) = split(&rt, stream, &link)?;
     let (outgoing, sending) = queue.sides(rt, alloc, Logged::new(writer), sent, written)?;
-    let brought = Brought {
-        reader,
-        is_over: seen,
-    };
+    wait_for_looks(&reader, patience)?;
+    let brought = brought_by(reader, seen, &link, patience)?;
     Ok(Wires {
         incoming: Incoming::new(brought, link, trace),
         outgoing,
         sender: Sender { sending },
-        is_over,
+        flags,
         connection,
     })
 }
@@ -144,6 +182,16 @@ fn split<H: Host>(
     reader.set_write_timeout(Some(Duration::from_millis(WRITE_LOOK)))?;
     link.attach(rt, reader.try_clone()?);
     Ok((reader, writer))
+}
+
+// Each read returns after a look, if it matters how long the server is silent.
+fn wait_for_looks(reader: &TcpStream, patience: u32) -> Result<(), ConnectFault>
+    ensures fault { IfErr result IsOfNetwork }
+{
+    if patience > 0 {
+        reader.set_read_timeout(Some(Duration::from_millis(LOOK)))?;
+    }
+    Ok(())
 }
 
 // Runs a session over a connection's two directions, with these keys and this screen.
@@ -178,7 +226,7 @@ fn talk_from<H: Host, K: Read + Drop + Send + 'static, S: Write, Q: Queue>(
     incoming: Incoming<H, Brought<TcpStream>>,
     outgoing: &mut Outgoing<H, Q>,
     typing: Typing<H, K>,
-    is_over: Arc<AtomicBool, Global>,
+    flags: Flags,
     screen: &mut S,
     connecting: Connecting,
 ) -> Result<(Report, ClientPorts), SessionFault>
@@ -197,7 +245,8 @@ fn talk_from<H: Host, K: Read + Drop + Send + 'static, S: Write, Q: Queue>(
                 rt,
                 keys: console_of(rt, alloc, typing, &connecting),
                 seconds: connecting.wait,
-                is_over,
+                is_over: flags.is_over,
+                has_ended: flags.has_ended,
             };
             talk_by(rt, alloc, incoming, outgoing, keys, screen, &connecting)
         },
@@ -229,6 +278,7 @@ fn keyboard_of(connecting: &Connecting) -> Keyboard
         KeySource::Terminal(own) => Keyboard {
             escape: connecting.escape,
             own,
+            editing: own,
         },
         KeySource::Reader | KeySource::Input => Keyboard::of_bytes(),
     }
@@ -258,9 +308,9 @@ fn talk_and_send<H: Host, K: Read + Drop + Send + 'static, S: Write, Q: Queue + 
         incoming,
         mut outgoing,
         sender,
-        is_over,
+        flags,
         connection,
-    } = wire::<H, Q>(rt, alloc, opened)?;
+    } = wire::<H, Q>(rt, alloc, opened, connecting.patience)?;
     let Some(sending) = sender.start(rt) else {
         return Err(ConnectFault::Memory);
     };
@@ -270,7 +320,7 @@ fn talk_and_send<H: Host, K: Read + Drop + Send + 'static, S: Write, Q: Queue + 
         incoming,
         &mut outgoing,
         typing,
-        is_over,
+        flags,
         screen,
         connecting,
     );
@@ -406,9 +456,17 @@ pub fn connect<H: Host + Network, K: Read + Drop + Send + 'static, S: Write, E: 
     if trace.is_some() {
         news.trace();
     }
-    let stream = reach(&rt, host, connecting.port, &mut news, causes)?;
+    let stream = reach(
+        &rt,
+        host,
+        connecting.port,
+        connecting.timeout,
+        &mut news,
+        causes,
+    )?;
     tell_that_it_stands(&mut stands);
     news.connect(host, connecting.escape);
+    wait_for_terminal(&mut stands, &sizes);
     let files = Files {
         trace,
         sizes,
@@ -425,6 +483,7 @@ pub fn connect<H: Host + Network, K: Read + Drop + Send + 'static, S: Write, E: 
     if !trace.is_whole() {
         note(causes, b"tn: the trace is not whole\n");
     }
+    note_log(causes, &link);
     let is_left = link.is_left();
     // A screen that takes no more has ended the connection, and sending fails then.
     let ended = result_of(talked, is_left || link.is_dark());
@@ -434,14 +493,29 @@ pub fn connect<H: Host + Network, K: Read + Drop + Send + 'static, S: Write, E: 
 
 // Notes why a session ended in a fault, if it did, and what was not sent.
 fn note_talked(causes: &mut Vec<u8>, talked: &Talked, link: &Link) {
-    if let Some(fault) = fault_of(&talked.ended) {
+    let kept = link.dropped().saturating_add(link.held());
+    let unsent = talked.unsent.saturating_add(kept);
+    let fault = fault_of(&talked.ended);
+    if link.is_broken() && matches!(fault, Some(SessionFault::Read)) {
+        note_break(causes, unsent);
+        return;
+    }
+    if let Some(fault) = fault {
         note_fault(causes, fault, link);
     }
     if let Err(error) = &talked.sent {
         let _ = writeln!(causes, "tn: sending failed: {}", error);
     }
-    let kept = link.dropped().saturating_add(link.held());
-    note_rest(causes, talked.unsent.saturating_add(kept), link);
+    note_rest(causes, unsent, link);
+}
+
+// Notes that the connection broke, and what was not sent, in one line.
+fn note_break(causes: &mut Vec<u8>, unsent: usize) {
+    if unsent == 0 {
+        note(causes, b"tn: the connection broke\n");
+    } else {
+        note_unsent(causes, "the connection broke; ", unsent);
+    }
 }
 
 // The result of a session that is over. Where its sending failed it is a fault, unless its user has left.
@@ -496,7 +570,6 @@ fn fault_of<P: Drop>(ended: &Result<(Report, P), SessionFault>) -> Option<Sessio
 
 fn note_fault(causes: &mut Vec<u8>, fault: SessionFault, link: &Link) {
     match fault {
-        SessionFault::Read if link.is_broken() => note(causes, b"tn: the connection broke\n"),
         SessionFault::Read => note(causes, b"tn: the keys could not be read\n"),
         SessionFault::Write if link.is_dark() => note(causes, b"tn: the screen takes no more\n"),
         SessionFault::Write => note(causes, b"tn: the connection takes no more\n"),

@@ -1,14 +1,24 @@
 //! What the user at a terminal is told of a connection.
 
+use libc::net::{POLLIN, poll};
+use libc::types::pollfd;
 use std::alloc::Global;
 use std::fs::File;
 use std::io::Write;
 use std::net::SocketAddr;
+use std::os::fd::AsRawFd;
 use tn_network::Trying;
 use tn_streams::{Drain, write_all};
 
 /// The line that says that a connection stands: ACK and a line feed.
 const STANDS: &[u8] = b"\x06\n";
+
+/// The line that asks for one on the pipe of sizes, once all lines before it are shown and the terminal is set:
+/// ENQ and a line feed.
+const ASKS: &[u8] = b"\x05\n";
+
+/// How many milliseconds the screen waits for that at most.
+const HELD: i32 = 1_000;
 
 /// Tells of a connection, a line each, or tells nothing. A line that can't be written is dropped.
 #[derive(Drop)]
@@ -70,14 +80,28 @@ impl<'a, W: Drain> Trying for News<'a, W> {
     }
 }
 
-/// Whoever waits for the connection hears that it stands.
-pub(crate) fn tell_standing(mut stands: Option<File>) {
-    tell_that_it_stands(&mut stands);
-}
-
-/// The same, of somebody who hears more later.
+/// Sends the line that the connection stands.
 pub(crate) fn tell_that_it_stands(stands: &mut Option<File>) {
     if let Some(stands) = stands {
         let _ = stands.write_all(STANDS);
+    }
+}
+
+/// Waits until the terminal is set for the session and the lines before are shown, for a second at most. The
+/// line that answers is read as a size that is none.
+pub(crate) fn wait_for_terminal(stands: &mut Option<File>, sizes: &Option<File>) {
+    let Some(stands) = stands else {
+        return;
+    };
+    let Some(sizes) = sizes else {
+        return;
+    };
+    if stands.write_all(ASKS).is_ok() {
+        let mut waited = [pollfd {
+            fd: sizes.as_raw_fd(),
+            events: POLLIN,
+            revents: 0,
+        }];
+        let _ready = poll(&mut waited, HELD);
     }
 }

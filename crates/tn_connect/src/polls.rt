@@ -14,6 +14,7 @@ use std::mem;
 use std::sync::Wait;
 use std::time::{Clock, Instant};
 use tn_lines_client::{Await, Ready, Wants};
+use tn_sockets::Link;
 use tn_streams::{Drain, write_all};
 
 /// The descriptor of standard input (POSIX, `STDIN_FILENO`).
@@ -38,8 +39,13 @@ pub(crate) struct Polling<'a, H, E> {
     service: i32,
     /// How many seconds after the end of the keys the service is told that no more comes.
     wait: u32,
+    /// For how many seconds it may be silent after that; at 0 for ever.
+    patience: u32,
+    link: &'a Link,
     /// Since when it is to be told.
     ended: Option<Instant>,
+    /// When something passed last.
+    passed: Option<Instant>,
     /// What the service said comes next, where both that and telling it more can be done.
     hears_next: bool,
     errors: &'a mut E,
@@ -48,7 +54,13 @@ pub(crate) struct Polling<'a, H, E> {
 }
 
 impl<'a, H, E> Polling<'a, H, E> {
-    pub(crate) fn new(rt: H, plain: &Plain, service: i32, errors: &'a mut E) -> Polling<'a, H, E>
+    pub(crate) fn new(
+        rt: H,
+        plain: &Plain,
+        service: i32,
+        errors: &'a mut E,
+        link: &'a Link,
+    ) -> Polling<'a, H, E>
         ensures { count_in result.warned ≡ 0 }
     {
         Polling {
@@ -56,7 +68,10 @@ impl<'a, H, E> Polling<'a, H, E> {
             origin: plain.origin,
             service,
             wait: wait_of(plain),
+            patience: patience_of(plain),
+            link,
             ended: None,
+            passed: None,
             hears_next: false,
             errors,
             warned: Warnings::new(),
@@ -69,6 +84,14 @@ fn wait_of(plain: &Plain) -> u32 {
     match plain.origin {
         KeySource::Terminal(_) => 0,
         KeySource::Reader | KeySource::Input => plain.wait,
+    }
+}
+
+// A user at a terminal waits as long as he likes.
+fn patience_of(plain: &Plain) -> u32 {
+    match plain.origin {
+        KeySource::Terminal(_) => 0,
+        KeySource::Reader | KeySource::Input => plain.patience,
     }
 }
 
@@ -85,13 +108,27 @@ impl<'a, H: Clock, E> Polling<'a, H, E> {
 
     // Whether the time since the end of the keys has passed. Without a clock it has.
     fn is_past(&self) -> bool {
-        if self.wait == 0 {
-            return true;
-        }
-        match self.ended.map(|ended| ended.elapsed(&self.rt)) {
-            Some(Ok(elapsed)) => elapsed.as_secs() >= u64::from(self.wait),
+        self.wait == 0 || self.has_passed(self.ended, self.wait)
+    }
+
+    // Whether so many seconds have passed. Without a clock they have.
+    fn has_passed(&self, since: Option<Instant>, seconds: u32) -> bool {
+        match since.map(|since| since.elapsed(&self.rt)) {
+            Some(Ok(elapsed)) => elapsed.as_secs() >= u64::from(seconds),
             _ => true,
         }
+    }
+
+    // Ends a connection that has been silent for too long.
+    fn look(&self) {
+        if self.is_counted() && self.has_passed(self.passed, self.patience) {
+            self.link.hang_up();
+        }
+    }
+
+    // Whether it matters how long the service is silent: the keys have ended.
+    fn is_counted(&self) -> bool {
+        self.patience > 0 && self.ended.is_some()
     }
 }
 
@@ -123,8 +160,13 @@ impl<'a, H: Clock + Copy + Wait, E> Polling<'a, H, E> {
                 waits_at(true, self.service, POLLIN),
                 waits_at(wants.room, self.service, POLLOUT),
             ];
-            let time = if wants.end { LOOK } else { FOR_EVER };
+            let time = if wants.end || self.is_counted() {
+                LOOK
+            } else {
+                FOR_EVER
+            };
             if poll(&mut waited, time) <= 0 {
+                self.look();
                 continue;
             }
             let [keys, bytes, room] = waited;
@@ -155,6 +197,9 @@ impl<'a, H: Clock + Copy + Wait, E: Drain> Await for Polling<'a, H, E> {
         self.hears_next = !self.hears_next;
         if wants.end {
             self.note_end();
+        }
+        if self.patience > 0 {
+            self.passed = Instant::now(&self.rt).ok();
         }
         self.wait_for(wants)
     }

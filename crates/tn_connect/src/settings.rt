@@ -9,7 +9,7 @@ use tn_lines::LineEnd;
 use tn_sockets::{Link, OwnCharacters};
 
 /// Where the keys of a client come from.
-#[derive(Clone, Copy, Debug, PartialEq, Eq)]
+#[derive(Clone, Copy, PartialEq, Eq)]
 pub enum KeySource {
     /// A reader of which nothing else is known: each of its bytes is a key.
     Reader,
@@ -22,7 +22,7 @@ pub enum KeySource {
 }
 
 /// How to connect.
-#[derive(Clone, Copy, Debug, PartialEq, Eq)]
+#[derive(Clone, Copy, PartialEq, Eq)]
 pub struct Connecting {
     /// The port, of 1 to 65,535.
     pub port: u16,
@@ -37,10 +37,14 @@ pub struct Connecting {
     pub escape: Option<u8>,
     /// How many seconds after the end of standard input the server is told that no more comes.
     pub wait: u32,
+    /// For how many seconds nothing may come after that; at 0 it may for ever.
+    pub patience: u32,
+    /// After how many seconds an address that takes no connection is given up; at 0 the system decides.
+    pub timeout: u32,
 }
 
 /// How to talk to a service that takes lines and negotiates nothing.
-#[derive(Clone, Copy, Debug, PartialEq, Eq)]
+#[derive(Clone, Copy, PartialEq, Eq)]
 pub struct Plain {
     /// The port, of 1 to 65,535.
     pub port: u16,
@@ -51,6 +55,10 @@ pub struct Plain {
     pub origin: KeySource,
     /// How many seconds after the end of standard input the service is told that no more comes.
     pub wait: u32,
+    /// For how many seconds nothing may come after that; at 0 it may for ever.
+    pub patience: u32,
+    /// After how many seconds an address that takes no connection is given up; at 0 the system decides.
+    pub timeout: u32,
 }
 
 /// What a client's session has beside its keys and its screen.

@@ -8,10 +8,10 @@ ghost use Rattle.tn_connect.specs.Warnings.{count_in};
 ghost use Rattle.tn_lines.specs.Kinds.{LeadsTo};
 ghost use Rattle.tn_network.specs.Asked.{Reaches};
 
-use crate::causes::{note, note_unsent};
+use crate::causes::{note, note_log, note_unsent};
 use crate::fault::ConnectFault;
 use crate::mapping::MappedKeys;
-use crate::news::tell_standing;
+use crate::news::{tell_that_it_stands, wait_for_terminal};
 use crate::polls::Polling;
 use crate::settings::{ClientContext, KeySource, Plain};
 use crate::warnings::Warnings;
@@ -26,7 +26,7 @@ use tn_discipline::Settings;
 use tn_lines::{AnyLines, FileLines, KeyLines};
 use tn_lines_client::{Over, ReadLog, Talk, TalkFault};
 use tn_network::{Network, reach};
-use tn_sockets::{Connection, Host, Logged, OwnCharacters, WriteLog};
+use tn_sockets::{Connection, Host, Link, Logged, OwnCharacters, WriteLog};
 use tn_streams::{Drain, Finish, Source};
 
 /// A talk that is over. In its logs contracts see all that was typed, said and told, and each warning.
@@ -137,23 +137,26 @@ pub fn connect_plain<H: Host + Network, K: Read + Drop, S: Write, E: Drain>(
     ensures reached { ConnectsBy talked_over (Reaches (H.finds rt host.now plain.port) (H.dials rt)) result }
 {
     let ClientContext {
-        stands,
+        sizes,
+        mut stands,
         mut news,
         causes,
         link,
         ..
     } = notes;
-    let stream = reach(&rt, host, plain.port, &mut news, causes)?;
-    tell_standing(stands);
+    let stream = reach(&rt, host, plain.port, plain.timeout, &mut news, causes)?;
+    tell_that_it_stands(&mut stands);
     news.connect(host, None);
+    wait_for_terminal(&mut stands, &sizes);
     link.attach(&rt, stream.try_clone()?);
-    let talked = talk_over(rt, alloc, stream, plain, keys, screen, news.writer)?;
+    let talked = talk_over(rt, alloc, stream, plain, keys, screen, news.writer, &link)?;
+    note_log(causes, &link);
     let ended = ended_of(talked, causes);
     news.close(host, has_left(&ended), ended.is_ok());
     ended
 }
 
-// The same, over a connection that stands.
+// The same, over a connection that stands. It takes eight, as they go together nowhere else.
 fn talk_over<H: Host, K: Read + Drop, S: Write, E: Drain>(
     rt: H,
     alloc: Global,
@@ -162,6 +165,7 @@ fn talk_over<H: Host, K: Read + Drop, S: Write, E: Drain>(
     keys: K,
     screen: &mut S,
     errors: &mut E,
+    link: &Link,
 ) -> Result<Result<TalkReport, TalkFault>, ConnectFault>
     ensures talked { IfOk result (λ talked. IfOk talked
         (HoldsTyped plain (K.remaining keys) (S.contents screen.old) (S.contents screen.new))) }
@@ -170,7 +174,7 @@ fn talk_over<H: Host, K: Read + Drop, S: Write, E: Drain>(
     let over = Snapshot::of(&stream);
     let (service, connection) = Connection::split(stream)?;
     service.set_nonblocking(true)?;
-    let ready = Polling::new(rt, &plain, service.as_raw_fd(), errors);
+    let ready = Polling::new(rt, &plain, service.as_raw_fd(), errors, link);
     let own = own_of(plain.origin);
     let keys = MappedKeys::new(keys, own);
     let talked = talk(

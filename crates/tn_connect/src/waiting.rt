@@ -11,29 +11,86 @@ use std::sync::atomic::{AtomicBool, Ordering};
 use std::sync::{Arc, Wait};
 use std::time::{Clock, Duration};
 use std::{io, thread};
+use tn_sockets::Link;
 use tn_streams::{Source, WindowSize, nothing_to_say};
 
 /// After how many milliseconds it is looked whether more can come, and how often that is in a second.
-const LOOK: u64 = 200;
+pub(crate) const LOOK: u64 = 200;
 
-const LOOKS: u64 = 5;
+pub(crate) const LOOKS: u64 = 5;
 
-/// What a connection brings; it is noted that nothing more comes.
+/// How long a server may be silent once the input has ended.
+#[derive(Drop)]
+pub(crate) struct Patience {
+    /// The input has ended, and the server was told.
+    pub(crate) has_ended: Arc<AtomicBool, Global>,
+    /// For how many seconds it may be; at 0 for ever.
+    pub(crate) seconds: u32,
+    /// How many looks passed without a byte since then.
+    pub(crate) looks: u64,
+}
+
+impl Patience {
+    // Something came.
+    fn renew(&mut self) {
+        self.looks = 0;
+    }
+
+    // Nothing came for one look. Whether that is enough.
+    fn is_over(&mut self) -> bool {
+        if self.seconds == 0 || !self.has_ended.load(Ordering::SeqCst) {
+            return false;
+        }
+        self.looks = self.looks.saturating_add(1);
+        self.looks >= u64::from(self.seconds) * LOOKS
+    }
+}
+
+/// What a connection brings, each read of which waits for a look at most; it is noted that nothing more comes.
+/// A connection that is silent for too long is ended.
 #[derive(Drop)]
 pub(crate) struct Brought<R> {
     pub(crate) reader: R,
     pub(crate) is_over: Arc<AtomicBool, Global>,
+    pub(crate) link: Arc<Link, Global>,
+    pub(crate) patience: Patience,
+}
+
+impl<R> Brought<R> {
+    // A read came to its end.
+    fn note(&mut self, read: &io::Result<usize>)
+        ensures { self.new.reader ≡ self.old.reader }
+    {
+        self.patience.renew();
+        if is_last(read) {
+            self.is_over.store(true, Ordering::SeqCst);
+        }
+    }
+
+    // A look passed, and nothing came.
+    fn look(&mut self)
+        ensures { self.new.reader ≡ self.old.reader }
+    {
+        if self.patience.is_over() {
+            self.link.hang_up();
+        }
+    }
 }
 
 impl<R: Read> Read for Brought<R> {
     ghost remaining = { λ brought. R.Read.remaining brought.reader };
 
     fn read(&mut self, buf: &mut [u8]) -> io::Result<usize> {
-        let read = self.reader.read(buf);
-        if is_last(&read) {
-            self.is_over.store(true, Ordering::SeqCst);
+        match self.reader.read(buf) {
+            Err(error) if error.kind() == ErrorKind::WouldBlock => {
+                self.look();
+                Err(io::Error::from(ErrorKind::Interrupted))
+            },
+            read => {
+                self.note(&read);
+                read
+            },
         }
-        read
     }
 }
 
@@ -45,6 +102,7 @@ pub(crate) struct Patient<H, K> {
     pub(crate) keys: K,
     pub(crate) seconds: u32,
     pub(crate) is_over: Arc<AtomicBool, Global>,
+    pub(crate) has_ended: Arc<AtomicBool, Global>,
 }
 
 impl<H: Clock + Wait, K> Patient<H, K> {
@@ -81,6 +139,7 @@ impl<H: Clock + Wait, K: Source> Source for Patient<H, K> {
         let read = self.keys.read_some(buf);
         if is_last(&read) {
             self.wait();
+            self.has_ended.store(true, Ordering::SeqCst);
         }
         read
     }

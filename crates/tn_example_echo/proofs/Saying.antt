@@ -1,23 +1,26 @@
 -- What is said at one call after another.
-use Rattle.std.proofs.Common.{ℕ, List, ◌++◌, sym, ap, ◌∙◌, append_assoc}
+use Rattle.std.proofs.Common.{◌≡◌, ℕ, List, ◌++◌, sym, ap, ◌∙◌, subst, append_assoc}
 use Rattle.tn_nvt.specs.Spelling.{spells}
 use Rattle.tn_nvt.specs.declared.items.Item.{Item}
 use Rattle.tn_nvt.proofs.lemmas.Reading.{spells-append}
-use Rattle.tn_server.specs.Calls.{End, Advances, Feeds}
+use Rattle.tn_server.specs.Answering.{Feeds}
+use Rattle.tn_server.specs.Calls.{End, LeadsTo}
+use Rattle.tn_server.specs.Steps.{end_after, says, says_items}
+use Rattle.tn_server.proofs.lemmas.Leading.{stands, says_as, stands_fed, says_all}
 use Rattle.tn_server.specs.Events.{Event, next, gets}
 use Rattle.tn_server.specs.Replies.{items_said}
 use Rattle.tn_example_echo.specs.Said.{SaysMore}
 
-pub says_event : (old new : End) (e : Event) (before after : List ℕ) → Advances old e before after new
-    → SaysMore old before after new
-says_event old new e before after moves =
+pub says_event : (old new : End) (e : Event) (before after : List ℕ) → new ≡ end_after old e
+    → after ≡ before ++ spells (says old e) → SaysMore old before after new
+says_event old new e before after step said =
     record {
-      said = moves.said;
-      appended = moves.appended;
+      said = says old e;
+      appended = said;
       later = λ h leads. record {
         history = next h e;
-        leads = moves.leads h leads;
-        says = ap (λ (xs : List Item). items_said h ++ xs) (moves.replies h leads);
+        leads = subst (LeadsTo (next h e)) (sym step) (stands h old e leads);
+        says = ap (λ (xs : List Item). items_said h ++ xs) (says_as h old e leads);
       };
     }
 
@@ -25,12 +28,12 @@ pub says_piece : (old new : End) (piece before after : List ℕ) → Feeds old p
     → SaysMore old before after new
 says_piece old new piece before after fed =
     record {
-      said = fed.said;
-      appended = fed.appended;
+      said = says_items old fed.items;
+      appended = fed.said;
       later = λ h leads. record {
         history = gets h fed.items;
-        leads = fed.leads h leads;
-        says = fed.sends h leads;
+        leads = stands_fed h old new piece before after fed leads;
+        says = says_all h old fed.items leads;
       };
     }
 

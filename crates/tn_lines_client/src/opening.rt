@@ -12,7 +12,7 @@ const WILL: u8 = 251;
 const DONT: u8 = 254;
 
 /// What came of the two bytes by which a service is known.
-#[derive(Clone, Copy, Debug, PartialEq, Eq)]
+#[derive(Clone, Copy, PartialEq, Eq)]
 pub(crate) enum Opening {
     Nothing,
     First(u8),

@@ -4,7 +4,7 @@ ghost use Rattle.std.specs.Prelude.{◌≡◌, ℕ, None, Option, true};
 ghost use Rattle.tn_lines_client.specs.Openings.{warned_on};
 
 /// What a talk can do next.
-#[derive(Clone, Copy, Debug, PartialEq, Eq)]
+#[derive(Clone, Copy, PartialEq, Eq)]
 pub enum Ready {
     /// Keys can be read.
     Keys,
@@ -17,7 +17,7 @@ pub enum Ready {
 }
 
 /// What a talk wants to do, beside reading what the service says.
-#[derive(Clone, Copy, Debug, PartialEq, Eq)]
+#[derive(Clone, Copy, PartialEq, Eq)]
 pub struct Wants {
     /// To read keys.
     pub keys: bool,

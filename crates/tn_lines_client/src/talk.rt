@@ -27,7 +27,7 @@ use tn_streams::{Drain, Finish, Source, is_interrupted, write_all};
 const PIECE_BYTES: usize = 4_096;
 
 /// How a talk ended.
-#[derive(Clone, Copy, Debug, PartialEq, Eq)]
+#[derive(Clone, Copy, PartialEq, Eq)]
 pub enum Over {
     /// The service has closed.
     Closed,

@@ -3,6 +3,7 @@
 use std::io;
 use std::io::Write;
 use std::net::{HostAddrs, Net, Shutdown, SocketAddr, TcpListener, TcpStream, ToSocketAddrs};
+use std::time::Duration;
 
 /// A network, as it is asked. Each relation holds of what was asked in a call, and of its answer; nothing
 /// else gives one. A thread may rest on this trait: it names no types of the network.
@@ -51,7 +52,8 @@ pub trait Network {
     fn find(&self, host: &str, port: u16) -> io::Result<HostAddrs>
         ensures { finds self.now host.now port result };
 
-    fn dial(&self, address: SocketAddr) -> io::Result<TcpStream>
+    /// Asks for a connection, which is waited for at most this many seconds; at 0 as long as the system waits.
+    fn dial(&self, address: SocketAddr, seconds: u32) -> io::Result<TcpStream>
         ensures { dials self.now address result };
 }
 
@@ -90,7 +92,11 @@ impl<H: Net<Listener = TcpListener, Stream = TcpStream>> Network for H {
         (host, port).to_socket_addrs(self)
     }
 
-    fn dial(&self, address: SocketAddr) -> io::Result<TcpStream> {
-        TcpStream::connect(self, address)
+    fn dial(&self, address: SocketAddr, seconds: u32) -> io::Result<TcpStream> {
+        if seconds == 0 {
+            return TcpStream::connect(self, address);
+        }
+        let time = Duration::from_secs(u64::from(seconds));
+        TcpStream::connect_timeout(self, &address, time)
     }
 }

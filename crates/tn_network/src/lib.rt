@@ -2,7 +2,7 @@
 //!
 //! ```
 //! let listener = rt.listen("127.0.0.1", 2323)?;
-//! let stream = reach(&rt, "127.0.0.1", 2323, &mut Unheard, &mut causes)?;
+//! let stream = reach(&rt, "127.0.0.1", 2323, 0, &mut Unheard, &mut causes)?;
 //! ```
 //!
 //! No contract can say what a network does. So `Network` has relations that only its calls give: generic code

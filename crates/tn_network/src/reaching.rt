@@ -21,12 +21,14 @@ impl Trying for Unheard {
     fn try_address(&mut self, _address: &SocketAddr) {}
 }
 
-/// Connects to a host, an address or a name: of its addresses, to the first that takes a connection. Where
-/// none does, `causes` gets a line for each.
+/// Connects to a host, an address or a name: of its addresses, to the first that takes a connection. Each is
+/// waited for at most this many seconds; at 0 as long as the system waits. Where none does, `causes` gets a
+/// line for each.
 pub fn reach<N: Network, T: Trying>(
     net: &N,
     host: &str,
     port: u16,
+    seconds: u32,
     trying: &mut T,
     causes: &mut Vec<u8>,
 ) -> io::Result<TcpStream>
@@ -43,7 +45,7 @@ pub fn reach<N: Network, T: Trying>(
     let mut last = io::Error::from(ErrorKind::NotFound);
     for address in addresses {
         trying.try_address(&address);
-        match net.dial(address) {
+        match net.dial(address, seconds) {
             Ok(stream) => {
                 causes.clear();
                 return Ok(stream);

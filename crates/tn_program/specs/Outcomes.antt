@@ -79,6 +79,10 @@ pub record EndsVersion (ended : Result ⊤ CliFault) (old new : Option (List ℕ
   pub ok : OnOk ended (Appends old new version_line)
   pub fault : IfErr ended (λ f. f ≡ fault.Write)
 
+-- a connection with a trace or a log is asked for
+abbrev pub AsksForFile : ConnectWords → Type 0
+AsksForFile connecting = (connecting.trace ≢ None) ⊎ (connecting.log ≢ None)
+
 -- what was asked for was run, and this came of it
 abbrev pub ComesOfRun : Machine → Asked → KeySource → Option (List ℕ) → Option (List ℕ) → Option (List ℕ)
     → Outcome → Type 0
@@ -99,7 +103,7 @@ ComesOfRun machine a origin bytes old new (outcome.Talked ended) =
     (connecting : ConnectWords) × (a ≡ asked.Connect connecting)
     × EndsTalking machine connecting ended origin bytes old new
 ComesOfRun machine a origin bytes old new outcome.Untraced =
-    (connecting : ConnectWords) × (a ≡ asked.Connect connecting) × (connecting.trace ≢ None) × (new ≡ old)
+    (connecting : ConnectWords) × (a ≡ asked.Connect connecting) × AsksForFile connecting × (new ≡ old)
 ComesOfRun machine a origin bytes old new (outcome.Help ended) = ⊥
 ComesOfRun machine a origin bytes old new (outcome.Version ended) = ⊥
 ComesOfRun machine a origin bytes old new (outcome.Usage detail) = ⊥

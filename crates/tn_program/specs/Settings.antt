@@ -60,6 +60,7 @@ lines_as asked =
       line_end = asked.line_end;
       limit = asked.line_limit;
       ends_cut = asked.ends_cut;
+      sends_signals = asked.sends_signals;
     }
 
 -- the jobs are still to be joined, over this network, to the service at this host and port, where lines go so
@@ -101,4 +102,6 @@ plain_as asked line_end origin =
       line_end = line_end;
       origin = origin_as asked.characters origin;
       wait = asked.wait;
+      patience = asked.patience;
+      timeout = asked.timeout;
     }

@@ -13,6 +13,7 @@
 #![tactic(auto)]
 
 pub use counting::Serves;
+pub use metrics::Replacing;
 pub use outcome::Outcome;
 pub use outlet::Outlet;
 pub use own::{OWN_LENGTH, own_characters};
@@ -25,10 +26,13 @@ pub use tn_network::Network;
 pub use watching::Lookout;
 
 mod counting;
+mod files;
+mod metrics;
 mod outcome;
 mod outlet;
 mod own;
 mod program;
+mod publishing;
 mod serving;
 mod settings;
 mod streams;

@@ -35,7 +35,7 @@ pub enum Outcome {
     Connected(Result<Connected, ConnectFault>),
     /// A talk with a service that takes lines.
     Talked(Result<TalkReport, ConnectFault>),
-    /// They ask for a connection with a trace, whose file could not be made; none was made.
+    /// They ask for a connection with a trace or a log, whose file could not be made; none was made.
     Untraced,
     /// They ask for help; it was written, or that failed.
     Help(Result<(), CliFault>),

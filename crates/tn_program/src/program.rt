@@ -11,31 +11,29 @@ ghost use Rattle.tn_program.specs.Told.{IsConnecting, IsTold, UnlessConnected, U
 ghost use Rattle.tn_words.specs.Words.{AskFor, Refuses};
 
 use crate::counting::Serves;
+use crate::files::{open_log, open_trace};
+use crate::metrics::Replacing;
 use crate::outcome::Outcome;
 use crate::serving::serve_asked;
 use crate::settings::{connecting_of, plain_of};
 use crate::streams::Streams;
 use crate::watching::Lookout;
 use std::alloc::{AllocError, Global};
-use std::fs::{File, Files, OpenOptions};
+use std::fs::{File, Files};
 use std::io;
 use std::io::{ErrorKind, Read, Write};
-use std::os::unix::fs::OpenOptionsExt;
 use tn_cli::{CliFault, run_decode, run_local, run_replay, run_world};
 use tn_connect::{ClientContext, Host, KeySource, News, connect, connect_plain};
 use tn_network::Network;
 use tn_streams::Drain;
 use tn_words::{Asked, ConnectWords, LineEnd, VERSION_LINE, WordsFault, read_words};
 
-/// Who reads and writes a trace: its owner alone, since what is typed stands there.
-const TRACE_MODE: u32 = 0o600;
-
 /// Runs what the words of the command line ask for, where they could be read. The program's name is the
 /// first of them. Returns the status to end with: 0 where that was done, and else the status of its fault
 /// (`EndsWith`). A fault is told in one line on `errors`, and behind it what is wrong with words, or why;
 /// what cannot be written is dropped. Of a streams at standard input nothing is known beforehand.
 pub fn run_words<
-    H: Network + Host + Lookout + Eprint + Files<File = File>,
+    H: Network + Host + Lookout + Replacing + Eprint + Files<File = File>,
     R: Read + Drop + Send + 'static,
     W: Write,
     E: Drain,
@@ -78,7 +76,7 @@ pub fn run_words<
 /// The same without the status and the lines: returns what comes of the words, and appends the causes of a
 /// fault, a line each.
 pub fn outcome_of_words<
-    H: Network + Host + Lookout + Eprint + Files<File = File>,
+    H: Network + Host + Lookout + Replacing + Eprint + Files<File = File>,
     R: Read + Drop + Send + 'static,
     W: Write,
     E: Drain,
@@ -173,7 +171,7 @@ fn write_version<W: Write>(writer: &mut W) -> Result<(), CliFault>
 }
 
 fn run_asked<
-    H: Network + Host + Lookout + Eprint + Files<File = File>,
+    H: Network + Host + Lookout + Replacing + Eprint + Files<File = File>,
     R: Read + Drop + Send + 'static,
     W: Write,
     E: Drain,
@@ -213,7 +211,12 @@ fn run_asked<
 }
 
 // A talk with a service that takes lines.
-fn run_plain<H: Network + Host + Lookout, R: Read + Drop + Send + 'static, W: Write, E: Drain>(
+fn run_plain<
+    H: Network + Host + Lookout + Files<File = File>,
+    R: Read + Drop + Send + 'static,
+    W: Write,
+    E: Drain,
+>(
     rt: H,
     alloc: Global,
     asked: &ConnectWords,
@@ -232,6 +235,9 @@ fn run_plain<H: Network + Host + Lookout, R: Read + Drop + Send + 'static, W: Wr
     ensures connects { IsConnecting result }
     ensures quiet { UnlessTelling result (errors.new ≡ errors.old) }
 {
+    let Ok(()) = open_log(&rt, asked, &streams.link, causes) else {
+        return Outcome::Untraced;
+    };
     let Streams {
         origin,
         reader,
@@ -284,7 +290,10 @@ fn run_connect<
     ensures connects { IsConnecting result }
     ensures quiet { UnlessTelling result (errors.new ≡ errors.old) }
 {
-    let Ok(trace) = open_trace(&rt, &asked, causes) else {
+    let Ok(trace) = open_trace(&rt, alloc, &asked, causes) else {
+        return Outcome::Untraced;
+    };
+    let Ok(()) = open_log(&rt, &asked, &streams.link, causes) else {
         return Outcome::Untraced;
     };
     let Streams {
@@ -313,34 +322,4 @@ fn run_connect<
     let connecting = connecting_of(&asked, origin);
     let host = asked.host.as_str();
     Outcome::Connected(connect(rt, alloc, host, connecting, reader, writer, notes))
-}
-
-// The file that gets the trace, if one is wanted. Where it can't be made, that is noted.
-fn open_trace<H: Files<File = File>>(
-    rt: &H,
-    asked: &ConnectWords,
-    causes: &mut Vec<u8>,
-) -> io::Result<Option<File>>
-    ensures { OnErr result (asked.now.trace ≢ None) }
-{
-    let Some(path) = &asked.trace else {
-        return Ok(None);
-    };
-    match create_private(rt, path.as_str()) {
-        Ok(file) => Ok(Some(file)),
-        Err(error) => {
-            let _ = writeln!(causes, "tn: {}: {}", path, error);
-            Err(error)
-        },
-    }
-}
-
-// An empty file that is its owner's alone, unless it was there before.
-fn create_private<H: Files<File = File>>(rt: &H, path: &str) -> io::Result<File> {
-    let mut options = OpenOptions::new();
-    options.mode(TRACE_MODE);
-    options.write(true);
-    options.create(true);
-    options.truncate(true);
-    options.open(rt, path)
 }

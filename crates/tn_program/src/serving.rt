@@ -8,12 +8,14 @@ ghost use Rattle.tn_program.specs.Settings.{UnlessMemory, count_as};
 ghost use Rattle.tn_roster.specs.Held.{IsLimit};
 
 use crate::counting::Serves;
+use crate::metrics::{Counting, Counts, Replacing};
+use crate::publishing::Publisher;
 use crate::settings::{answering_of, lines_of, note_level_of, note_style_of, serving_of};
 use crate::watching::{AtFile, Lookout};
 use log::{Log, Logged};
 use std::alloc::{AllocError, Global};
 use std::net::TcpStream;
-use std::sync::Wait;
+use std::sync::{Arc, Wait};
 use tn_network::Network;
 use tn_serve::{At, Call, Finished, Host, NoteWriter, Notes, ServeFault, Served, Service, serve};
 use tn_services::{Gateway, HearsCut, Joiner, LineFormat, ServiceReader, ServiceWriter};
@@ -28,7 +30,7 @@ pub(crate) fn serve_asked<H>(
     causes: &mut Vec<u8>,
 ) -> Result<Served, ServeFault>
 where
-    H: Host + Network + Lookout + Eprint,
+    H: Host + Network + Lookout + Replacing + Eprint,
     ensures all { IfOk result (ServesUntil (count_as asked.now.count)
         (IfAny (H.sees rt) (option_map string_bytes asked.now.until))) }
     ensures listened { UnlessMemory result (Listens
@@ -43,11 +45,39 @@ where
     let Some((sink, writer)) = NoteWriter::start(rt, alloc, note_style_of(asked, is_journal)) else {
         return Err(ServeFault::Memory);
     };
+    let Ok(counts) = Counts::new(alloc) else {
+        return Err(ServeFault::Memory);
+    };
     let log = Logged::new(rt, note_level_of(asked), sink);
+    let Some(publisher) = publishing(rt, alloc, asked, &writer, &counts, &log) else {
+        return Err(ServeFault::Memory);
+    };
+    let log = Counting { log, counts, alloc };
     let served = serve_noted(rt, alloc, asked, &log, causes);
     drop(log);
+    if let Some(publisher) = publisher {
+        publisher.finish(&rt);
+    }
     writer.finish(&rt);
     served
+}
+
+// The thread that writes the counts, if a file for them is named. `None` if there is no memory or no thread.
+fn publishing<H: Host + Replacing, L: Log>(
+    rt: H,
+    alloc: Global,
+    asked: &tn_words::ServeWords,
+    writer: &NoteWriter,
+    counts: &Arc<Counts, Global>,
+    log: &L,
+) -> Option<Option<Publisher>> {
+    let Some(path) = &asked.metrics else {
+        return Some(None);
+    };
+    let counts = Arc::try_clone(counts).ok()?;
+    let dropped = writer.dropped().ok()?;
+    let publisher = Publisher::start(rt, alloc, path.as_str(), counts, dropped, log)?;
+    Some(Some(publisher))
 }
 
 // Serves as was asked for, with this log.

@@ -44,12 +44,16 @@ pub(crate) fn serving_of(asked: &tn_words::ServeWords) -> Serving
     ensures sessions { result.sessions ≡ asked.now.sessions }
     ensures per_host { result.per_host ≡ asked.now.per_host }
     ensures count { result.count ≡ count_as asked.now.count }
+    ensures drain { result.drain ≡ asked.now.drain }
+    ensures proxied { result.is_proxied ≡ asked.now.proxied }
     ensures options { result.options ≡ options_as asked.now }
 {
     Serving {
         sessions: asked.sessions,
         per_host: asked.per_host,
         count: count_of(asked.count),
+        drain: asked.drain,
+        is_proxied: asked.proxied,
         options: options_of(asked),
     }
 }
@@ -98,6 +102,7 @@ pub(crate) fn lines_of(asked: &tn_words::ServeWords) -> LineFormat
         line_end: asked.line_end,
         limit: asked.line_limit,
         ends_cut: asked.ends_cut,
+        sends_signals: asked.sends_signals,
     }
 }
 
@@ -124,6 +129,8 @@ pub(crate) fn connecting_of(asked: &tn_words::ConnectWords, origin: KeySource) -
     ensures escape { result.escape ≡ escape_as asked.now.escape }
     ensures port { result.port ≡ asked.now.port }
     ensures wait { result.wait ≡ asked.now.wait }
+    ensures patience { result.patience ≡ asked.now.patience }
+    ensures timeout { result.timeout ≡ asked.now.timeout }
 {
     Connecting {
         port: asked.port,
@@ -133,6 +140,8 @@ pub(crate) fn connecting_of(asked: &tn_words::ConnectWords, origin: KeySource) -
         origin: origin_of(asked.characters, origin),
         escape: escape_of(asked.escape),
         wait: asked.wait,
+        patience: asked.patience,
+        timeout: asked.timeout,
     }
 }
 
@@ -152,6 +161,8 @@ pub(crate) fn plain_of(
         line_end,
         origin: origin_of(asked.characters, origin),
         wait,
+        patience: asked.patience,
+        timeout: asked.timeout,
     }
 }
 

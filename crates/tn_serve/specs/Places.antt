@@ -1,32 +1,49 @@
--- How many sessions there may be, of all and of one address.
+-- How many sessions there may be, of all and of one host.
 use Rattle.std.specs.Prelude.{◌≡◌, ◌≤◌, ◌+◌, ◌⊎◌, ℕ, Bool, List, [], ◌∷◌, ◌++◌, count_by, length}
-use Rattle.std.specs.Prelude.{if◌then◌else◌}
+use Rattle.std.specs.Prelude.{if◌then◌else◌, get_or}
 use Rattle.std.specs.Net.Socket.{socket_ip}
 use Rattle.std.specs.contracts.net.ip_addr.IpAddrPartialEq.TheImpl as comparing
 use Rattle.std.specs.declared.net.ip_addr.IpAddr.{IpAddr}
+use Rattle.std.specs.declared.net.ip_addr.IpAddr.TheVariants.{V4, V6}
+use Rattle.std.specs.declared.net.ipv6_addr.Ipv6Addr.{Ipv6Addr}
+use Rattle.std.specs.Net.Addr.{ipv6_segments}
 use Rattle.std.specs.declared.net.socket_addr.SocketAddr.{SocketAddr}
 use Rattle.std.specs.declared.net.tcp.TcpStream.{TcpStream}
 use Rattle.tn_serve.specs.declared.caller.Caller.{Caller}
 use Rattle.tn_roster.specs.Held.{Held, held_count, is_held}
 use Rattle.tn_serve.specs.Turns.{live_of, with_one}
 
--- the addresses are the same, as `==` says
+-- the first 64 bits of an address, and zeros after them
+abbrev pub subnet_of : Ipv6Addr → Ipv6Addr
+subnet_of a = let parts = ipv6_segments a in
+    record {
+      segments = get_or parts 0 0 ∷ get_or parts 1 0 ∷ get_or parts 2 0 ∷ get_or parts 3 0
+          ∷ 0 ∷ 0 ∷ 0 ∷ 0 ∷ [];
+    }
+
+-- the address as which a host is counted: that of IPv4, or the first 64 bits of IPv6, in which each host
+-- chooses the others (RFC 4291, 2.5.1)
+abbrev pub host_of : IpAddr → IpAddr
+host_of (V4 a) = V4 a
+host_of (V6 a) = V6 (subnet_of a)
+
+-- the hosts are the same, as `==` compares their addresses
 abbrev pub is_same : IpAddr → IpAddr → Bool
 is_same = comparing.ghosts.eq
 
--- how many of these sessions are from this address, whatever their ports
+-- how many of these sessions are from this host
 abbrev pub count_at : {S : Type 0} → (S → SocketAddr) → IpAddr → List S → ℕ
-count_at peer_of address started = count_by (λ s. is_same (socket_ip (peer_of s)) address) started
+count_at peer_of host started = count_by (λ s. is_same (host_of (socket_ip (peer_of s))) host) started
 
--- the same, of the address of this peer
+-- how many of these sessions are from the host of this peer
 abbrev pub count_from : {S : Type 0} → (S → SocketAddr) → SocketAddr → List S → ℕ
-count_from peer_of peer started = count_at peer_of (socket_ip peer) started
+count_from peer_of peer started = count_at peer_of (host_of (socket_ip peer)) started
 
--- there are as many as there may be: of all, or of those from one address
+-- there are as many as there may be: of all, or of those from one host
 abbrev pub HasNoPlace : Held → ℕ → ℕ → Type 0
 HasNoPlace roster per_host from_host = (held_count roster ≡ roster.limit) ⊎ (per_host ≤ from_host)
 
--- so many sessions run as there may be: of all, or of those from one address
+-- so many sessions run as there may be: of all, or of those from one host
 abbrev pub RunsAll : ℕ → ℕ → ℕ → ℕ → Type 0
 RunsAll count sessions per_host from_host = (count ≡ sessions) ⊎ (per_host ≤ from_host)
 

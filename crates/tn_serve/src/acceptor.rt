@@ -4,8 +4,10 @@ ghost use Rattle.std.specs.Prelude.{◌≡◌, true, IsTrue, false, IsFalse, Ok,
 ghost use Rattle.tn_serve.specs.Ends.{AcceptsUntil, AreEnough, IsBroken};
 
 use crate::events::Event;
+use crate::hosts::shown;
+use crate::proxied::peer_behind;
 use crate::until::Until;
-use crossbeam_channel::Sender;
+use crossbeam_channel::{Receiver, RecvTimeoutError, Sender};
 use libc::net as c;
 use libc::types::pollfd;
 use std::alloc::Global;
@@ -25,14 +27,25 @@ const PAUSE: u64 = 100;
 /// How many milliseconds a connection is waited for, before it is asked again whether one is to come.
 const LOOK: i32 = 1_000;
 
-/// Accepts so many connections, or fewer where it is told so, and sends each on.
+/// Accepts so many connections, or fewer if it is told so, and sends each on. After the last it asks whether
+/// the server is to end, until `over` is closed.
 #[derive(Drop)]
 pub(crate) struct Acceptor<H, U> {
     pub(crate) rt: H,
     pub(crate) listener: TcpListener,
     pub(crate) events: Sender<Event, Global>,
+    pub(crate) over: Receiver<(), Global>,
     pub(crate) count: u64,
+    /// Each connection is of a proxy, and begins with the line that says for whom.
+    pub(crate) is_proxied: bool,
     pub(crate) until: U,
+}
+
+/// A connection that was accepted, and for whom it is.
+#[derive(Drop)]
+struct Came {
+    stream: (TcpStream, SocketAddr),
+    whom: SocketAddr,
 }
 
 /// How many connections were accepted.
@@ -109,23 +122,43 @@ impl<H: Host + Network, U: Until + Drop + Send + 'static> Acceptor<H, U> {
     fn run(self) -> Accepted
         ensures { AcceptsUntil (H.accepts self.rt self.listener) (U.ends self.until) result }
     {
+        let mut spare = self.rt.share(&self.listener).ok();
         for number in 0..self.count {
-            let Ok(next) = self.next(number) else {
+            let Ok(next) = self.next(number, &mut spare) else {
                 let _ = self.events.send(&self.rt, Event::Closed);
                 return Accepted::untold(number);
             };
-            let Some((stream, peer)) = next else {
+            let Some(Came { stream, whom }) = next else {
                 return self.close(number);
             };
             if self
                 .events
-                .send(&self.rt, Event::Came(stream, peer))
+                .send(&self.rt, Event::Came(stream.0, shown(whom)))
                 .is_err()
             {
                 return Accepted::untold(number);
             }
         }
+        self.wait_for_end();
         Accepted::untold(self.count)
+    }
+
+    // Sends on that the server is to end, if it is told so before it has ended.
+    fn wait_for_end(&self) {
+        for _ in self.rt.forever() {
+            let is_told = self.until.is_over();
+            if is_told {
+                let _ = self.events.send(&self.rt, Event::Closed);
+                return;
+            }
+            match self
+                .over
+                .recv_timeout(&self.rt, Duration::from_millis(LOOK as u64))
+            {
+                Err(RecvTimeoutError::Timeout) => {},
+                _ => return,
+            }
+        }
     }
 
     // Takes no more connections: also those that wait are refused.
@@ -141,11 +174,12 @@ impl<H: Host + Network, U: Until + Drop + Send + 'static> Acceptor<H, U> {
     }
 
     // The connection of this number, or none where it is told that none is to come any more. One that its
-    // peer closed before it was accepted is skipped. Where the machine has no descriptor or no memory for
-    // one, that is told once and tried again after a pause. It fails where the listener is broken.
-    fn next(&self, number: u64) -> io::Result<Option<(TcpStream, SocketAddr)>>
+    // peer closed before it was accepted is skipped. If the machine has no descriptor but the spare one, the
+    // connection is told `full`. If it has no memory, or not even that descriptor, this is reported once, and it
+    // is tried again after a pause. It fails if the listener is broken.
+    fn next(&self, number: u64, spare: &mut Option<TcpListener>) -> io::Result<Option<Came>>
         ensures came { IfOk result (λ next. IfSome next (λ came.
-            H.accepts self.now.rt self.now.listener number (Ok came))) }
+            H.accepts self.now.rt self.now.listener number (Ok came.stream))) }
         ensures told { IfOk result (λ next. IfNone next (U.ends self.now.until)) }
         ensures broken { IfErr result IsBroken }
     {
@@ -158,16 +192,66 @@ impl<H: Host + Network, U: Until + Drop + Send + 'static> Acceptor<H, U> {
                 continue;
             }
             match self.rt.accept(&self.listener, number) {
-                Ok(accepted) => return Ok(Some(accepted)),
+                Ok(stream) => {
+                    if let Some(whom) = self.whom(&stream.0, stream.1) {
+                        return Ok(Some(Came { stream, whom }));
+                    }
+                },
                 Err(error) if is_passing(error.kind()) => {},
                 Err(error) if is_broken(&error) => return Err(error),
                 Err(error) => {
-                    self.starve(error, is_starved);
-                    is_starved = true;
+                    if !self.refuse(number, spare, &error) {
+                        self.starve(error, is_starved);
+                        is_starved = true;
+                    }
                 },
             }
         }
         Err(io::Error::from_raw_os_error(libc::EBADF))
+    }
+
+    // For whom this connection from `peer` is. `None`, which is reported, if a proxy does not say it.
+    fn whom(&self, stream: &TcpStream, peer: SocketAddr) -> Option<SocketAddr> {
+        if !self.is_proxied {
+            return Some(peer);
+        }
+        let whom = peer_behind(&self.rt, stream, peer);
+        if whom.is_none() {
+            let _ = self.events.send(&self.rt, Event::Unproxied(shown(peer)));
+        }
+        whom
+    }
+
+    // Accepts the connection that waits in place of the spare descriptor, tells it `full` and closes it after a
+    // pause. False if there is no such descriptor, or another thread took it.
+    fn refuse(&self, number: u64, spare: &mut Option<TcpListener>, error: &io::Error) -> bool {
+        let was_there = is_without_descriptor(error) && spare.take().is_some();
+        let accepted = if was_there {
+            self.rt.accept(&self.listener, number).ok()
+        } else {
+            None
+        };
+        let is_told = match accepted {
+            Some((stream, peer)) => {
+                self.turn_away(stream, peer, error);
+                true
+            },
+            None => false,
+        };
+        if spare.is_none() {
+            *spare = self.rt.share(&self.listener).ok();
+        }
+        is_told
+    }
+
+    fn turn_away(&self, stream: TcpStream, peer: SocketAddr, error: &io::Error) {
+        let told = self.rt.dismiss(stream, b"full\r\n");
+        thread::sleep(&self.rt, Duration::from_millis(PAUSE));
+        drop(told);
+        let cause = io::Error::from_raw_os_error(error.raw_os_error().unwrap_or(0));
+        let _ = self
+            .events
+            .send(&self.rt, Event::Refused(shown(peer), cause));
     }
 
     // Waits for a while, since the machine can give no connection. That is told where it was not told before.
@@ -194,6 +278,11 @@ fn is_passing(kind: ErrorKind) -> bool {
         kind,
         ErrorKind::ConnectionAborted | ErrorKind::ConnectionReset | ErrorKind::Interrupted
     )
+}
+
+// The process has as many descriptors as it may.
+fn is_without_descriptor(error: &io::Error) -> bool {
+    error.raw_os_error() == Some(libc::EMFILE)
 }
 
 // The listener takes no connection, and never will.

@@ -10,6 +10,10 @@ pub(crate) enum Event {
     Came(TcpStream, SocketAddr),
     /// The machine can give no connection now, for this reason.
     Starved(io::Error),
+    /// This peer was told that there is no room, since the machine has none, for this reason.
+    Refused(SocketAddr, io::Error),
+    /// A connection from this address was closed, since it did not begin with the line of a proxy.
+    Unproxied(SocketAddr),
     /// Nothing happened for a while.
     Quiet,
     /// No connection is accepted any more.

@@ -6,7 +6,7 @@ ghost use Rattle.tn_serve.specs.Ends.{IsWhole, not_started};
 use tn_session::{Report, SessionFault};
 
 /// How a session over a connection ended.
-#[derive(Clone, Copy, Debug, PartialEq, Eq)]
+#[derive(Clone, Copy, PartialEq, Eq)]
 pub struct Finished {
     /// What the session tells, or why it did not run to its report.
     pub report: Result<Report, SessionFault>,

@@ -7,6 +7,7 @@ use crate::notes::FAULT;
 use crate::traffic::Passed;
 use log::{Level, Log, error, info, log, warn};
 use std::fmt::Display;
+use std::io::ErrorKind;
 use std::net::SocketAddr;
 use std::time::Duration;
 use std::{fmt, io, str};
@@ -42,6 +43,22 @@ pub(crate) fn cut<L: Log>(log: &L, caller: &Caller, bytes: usize) {
     );
 }
 
+/// Notes that a connection got no session, since it did not begin with the line of a proxy.
+pub(crate) fn unproxied<L: Log>(log: &L, peer: &SocketAddr) {
+    warn!(
+        log; target: "unproxied", peer:% = peer;
+        "no session from {}: it does not begin with a PROXY line", peer
+    );
+}
+
+/// Notes that a connection got no session, since the machine had a descriptor only to tell it so.
+pub(crate) fn full_by<L: Log>(log: &L, peer: &SocketAddr, error: &io::Error) {
+    warn!(
+        log; target: "full", peer:% = peer, cause:% = error;
+        "no session from {}: full, {}", peer, error
+    );
+}
+
 /// Notes that the machine can give no connection, and is asked again.
 pub(crate) fn starved<L: Log>(log: &L, error: &io::Error) {
     warn!(
@@ -67,14 +84,17 @@ pub(crate) struct SessionEnd<'a> {
     pub(crate) finished: &'a Finished,
     /// Why its service was not reached, a line that begins with `tn: ` for each address, or nothing.
     pub(crate) causes: &'a [u8],
+    /// Its server was to end.
+    pub(crate) is_closing: bool,
     pub(crate) lasted: Duration,
     pub(crate) passed: Passed,
 }
 
-/// Notes how a session ended and what passed over its connection: a warning if it ended in a fault, or its
-/// service was not reached.
+/// Notes how a session ended and what passed over its connection: a warning if it ended in a fault, unless
+/// its client reset the connection, or if its service was not reached.
 pub(crate) fn ended<L: Log>(log: &L, end: &SessionEnd<'_>) {
-    let level = if end.finished.is_whole() && end.causes.is_empty() {
+    let is_in_order = end.finished.is_whole() || is_reset(end.finished, end.passed);
+    let level = if is_in_order && end.causes.is_empty() {
         Level::Info
     } else {
         Level::Warn
@@ -114,28 +134,49 @@ struct Why<'a>(&'a SessionEnd<'a>);
 impl Display for Why<'_> {
     fn fmt<W: fmt::Write>(&self, f: &mut fmt::Formatter<W>) -> fmt::Result {
         if self.0.causes.is_empty() {
-            write_cause(f, self.0.finished, self.0.passed)
+            write_cause(f, self.0)
         } else {
             write_unreached(f, self.0.causes)
         }
     }
 }
 
-fn write_cause<W: fmt::Write>(
-    f: &mut fmt::Formatter<W>,
-    finished: &Finished,
-    passed: Passed,
-) -> fmt::Result {
+fn write_cause<W: fmt::Write>(f: &mut fmt::Formatter<W>, end: &SessionEnd<'_>) -> fmt::Result {
+    let SessionEnd {
+        finished,
+        passed,
+        ..
+    } = *end;
+    if is_reset(finished, passed) {
+        return f.write_str("reset by the client");
+    }
     match &finished.report {
         Err(fault) => write_fault(f, *fault, passed),
         Ok(report) => match report.ended {
             Ended::HangUp if finished.idle => f.write_str("idle"),
             Ended::HangUp if finished.too_long => f.write_str("too long"),
+            Ended::HangUp if end.is_closing => f.write_str("closing"),
             Ended::HangUp => f.write_str("hang-up"),
             Ended::Done => f.write_str("done"),
             Ended::Fault(fault) => write_fault(f, fault, passed),
         },
     }
+}
+
+// Whether the client reset the connection. A write after that fails as over a pipe that nobody reads.
+fn is_reset(finished: &Finished, passed: Passed) -> bool {
+    let fault = match &finished.report {
+        Err(fault) => *fault,
+        Ok(report) => match report.ended {
+            Ended::Fault(fault) => fault,
+            _ => return false,
+        },
+    };
+    matches!(fault, SessionFault::Read | SessionFault::Write)
+        && matches!(
+            passed.broke,
+            Some(ErrorKind::ConnectionReset | ErrorKind::BrokenPipe)
+        )
 }
 
 // If the connection broke, the system's word for it.

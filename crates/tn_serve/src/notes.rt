@@ -25,7 +25,7 @@ const LINES: usize = 256;
 const LAST: u64 = 1;
 
 /// The form of a note's line.
-#[derive(Clone, Copy, Debug, PartialEq, Eq)]
+#[derive(Clone, Copy, PartialEq, Eq)]
 pub enum NoteFormat {
     /// The time in UTC to the millisecond, and a sentence.
     Text,
@@ -34,7 +34,7 @@ pub enum NoteFormat {
 }
 
 /// How the lines of notes look.
-#[derive(Clone, Copy, Debug, PartialEq, Eq)]
+#[derive(Clone, Copy, PartialEq, Eq)]
 pub struct NoteStyle {
     pub format: NoteFormat,
     /// The reader is systemd's journal: each line begins with its priority, such as `<6>`, and has no time.
@@ -50,6 +50,7 @@ pub struct NoteSink<H> {
     style: NoteStyle,
     lines: Sender<String, Global>,
     dropped: Arc<AtomicU64, Global>,
+    all_dropped: Arc<AtomicU64, Global>,
 }
 
 impl<H: Clock + Wait> Log for NoteSink<H> {
@@ -64,6 +65,7 @@ impl<H: Clock + Wait> Log for NoteSink<H> {
         };
         if !is_queued {
             let _ = self.dropped.fetch_add(1, Ordering::SeqCst);
+            let _ = self.all_dropped.fetch_add(1, Ordering::SeqCst);
         }
     }
 
@@ -79,6 +81,7 @@ impl<H: Clock + Wait> Log for NoteSink<H> {
 pub struct NoteWriter {
     /// It is disconnected once the thread has ended.
     ended: Receiver<(), Global>,
+    all_dropped: Arc<AtomicU64, Global>,
 }
 
 impl NoteWriter {
@@ -91,6 +94,7 @@ impl NoteWriter {
         let (lines, queue) = crossbeam_channel::bounded(alloc, LINES).ok()?;
         let (end, ended) = crossbeam_channel::bounded::<(), Global>(alloc, 1).ok()?;
         let dropped = Arc::new(alloc, AtomicU64::new(0)).ok()?;
+        let all_dropped = Arc::new(alloc, AtomicU64::new(0)).ok()?;
         let writing = Writing {
             rt,
             alloc,
@@ -107,8 +111,14 @@ impl NoteWriter {
             style,
             lines,
             dropped,
+            all_dropped: Arc::try_clone(&all_dropped).ok()?,
         };
-        Some((sink, NoteWriter { ended }))
+        Some((sink, NoteWriter { ended, all_dropped }))
+    }
+
+    /// The number of notes that were dropped since the thread began, as it goes on.
+    pub fn dropped(&self) -> Result<Arc<AtomicU64, Global>, AllocError> {
+        Arc::try_clone(&self.all_dropped)
     }
 
     /// Waits until the lines that the sink was given are written, for one second at most. The sink has to be

@@ -4,14 +4,16 @@ ghost use Rattle.std.specs.Net.Socket.{socket_ip};
 ghost use Rattle.std.specs.Prelude.{◌≡◌, ◌<◌, ◌≤◌, ◌+◌, ◌-◌, ◌^◌, ◌++◌, ◌∷◌, [], IsTrue, IsFalse, IfSome};
 ghost use Rattle.std.specs.Prelude.{◌≢◌, All, IfNone, vec_items, vec_len, vec_capacity};
 ghost use Rattle.tn_serve.specs.Counted.{HasEnded, StillCounts, facts_of, server_of};
-ghost use Rattle.tn_serve.specs.Places.{HasNoPlace, count_at, count_from, is_same};
+ghost use Rattle.tn_serve.specs.Places.{HasNoPlace, count_at, count_from, host_of, is_same};
 ghost use Rattle.tn_serve.specs.Turns.{IsOneEnd, IsOneMore, live_of};
 ghost use Rattle.tn_roster.specs.Held.{Enters};
 
 use crate::asked::Asked;
 use crate::caller::Caller;
 use crate::conversed::Ran;
+use crate::draining::Due;
 use crate::finished::Finished;
+use crate::hosts::host_of;
 use crate::served::Served;
 use crate::session::SessionSays;
 use crate::traffic::Noted;
@@ -54,20 +56,20 @@ impl<M: Maker, O: Asked<M>> Started<M, O> {
         }
     }
 
-    fn is_from(&self, address: &IpAddr) -> bool
-        ensures { result ≡ is_same (socket_ip self.now.caller.peer) address.now }
+    fn is_from(&self, host: &IpAddr) -> bool
+        ensures { result ≡ is_same (host_of (socket_ip self.now.caller.peer)) host.now }
     {
-        self.caller.peer.ip() == *address
+        host_of(self.caller.peer.ip()) == *host
     }
 }
 
-// How many of these sessions are from this address.
-fn count_of<M: Maker, O: Asked<M>>(started: &[Started<M, O>], address: &IpAddr) -> usize
-    ensures { result ≡ count_at (λ s. s.caller.peer) address.now started.now }
+// How many of these sessions are from this host.
+fn count_of<M: Maker, O: Asked<M>>(started: &[Started<M, O>], host: &IpAddr) -> usize
+    ensures { result ≡ count_at (λ s. s.caller.peer) host.now started.now }
 {
     let mut count = 0usize;
     for one in started {
-        if one.is_from(address) {
+        if one.is_from(host) {
             count += 1;
         }
     }
@@ -142,12 +144,12 @@ impl<J: Job, M: Maker<Job = J>, O: Asked<M>> Running<J, M, O> {
         Some(self.started[place].caller)
     }
 
-    // How many sessions are from the address of this peer.
+    // How many sessions are from the host of this peer.
     fn count_from(&self, peer: &SocketAddr) -> usize
         ensures { result ≡ count_from (λ s. s.caller.peer) peer.now
             (vec_items self.now.started) }
     {
-        count_of(&self.started, &peer.ip())
+        count_of(&self.started, &host_of(peer.ip()))
     }
 
     /// Takes in a session with this peer, and gives its number, if there is a place for it. What the roster
@@ -174,6 +176,18 @@ impl<J: Job, M: Maker<Job = J>, O: Asked<M>> Running<J, M, O> {
         match entered {
             Ok(number) => Some(number),
             Err(_) => None,
+        }
+    }
+
+    /// Does what is due for the sessions that run.
+    pub(crate) fn end_by(&self, due: Due) {
+        for one in &self.started {
+            let standing = &one.noted.standing;
+            match due {
+                Due::Nothing => {},
+                Due::Close => standing.close(),
+                Due::Cut => standing.cut(),
+            }
         }
     }
 

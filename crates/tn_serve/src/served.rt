@@ -3,7 +3,7 @@
 ghost use Rattle.std.specs.Prelude.{◌≡◌, ◌+◌};
 
 /// What became of the accepted connections. Only serving makes such a value.
-#[derive(Clone, Copy, Debug, PartialEq, Eq)]
+#[derive(Clone, Copy, PartialEq, Eq)]
 pub struct Served {
     pub(crate) accepted: u64,
     pub(crate) whole: u64,

@@ -17,6 +17,7 @@ use crate::acceptor::{Accepted, Acceptor, AcceptorSays};
 use crate::asked::Asked;
 use crate::call::{Call, Notes};
 use crate::caller::Caller;
+use crate::draining::Drain;
 use crate::events::Event;
 use crate::fault::ServeFault;
 use crate::finished::Finished;
@@ -49,7 +50,8 @@ const EVENTS: usize = 16;
 /// Serves an address, or a name that has one, until so many connections were accepted, or `until` tells that
 /// no more are to come, and all their sessions have ended. Each connection has a session in threads of its
 /// own, with the jobs that the service makes for it, as long as there are no more of them, and no more from
-/// its address, than there may be; one more is told `full` and closed. `log` gets a record of each event: a
+/// its host, than there may be; one more is told `full` and closed. Once `until` says so, sessions have
+/// `serving.drain` seconds to end; then their last words are `closing`. `log` gets a record of each event: a
 /// warning for a session that ends in a fault, after an error `tn: session`. If it cannot listen, `causes` gets
 /// a line. Each session runs as `serve_connection` runs one; the clauses below count them,
 /// and say what the network was asked for. None makes it ask `until`. It takes eight, since what is lent and
@@ -149,7 +151,8 @@ fn serve_as<
     if let Ok(address) = listener.local_addr() {
         note_texts::listening(log, &address);
     }
-    let acceptor = accepting(rt, listener, &sender, until, count)?;
+    let (serves, over) = crossbeam_channel::bounded(alloc, 1)?;
+    let acceptor = accepting(rt, listener, &sender, over, until, &serving)?;
     let mut open: Open<H, V, O> = Open {
         rt,
         alloc,
@@ -164,6 +167,7 @@ fn serve_as<
     let served = open.run(&receiver, log);
     drop(open);
     drop(receiver);
+    drop(serves);
     let accepted = acceptor.join(&rt);
     agreed(served, accepted, count)
 }
@@ -173,8 +177,9 @@ fn accepting<H: Host + Network, U: Until + Drop + Send + 'static>(
     rt: H,
     listener: &TcpListener,
     events: &Sender<Event, Global>,
+    over: Receiver<(), Global>,
     until: U,
-    count: u64,
+    serving: &Serving,
 ) -> Result<PromisedHandle<Accepted, AcceptorSays<H, U>>, ServeFault>
     ensures rt { IfOk result (λ handle. handle.promise.rt.value ≡ rt) }
     ensures shares { IfOk result (λ handle. H.shares rt listener.now (Ok handle.promise.listener.value)) }
@@ -185,7 +190,9 @@ fn accepting<H: Host + Network, U: Until + Drop + Send + 'static>(
         rt,
         listener: rt.share(listener)?,
         events: events.clone()?,
-        count,
+        over,
+        count: serving.count,
+        is_proxied: serving.is_proxied,
         until,
     };
     match acceptor.start() {
@@ -280,11 +287,13 @@ impl<H: Host + Network, V: Service, O: Asked<V::Jobs>> Open<H, V, O> {
             (live_of (vec_items self.new.running.started) (λ s. s.caller.number)) }
     {
         let rt = self.rt;
+        let mut drain = Drain::new(self.serving.drain);
         for _ in rt.forever() {
             if self.is_done() {
                 return;
             }
-            let time = self.turned_away.close(&rt);
+            self.running.end_by(drain.next(&rt, self.is_closed));
+            let time = drain.time().or(self.turned_away.close(&rt));
             let Some(event) = next_event(&rt, events, time) else {
                 return;
             };
@@ -324,6 +333,8 @@ impl<H: Host + Network, V: Service, O: Asked<V::Jobs>> Open<H, V, O> {
             Event::Came(stream, peer) => return self.admit(stream, &peer, log),
             Event::Ended(number) => return self.end(number, log),
             Event::Starved(error) => return note_texts::starved(log, &error),
+            Event::Refused(peer, error) => return note_texts::full_by(log, &peer, &error),
+            Event::Unproxied(peer) => return note_texts::unproxied(log, &peer),
             Event::Cut(number, bytes) => return self.tell_cut(number, bytes, log),
             Event::Quiet => return,
             Event::Closed => {},
@@ -479,6 +490,7 @@ impl<H: Host + Network, V: Service, O: Asked<V::Jobs>> Open<H, V, O> {
                 caller,
                 finished: &Finished::unstarted(),
                 causes: b"",
+                is_closing: false,
                 lasted: caller.lasted(&self.rt),
                 passed: Passed::nothing(),
             },
@@ -594,6 +606,7 @@ impl<H: Host + Network, V: Service, O: Asked<V::Jobs>> Open<H, V, O> {
                 caller: &left.caller,
                 finished: &left.finished,
                 causes: standing.unreached().unwrap_or(b""),
+                is_closing: standing.is_closing(),
                 lasted: left.caller.lasted(&self.rt),
                 passed: traffic.passed(),
             },

@@ -7,8 +7,8 @@ use Rattle.tn_discipline.specs.declared.reads.Sig.TheVariants.{Int, Quit, Tstp}
 use Rattle.tn_streams.proofs.lemmas.Writing.{kept_appends, keeps_on, keeps_same, writes_more, stops_more, tells_more}
 use Rattle.tn_services.specs.Joining.{Reacts}
 use Rattle.tn_services.specs.Cutting.{is_ending}
-use Rattle.tn_services.specs.Sending.{Goes, GoesLine, WritesNothing, way_after}
-use Rattle.tn_services.specs.Talks.{SendsAll, SendsTalk, due, due_from, goes_well}
+use Rattle.tn_services.specs.Sending.{Goes, GoesKey, GoesLine, WritesNothing, way_after}
+use Rattle.tn_services.specs.Talks.{SendsAll, SendsTalk, due, due_from, due_key, goes_well}
 use Rattle.tn_services.specs.declared.cutting.LineFormat.{LineFormat}
 use Rattle.tn_services.specs.declared.joining.Gateway.{Gateway}
 use Rattle.tn_services.specs.declared.joining.Gateway.TheVariants as side
@@ -138,6 +138,26 @@ open_line lines true line more before writer entries way new after (nothing, is)
 open_line lines false line more before writer entries way new after goes rest others =
     line_due lines line more before writer entries way new after goes.whole goes.wrote goes.tells goes.leaves rest others
 
+-- a key that is sent, or ends what goes to the service
+open_key : (lines : LineFormat) (sent : Bool) (byte : ℕ) (more : List ℕ) (before writer : KnownWriter) (entries : List Entry) (way new : Way) (after : KnownWriter)
+    → GoesKey sent byte Ended (between before writer) way → GoThrough lines way writer entries new after
+    → (GoThrough lines Open writer entries new after → Sent more writer after new) → Sent (due_key sent byte [] more) before after new
+open_key lines true byte more before writer entries way new after goes rest others =
+    line_due lines (byte ∷ []) more before writer entries way new after goes.whole goes.wrote goes.tells goes.leaves rest others
+open_key lines false byte more before writer entries way new after (nothing, is) rest others =
+    ends lines before writer entries way new after nothing is rest
+
+-- a stop that is sent, or does nothing
+open_stop : (lines : LineFormat) (sent : Bool) (byte : ℕ) (more : List ℕ) (before writer : KnownWriter) (entries : List Entry) (way new : Way) (after : KnownWriter)
+    → GoesKey sent byte Open (between before writer) way → GoThrough lines way writer entries new after
+    → (GoThrough lines Open writer entries new after → Sent more writer after new) → Sent (due_key sent byte more more) before after new
+open_stop lines true byte more before writer entries way new after goes rest others =
+    line_due lines (byte ∷ []) more before writer entries way new after goes.whole goes.wrote goes.tells goes.leaves rest others
+open_stop lines false byte more before writer entries way new after (nothing, is) rest others =
+    let Q : Way → Type 0 = λ w. GoThrough lines w writer entries new after in
+    let both = kept before writer nothing in
+    goes_on [] more before writer after new both.0 both.1 (others (subst Q is rest))
+
 pub all_due : (lines : LineFormat) (before : KnownWriter) (entries : List Entry) (new : Way) (after : KnownWriter) →
     GoThrough lines Open before entries new after
     → Sent (due lines entries) before after new
@@ -149,16 +169,13 @@ all_due lines before (Text line ∷ entries) new after (way, writer, goes, rest)
     open_line lines (is_ending lines line) (line_said lines.line_end line) (due lines entries) before writer entries way new after goes rest
     (all_due lines writer entries new after)
 all_due lines before (Eof ∷ entries) new after (way, writer, goes, rest) =
-    ends lines before writer entries way new after goes.0 goes.1 rest
+    open_key lines lines.sends_signals 4 (due lines entries) before writer entries way new after goes rest (all_due lines writer entries new after)
 all_due lines before (Signal Int ∷ entries) new after (way, writer, goes, rest) =
-    ends lines before writer entries way new after goes.0 goes.1 rest
+    open_key lines lines.sends_signals 3 (due lines entries) before writer entries way new after goes rest (all_due lines writer entries new after)
 all_due lines before (Signal Quit ∷ entries) new after (way, writer, goes, rest) =
-    ends lines before writer entries way new after goes.0 goes.1 rest
+    open_key lines lines.sends_signals 28 (due lines entries) before writer entries way new after goes rest (all_due lines writer entries new after)
 all_due lines before (Signal Tstp ∷ entries) new after (way, writer, goes, rest) =
-    let Q : Way → Type 0 = λ w. GoThrough lines w writer entries new after in
-    let both = kept before writer goes.0 in
-    goes_on [] (due lines entries) before writer after new both.0 both.1
-    (all_due lines writer entries new after (subst Q goes.1 rest))
+    open_stop lines lines.sends_signals 26 (due lines entries) before writer entries way new after goes rest (all_due lines writer entries new after)
 
 -- THE TALK OF THE JOB
 

@@ -1,5 +1,5 @@
 -- What the job in the foreground sends to the service at an entry, and what it tells the user.
-use Rattle.std.specs.Prelude.{◌≡◌, ◌≢◌, ℕ, Bool, true, false, Option, List, [], codes}
+use Rattle.std.specs.Prelude.{◌≡◌, ◌≢◌, ℕ, Bool, true, false, if◌then◌else◌, Option, List, [], ◌∷◌, codes}
 use Rattle.std.specs.Io.KnownBytes.{Keeps}
 use Rattle.tn_discipline.specs.declared.reads.Entry.{Entry}
 use Rattle.tn_discipline.specs.declared.reads.Entry.TheVariants.{Text, Eof, Signal}
@@ -28,14 +28,24 @@ abbrev pub line_answer : Bool → Reaction
 line_answer true = say (codes "line cut\n") Done
 line_answer false = silent Stay
 
+-- whether signals and the end of file go to the service
+abbrev pub is_sent : LineFormat → Way → Bool
+is_sent lines Open = lines.sends_signals
+is_sent lines Ended = false
+is_sent lines Broken = false
+
+-- to an interrupt or a quit that is sent, or not
+abbrev pub kill_answer : Bool → Reaction
+kill_answer sent = silent (if sent then Stay else Done)
+
 -- The user is told only that a line behind the end of file goes nowhere, and of one that ends the session.
 abbrev pub answer : LineFormat → Way → Entry → Reaction
 answer lines Open (Text line) = line_answer (is_ending lines line)
 answer lines Ended (Text line) = say (codes "closed\n") Stay
 answer lines Broken (Text line) = silent Stay
 answer lines way Eof = silent Stay
-answer lines way (Signal Int) = silent Done
-answer lines way (Signal Quit) = silent Done
+answer lines way (Signal Int) = kill_answer (is_sent lines way)
+answer lines way (Signal Quit) = kill_answer (is_sent lines way)
 answer lines way (Signal Tstp) = silent Stay
 
 -- the way to the service once it is ended
@@ -65,16 +75,22 @@ abbrev pub GoesLine : Bool → List ℕ → KnownWriting → Way → Type 0
 GoesLine true bytes writer new = WritesNothing writer × (new ≡ Ended)
 GoesLine false bytes writer new = WritesBytes bytes writer new
 
--- what goes to the service at an entry, and how the way there stands before and after it
+-- what goes to the service of a key that is sent or not, and how the way stands after it if not
+abbrev pub GoesKey : Bool → ℕ → Way → KnownWriting → Way → Type 0
+GoesKey true byte way writer new = WritesBytes (byte ∷ []) writer new
+GoesKey false byte way writer new = WritesNothing writer × (new ≡ way)
+
+-- what goes to the service at an entry, and how the way there stands before and after it: the keys are ^D,
+-- ^C, ^\ and ^Z
 abbrev pub Goes : LineFormat → Way → Entry → KnownWriting → Way → Type 0
 Goes lines Open (Text line) writer new =
     GoesLine (is_ending lines line) (line_said lines.line_end line) writer new
 Goes lines Ended (Text line) writer new = WritesNothing writer × (new ≡ Ended)
 Goes lines Broken (Text line) writer new = WritesNothing writer × (new ≡ Broken)
-Goes lines old Eof writer new = WritesNothing writer × (new ≡ ended old)
-Goes lines old (Signal Int) writer new = WritesNothing writer × (new ≡ ended old)
-Goes lines old (Signal Quit) writer new = WritesNothing writer × (new ≡ ended old)
-Goes lines old (Signal Tstp) writer new = WritesNothing writer × (new ≡ old)
+Goes lines old Eof writer new = GoesKey (is_sent lines old) 4 (ended old) writer new
+Goes lines old (Signal Int) writer new = GoesKey (is_sent lines old) 3 (ended old) writer new
+Goes lines old (Signal Quit) writer new = GoesKey (is_sent lines old) 28 (ended old) writer new
+Goes lines old (Signal Tstp) writer new = GoesKey (is_sent lines old) 26 old writer new
 
 -- one entry was answered, with a writer of which this is known
 pub record SendsEntry {W : Type 0} (contents : W → Option (List ℕ)) (told : W → Option Calls)

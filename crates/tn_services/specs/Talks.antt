@@ -30,16 +30,21 @@ abbrev pub due_from : Bool → List ℕ → List ℕ → List ℕ
 due_from true bytes more = []
 due_from false bytes more = bytes ++ more
 
+-- a key that is sent, and what is due after it; or what is due if it is not
+abbrev pub due_key : Bool → ℕ → List ℕ → List ℕ → List ℕ
+due_key true byte else_due more = byte ∷ more
+due_key false byte else_due more = else_due
+
 -- what is due to the service: each line once, in order, up to the end of file, an interrupt or a quit, or to
--- a line that ends the session
+-- a line that ends the session; but if signals are sent, these and a stop are keys
 abbrev pub due : LineFormat → List Entry → List ℕ
 due lines [] = []
 due lines (Text line ∷ entries) =
     due_from (is_ending lines line) (line_said lines.line_end line) (due lines entries)
-due lines (Signal Tstp ∷ entries) = due lines entries
-due lines (Signal Int ∷ entries) = []
-due lines (Signal Quit ∷ entries) = []
-due lines (Eof ∷ entries) = []
+due lines (Signal Tstp ∷ entries) = due_key lines.sends_signals 26 (due lines entries) (due lines entries)
+due lines (Signal Int ∷ entries) = due_key lines.sends_signals 3 [] (due lines entries)
+due lines (Signal Quit ∷ entries) = due_key lines.sends_signals 28 [] (due lines entries)
+due lines (Eof ∷ entries) = due_key lines.sends_signals 4 [] (due lines entries)
 
 -- no write has failed
 abbrev pub goes_well : Way → Bool

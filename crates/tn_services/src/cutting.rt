@@ -13,7 +13,7 @@ pub trait HearsCut {
 }
 
 /// How lines go to a service.
-#[derive(Clone, Copy, Debug, PartialEq, Eq)]
+#[derive(Clone, Copy, PartialEq, Eq)]
 pub struct LineFormat {
     /// What ends each of them there.
     pub line_end: LineEnd,
@@ -21,6 +21,9 @@ pub struct LineFormat {
     pub limit: Limit,
     /// Whether one that may have been cut ends the session, in place of going to the service.
     pub ends_cut: bool,
+    /// Whether signals and the end of file go to the service as the bytes of ^C, ^\, ^Z and ^D, and do nothing
+    /// else.
+    pub sends_signals: bool,
 }
 
 impl LineFormat {

@@ -40,6 +40,9 @@ const SOON: u64 = 20;
 /// What a user is told in place of what the service says.
 const UNREACHED: &[u8] = b"the service cannot be reached\n";
 
+/// A connection is waited for as long as the system waits.
+const AS_THE_SYSTEM: u32 = 0;
+
 /// A stream of which each read waits for a time that can be set.
 pub trait Pacing {
     fn wait_at_most(&self, milliseconds: u64);
@@ -112,6 +115,7 @@ impl<H: Copy + Network + Wait, N: Drop> Joiner<H, N> {
             &self.rt,
             self.host.as_str(),
             self.port,
+            AS_THE_SYSTEM,
             &mut Unheard,
             &mut causes,
         ) {

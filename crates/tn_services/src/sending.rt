@@ -1,8 +1,8 @@
 //! The job in the foreground: each line that the user enters goes to the service.
 
-ghost use Rattle.std.specs.Prelude.{◌≡◌, IfErr, IfOk, OnOk};
-ghost use Rattle.tn_services.specs.Sending.{SendsEntry, WantsMemory, WritesBytes, WritesNothing, ended, say};
-ghost use Rattle.tn_services.specs.Sending.{silent, way_after};
+ghost use Rattle.std.specs.Prelude.{◌≡◌, [], ◌∷◌, IfErr, IfOk, OnOk};
+ghost use Rattle.tn_services.specs.Sending.{GoesKey, SendsEntry, WantsMemory, WritesBytes, WritesNothing, ended};
+ghost use Rattle.tn_services.specs.Sending.{is_sent, kill_answer, say, silent, way_after};
 ghost use Rattle.tn_lines.specs.LineEnds.{line_said};
 ghost use Rattle.tn_streams.specs.Known.{known_writing};
 
@@ -14,8 +14,17 @@ use tn_jobs::{After, Reaction};
 use tn_session::Finish;
 use tn_streams::write_all;
 
+/// The keys of signals and of the end of file at a terminal with standard settings.
+const INTERRUPT: u8 = 3;
+
+const QUIT: u8 = 28;
+
+const STOP: u8 = 26;
+
+const END_OF_FILE: u8 = 4;
+
 /// Whether lines still go to the service.
-#[derive(Clone, Copy, Debug, PartialEq, Eq)]
+#[derive(Clone, Copy, PartialEq, Eq)]
 pub enum Way {
     Open,
     /// The user ended it.
@@ -33,9 +42,10 @@ pub struct SendingLines<W> {
 }
 
 impl<W: Finish + HearsCut> SendingLines<W> {
-    /// Answers an entry: a line goes to the service, or ends the session where it may have been cut and that
-    /// is wanted, the end of file ends what goes there, an interrupt and a quit end the session too, and a
-    /// stop does nothing. Out of memory nothing is sent.
+    /// Answers an entry: a line goes to the service, or ends the session if it may have been cut and that is
+    /// wanted. The end of file ends what goes there, an interrupt and a quit end the session too, and a stop
+    /// does nothing; but if signals are to be sent, each of these goes to the service as a byte. Out of memory
+    /// nothing is sent.
     pub(crate) fn answer(&mut self, alloc: Global, entry: Entry) -> Result<Reaction, AllocError>
         ensures answers { IfOk result (λ reaction.
             SendsEntry W.contents W.told self.old entry reaction self.new) }
@@ -44,15 +54,66 @@ impl<W: Finish + HearsCut> SendingLines<W> {
         match entry {
             Entry::Text(line) => self.answer_line(alloc, line),
             Entry::Eof => {
-                self.end();
+                let _sent = self.send_or_end(END_OF_FILE);
                 Ok(silent(alloc, After::Stay))
             },
-            Entry::Signal(Sig::Int | Sig::Quit) => {
-                self.end();
-                Ok(silent(alloc, After::Done))
+            Entry::Signal(Sig::Int) => Ok(self.answer_kill(alloc, INTERRUPT)),
+            Entry::Signal(Sig::Quit) => Ok(self.answer_kill(alloc, QUIT)),
+            Entry::Signal(Sig::Tstp) => {
+                if self.is_sent() {
+                    self.send_key(STOP);
+                }
+                Ok(silent(alloc, After::Stay))
             },
-            Entry::Signal(Sig::Tstp) => Ok(silent(alloc, After::Stay)),
         }
+    }
+
+    // Whether signals go to the service.
+    fn is_sent(&self) -> bool
+        ensures { result ≡ is_sent self.now.lines self.now.way }
+    {
+        match self.way {
+            Way::Open => self.lines.sends_signals,
+            Way::Ended | Way::Broken => false,
+        }
+    }
+
+    // Ends the session, unless the byte of this signal goes to the service.
+    fn answer_kill(&mut self, alloc: Global, byte: u8) -> Reaction
+        ensures says { result ≡ kill_answer (is_sent self.old.lines self.old.way) }
+        ensures goes { GoesKey (is_sent self.old.lines self.old.way) byte (ended self.old.way)
+            (known_writing W.contents W.told self.old.writer self.new.writer) self.new.way }
+        ensures lines { self.new.lines ≡ self.old.lines }
+    {
+        if self.send_or_end(byte) {
+            return silent(alloc, After::Stay);
+        }
+        silent(alloc, After::Done)
+    }
+
+    // Sends the byte of a key, or ends what goes to the service. Whether it was sent.
+    fn send_or_end(&mut self, byte: u8) -> bool
+        ensures sent { result ≡ is_sent self.old.lines self.old.way }
+        ensures goes { GoesKey (is_sent self.old.lines self.old.way) byte (ended self.old.way)
+            (known_writing W.contents W.told self.old.writer self.new.writer) self.new.way }
+        ensures lines { self.new.lines ≡ self.old.lines }
+    {
+        if self.is_sent() {
+            self.send_key(byte);
+            return true;
+        }
+        self.end();
+        false
+    }
+
+    // Sends the byte of a key.
+    fn send_key(&mut self, byte: u8)
+        ensures sent { WritesBytes (byte ∷ [])
+            (known_writing W.contents W.told self.old.writer self.new.writer) self.new.way }
+        ensures lines { self.new.lines ≡ self.old.lines }
+    {
+        let whole = write_all(&mut self.writer, &[byte]);
+        self.way = way_after(whole);
     }
 
     fn answer_line(&mut self, alloc: Global, line: Text) -> Result<Reaction, AllocError>

@@ -18,8 +18,13 @@ kept_only old new escaping asked telling kept left given same gives = record {
   taken = (omega arith, inl refl);
   inputs = gives ∙ ap (λ (xs : List SessionInput). handed_on [] asked ++ xs) (sym (append-nil kept));
   keyboard = refl;
-  waits = refl;
+  prompt = refl;
 }
+
+-- what was kept is the same list
+pub kept_as : (old new : Option (List ℕ)) (was now : Escaping) (asked telling : Option Control) (kept same left : List SessionInput) (given : List ℕ)
+    → same ≡ kept → GivesInputs old new was now asked same given telling left → GivesInputs old new was now asked kept given telling left
+kept_as old new was now asked telling kept same left given is gives = subst (λ (l : List SessionInput). GivesInputs old new was now asked l given telling left) is gives
 
 -- what was read is given then
 pub given_then : (old new : Option (List ℕ)) (was now : Escaping) (asked middle telling : Option Control) (kept mid left : List SessionInput) (given : List ℕ)
@@ -32,7 +37,7 @@ given_then old new was now asked middle telling kept mid left given read gives =
   taken = read.taken;
   inputs = gives ∙ read.inputs;
   keyboard = read.keyboard;
-  waits = read.waits;
+  prompt = read.prompt;
 }
 
 -- the same, where the reader and the escape character stay as they are

@@ -1,12 +1,13 @@
 -- Bytes that are taken one by one give what stands among them.
-use Rattle.std.proofs.Common.{◌≡◌, ◌<◌, ◌+◌, ℕ, Bool, true, false, if◌then◌else◌, nat_eq, Option, None, Some, List, [], ◌∷◌, ◌++◌, length, map, take, refl, sym}
-use Rattle.std.proofs.Common.{ap, ◌∙◌, subst, append_assoc, append-nil}
+use Rattle.std.proofs.Common.{◌≡◌, ◌<◌, ◌+◌, ◌==◌, ℕ, Bool, true, false, if◌then◌else◌, IsTrue, codes, Option, None, Some, List, [], ◌∷◌, ◌++◌, length, map, take, refl, sym}
+use Rattle.std.proofs.Common.{ap, ◌∙◌, subst, append_assoc, append-nil, arith}
 use Rattle.std.proofs.Math.ListN.{get_or}
 use Rattle.std.proofs.lemmas.List.{map-append, take_more}
 use Rattle.tn_discipline.specs.Characters.{is_reserved}
 use Rattle.tn_sockets.specs.Mapping.{mapped, none_own}
-use Rattle.tn_sockets.specs.Typing.{AreTaken, Obeys, command, command_in, commands, input_in, inputs, inputs_in, is_escape, mapped_input, meant, of_bytes}
-use Rattle.tn_sockets.specs.Typing.{typed_after, unmapped, waits_after, waits_behind}
+use Rattle.tn_sockets.specs.Prompting.{closed, edit_of}
+use Rattle.tn_sockets.specs.Typing.{AreTaken, Obeys, command, command_in, commands, input_in, inputs, inputs_in, is_escape, is_one, mapped_input, of_bytes}
+use Rattle.tn_sockets.specs.Typing.{prompt_after, prompt_behind, prompt_when, typed_after, typed_again, typed_by, typed_when, unmapped}
 use Rattle.tn_sockets.specs.declared.escaping.EscapeCommand.{EscapeCommand}
 use Rattle.tn_sockets.specs.declared.escaping.Escaping.{Escaping}
 use Rattle.tn_sockets.specs.declared.escaping.SessionInput.{SessionInput}
@@ -14,6 +15,9 @@ use Rattle.tn_sockets.specs.declared.escaping.SessionInput.TheVariants as input
 use Rattle.tn_sockets.specs.declared.escaping.Keyboard.{Keyboard}
 use Rattle.tn_sockets.specs.declared.escaping.Typed.{Typed}
 use Rattle.tn_sockets.specs.declared.escaping.Typed.TheVariants as typed
+use Rattle.tn_sockets.specs.declared.prompt.Edit.{Edit}
+use Rattle.tn_sockets.specs.declared.prompt.Edit.TheVariants.{Enter, Leave, Erase, Kill, Add, Skip, Refuse}
+use Rattle.tn_sockets.specs.declared.prompt.Prompt.{Prompt}
 use Rattle.tn_streams.specs.declared.control.Control.TheVariants.{Brk, Ip, Ayt}
 
 -- where no character is the user's own, each byte stays
@@ -23,7 +27,7 @@ none_mapped byte = same_either (is_reserved byte) byte where
   same_either true n = refl
   same_either false n = refl
 
-pub every : (bytes : List ℕ) → inputs of_bytes false bytes ≡ map input.Key bytes
+pub every : (bytes : List ℕ) → inputs of_bytes closed bytes ≡ map input.Key bytes
 every [] = refl
 every (byte ∷ bytes) = λ i. input.Key (none_mapped byte i) ∷ every bytes i
 
@@ -45,140 +49,219 @@ module _ (keyboard : Keyboard) where
       ap (λ (n : ℕ). input.Key n ∷ []) (plain (is_escape keyboard.escape byte) byte (mapped keyboard.own byte) is
       ∙ ap (λ (n : ℕ). if is_escape keyboard.escape n then n else mapped keyboard.own n) (sym (none_mapped byte)))
 
-  no_key : (b c d : Bool) (command : EscapeCommand) → input_in (if b then typed.Control Brk else if c then typed.Control Ip else if d then typed.Control Ayt
-      else typed.Command command)
-      ≡ map (mapped_input keyboard) (input_in (if b then typed.Control Brk else if c then typed.Control Ip else if d then typed.Control Ayt
-      else typed.Command command))
-  no_key true c d command = refl
-  no_key false true d command = refl
-  no_key false false true command = refl
-  no_key false false false command = refl
+  -- what a line means is no key
+  no_key : (b c d e : Bool) (command : EscapeCommand) → input_in (if b then typed.Nothing else if c then typed.Control Brk else if d then typed.Control Ip
+      else if e then typed.Control Ayt else typed.Command command)
+      ≡ map (mapped_input keyboard) (input_in (if b then typed.Nothing else if c then typed.Control Brk else if d then typed.Control Ip
+      else if e then typed.Control Ayt else typed.Command command))
+  no_key true c d e command = refl
+  no_key false true d e command = refl
+  no_key false false true e command = refl
+  no_key false false false true command = refl
+  no_key false false false false command = refl
 
-  from_meant : (b : Bool) (byte : ℕ) → is_escape keyboard.escape byte ≡ b
-      → input_in (if b then typed.Key byte else meant byte) ≡ map (mapped_input keyboard) (input_in (if b then typed.Key byte else meant byte))
-  from_meant true byte is = ap (λ (n : ℕ). input.Key n ∷ []) (held (is_escape keyboard.escape byte) byte (mapped keyboard.own byte) is)
-  from_meant false byte is = no_key (nat_eq byte 98) (nat_eq byte 105) (nat_eq byte 97) (command byte)
+  from_edit : (edit : Edit) (line : List ℕ) → input_in (typed_by edit line) ≡ map (mapped_input keyboard) (input_in (typed_by edit line))
+  from_edit Enter line = no_key (length line == 0) (is_one line (codes "b") (codes "send brk")) (is_one line (codes "i") (codes "send ip"))
+      (is_one line (codes "a") (codes "send ayt")) (command line)
+  from_edit Leave line = refl
+  from_edit Erase line = refl
+  from_edit Kill line = refl
+  from_edit Add line = refl
+  from_edit (Skip s) line = refl
+  from_edit Refuse line = refl
 
-  is_mapped : (waits : Bool) (byte : ℕ) → input_in (typed_after keyboard waits byte)
-      ≡ map (mapped_input keyboard) (input_in (typed_after (unmapped keyboard) waits byte))
-  is_mapped false byte = from_key (is_escape keyboard.escape byte) byte refl
-  is_mapped true byte = from_meant (is_escape keyboard.escape byte) byte refl
+  again : (b : Bool) (byte : ℕ) → is_escape keyboard.escape byte ≡ true
+      → input_in (if b then typed.Key byte else typed.Nothing) ≡ map (mapped_input keyboard) (input_in (if b then typed.Key byte else typed.Nothing))
+  again true byte is = ap (λ (n : ℕ). input.Key n ∷ []) (held (is_escape keyboard.escape byte) byte (mapped keyboard.own byte) is)
+  again false byte is = refl
 
-pub all_mapped : (keyboard : Keyboard) (waits : Bool) (bytes : List ℕ)
-    → inputs keyboard waits bytes ≡ map (mapped_input keyboard) (inputs (unmapped keyboard) waits bytes)
-all_mapped keyboard waits [] = refl
-all_mapped keyboard false (byte ∷ bytes) =
-    let next = waits_after keyboard false byte in
-    let first = input_in (typed_after (unmapped keyboard) false byte) in
-    (λ i. is_mapped keyboard false byte i ++ all_mapped keyboard next bytes i)
+  from_line : (b : Bool) (edit : Edit) (line : List ℕ) (byte : ℕ) → is_escape keyboard.escape byte ≡ b
+      → input_in (if b then typed_again line byte else typed_by edit line)
+      ≡ map (mapped_input keyboard) (input_in (if b then typed_again line byte else typed_by edit line))
+  from_line true edit line byte is = again (length line == 0) byte is
+  from_line false edit line byte is = from_edit edit line
+
+  is_mapped : (opens : Bool) (prompt : Prompt) (byte : ℕ) → input_in (typed_when opens keyboard prompt byte)
+      ≡ map (mapped_input keyboard) (input_in (typed_when opens (unmapped keyboard) prompt byte))
+  is_mapped false prompt byte = from_key (is_escape keyboard.escape byte) byte refl
+  is_mapped true prompt byte =
+      from_line (is_escape keyboard.escape byte) (edit_of keyboard.editing prompt.sequence byte) prompt.line byte refl
+
+  -- the line behind a byte is the same
+  same_prompt : (opens : Bool) (prompt : Prompt) (byte : ℕ) → prompt_when opens keyboard prompt byte ≡ prompt_when opens (unmapped keyboard) prompt byte
+  same_prompt false prompt byte = refl
+  same_prompt true prompt byte = refl
+
+  same_command : (opens : Bool) (prompt : Prompt) (byte : ℕ) → command_in (typed_when opens keyboard prompt byte)
+      ≡ command_in (typed_when opens (unmapped keyboard) prompt byte)
+  same_command false prompt byte = from (is_escape keyboard.escape byte) where
+    from : (b : Bool) → command_in (if b then typed.Nothing else typed.Key (mapped keyboard.own byte))
+        ≡ command_in (if b then typed.Nothing else typed.Key (mapped none_own byte))
+    from true = refl
+    from false = refl
+  same_command true prompt byte = refl
+
+pub all_mapped : (keyboard : Keyboard) (prompt : Prompt) (bytes : List ℕ)
+    → inputs keyboard prompt bytes ≡ map (mapped_input keyboard) (inputs (unmapped keyboard) prompt bytes)
+all_mapped keyboard prompt [] = refl
+all_mapped keyboard prompt (byte ∷ bytes) =
+    let next = prompt_after keyboard prompt byte in
+    let first = input_in (typed_after (unmapped keyboard) prompt byte) in
+    (λ i. is_mapped keyboard prompt.is_open prompt byte i ++ all_mapped keyboard next bytes i)
     ∙ sym (map-append (mapped_input keyboard) first (inputs (unmapped keyboard) next bytes))
-all_mapped keyboard true (byte ∷ bytes) =
-    let first = input_in (typed_after (unmapped keyboard) true byte) in
-    (λ i. is_mapped keyboard true byte i ++ all_mapped keyboard false bytes i)
-    ∙ sym (map-append (mapped_input keyboard) first (inputs (unmapped keyboard) false bytes))
+    ∙ ap (λ (p : Prompt). map (mapped_input keyboard) (first ++ inputs (unmapped keyboard) p bytes)) (same_prompt keyboard prompt.is_open prompt byte)
 
-pub taken : (old new : Escaping) (bytes : List ℕ) (made : List Typed) → AreTaken old bytes made new → inputs_in made ≡ inputs old.keyboard old.waits bytes
+pub same_commands : (keyboard : Keyboard) (prompt : Prompt) (bytes : List ℕ) → commands keyboard prompt bytes ≡ commands (unmapped keyboard) prompt bytes
+same_commands keyboard prompt [] = refl
+same_commands keyboard prompt (byte ∷ bytes) =
+    (λ i. same_command keyboard prompt.is_open prompt byte i ++ same_commands keyboard (prompt_after keyboard prompt byte) bytes i)
+    ∙ ap (λ (p : Prompt). command_in (typed_after (unmapped keyboard) prompt byte) ++ commands (unmapped keyboard) p bytes)
+    (same_prompt keyboard prompt.is_open prompt byte)
+
+-- of a line no byte is a key, but the escape character on an empty one
+module _ (line : List ℕ) (byte key : ℕ) where
+  abbrev IsEscape : Bool → Type 0
+  IsEscape b = (key ≡ byte) × IsTrue b × (line ≡ [])
+
+  on_empty : (xs : List ℕ) → (if length xs == 0 then typed.Key byte else typed.Nothing) ≡ typed.Key key → (key ≡ byte) × (xs ≡ [])
+  on_empty [] is = (cc, refl)
+  on_empty (x ∷ xs) is = absurd (pick (length (x ∷ xs) == 0) (grind arith) is) where
+    pick : (b : Bool) → b ≡ false → (if b then typed.Key byte else typed.Nothing) ≡ typed.Key key → ⊥
+    pick true e h = cc
+    pick false e h = cc
+
+  meant_no_key : (b c d e : Bool) (command : EscapeCommand) → (if b then typed.Nothing else if c then typed.Control Brk else if d then typed.Control Ip
+      else if e then typed.Control Ayt else typed.Command command) ≡ typed.Key key → ⊥
+  meant_no_key true c d e command is = cc
+  meant_no_key false true d e command is = cc
+  meant_no_key false false true e command is = cc
+  meant_no_key false false false true command is = cc
+  meant_no_key false false false false command is = cc
+
+  edit_no_key : (edit : Edit) → typed_by edit line ≡ typed.Key key → ⊥
+  edit_no_key Enter is = meant_no_key (length line == 0) (is_one line (codes "b") (codes "send brk")) (is_one line (codes "i") (codes "send ip"))
+      (is_one line (codes "a") (codes "send ayt")) (command line) is
+  edit_no_key Leave is = cc
+  edit_no_key Erase is = cc
+  edit_no_key Kill is = cc
+  edit_no_key Add is = cc
+  edit_no_key (Skip s) is = cc
+  edit_no_key Refuse is = cc
+
+  key_by : (b : Bool) (edit : Edit) → (if b then typed_again line byte else typed_by edit line) ≡ typed.Key key → IsEscape b
+  key_by true edit is = let found = on_empty line is in (found.0, refl, found.1)
+  key_by false edit is = absurd (edit_no_key edit is)
+
+pub only_escape : (keyboard : Keyboard) (prompt : Prompt) (byte key : ℕ) (at : Bool) → prompt.is_open ≡ at → IsTrue at
+    → typed_when at keyboard prompt byte ≡ typed.Key key → (key ≡ byte) × IsTrue (is_escape keyboard.escape byte) × (prompt.line ≡ [])
+only_escape keyboard prompt byte key true e opens is =
+    key_by prompt.line byte key (is_escape keyboard.escape byte) (edit_of keyboard.editing prompt.sequence byte) is
+only_escape keyboard prompt byte key false e opens is = absurd (never opens) where
+  never : IsTrue false → ⊥
+  never x = cc
+
+pub taken : (old new : Escaping) (bytes : List ℕ) (made : List Typed) → AreTaken old bytes made new → inputs_in made ≡ inputs old.keyboard old.prompt bytes
 taken old new [] [] is = refl
 taken old new [] (t ∷ made) is = absurd is
 taken old new (byte ∷ bytes) [] is = absurd is
 taken old new (byte ∷ bytes) (t ∷ made) is =
-    let rest : inputs_in made ≡ inputs is.0.keyboard is.0.waits bytes = taken is.0 new bytes made is.4 in
-    let settled : inputs_in made ≡ inputs old.keyboard (waits_after old.keyboard old.waits byte) bytes =
-    rest ∙ ap (λ (k : Keyboard). inputs k is.0.waits bytes) is.2 ∙ ap (λ (w : Bool). inputs old.keyboard w bytes) is.3 in
+    let rest : inputs_in made ≡ inputs is.0.keyboard is.0.prompt bytes = taken is.0 new bytes made is.4 in
+    let settled : inputs_in made ≡ inputs old.keyboard (prompt_after old.keyboard old.prompt byte) bytes =
+    rest ∙ ap (λ (k : Keyboard). inputs k is.0.prompt bytes) is.2 ∙ ap (λ (w : Prompt). inputs old.keyboard w bytes) is.3 in
     λ i. input_in (is.1 i) ++ settled i
 
 -- ONE BYTE MORE
 module _ (keyboard : Keyboard) where
-  inputs_push : (waits : Bool) (bytes : List ℕ) (byte : ℕ) → inputs keyboard waits (bytes ++ byte ∷ []) ≡ inputs keyboard waits bytes
-      ++ input_in (typed_after keyboard (waits_behind keyboard waits bytes) byte)
-  inputs_push waits [] byte = append-nil (input_in (typed_after keyboard waits byte))
-  inputs_push waits (x ∷ bytes) byte =
-      let first = input_in (typed_after keyboard waits x) in
-      let next = waits_after keyboard waits x in
+  inputs_push : (prompt : Prompt) (bytes : List ℕ) (byte : ℕ) → inputs keyboard prompt (bytes ++ byte ∷ []) ≡ inputs keyboard prompt bytes
+      ++ input_in (typed_after keyboard (prompt_behind keyboard prompt bytes) byte)
+  inputs_push prompt [] byte = append-nil (input_in (typed_after keyboard prompt byte))
+  inputs_push prompt (x ∷ bytes) byte =
+      let first = input_in (typed_after keyboard prompt x) in
+      let next = prompt_after keyboard prompt x in
       ap (λ (xs : List SessionInput). first ++ xs) (inputs_push next bytes byte)
-      ∙ sym (append_assoc first (inputs keyboard next bytes) (input_in (typed_after keyboard (waits_behind keyboard next bytes) byte)))
+      ∙ sym (append_assoc first (inputs keyboard next bytes) (input_in (typed_after keyboard (prompt_behind keyboard next bytes) byte)))
 
-  commands_push : (waits : Bool) (bytes : List ℕ) (byte : ℕ) → commands keyboard waits (bytes ++ byte ∷ []) ≡ commands keyboard waits bytes
-      ++ command_in (typed_after keyboard (waits_behind keyboard waits bytes) byte)
-  commands_push waits [] byte = append-nil (command_in (typed_after keyboard waits byte))
-  commands_push waits (x ∷ bytes) byte =
-      let first = command_in (typed_after keyboard waits x) in
-      let next = waits_after keyboard waits x in
+  commands_push : (prompt : Prompt) (bytes : List ℕ) (byte : ℕ) → commands keyboard prompt (bytes ++ byte ∷ []) ≡ commands keyboard prompt bytes
+      ++ command_in (typed_after keyboard (prompt_behind keyboard prompt bytes) byte)
+  commands_push prompt [] byte = append-nil (command_in (typed_after keyboard prompt byte))
+  commands_push prompt (x ∷ bytes) byte =
+      let first = command_in (typed_after keyboard prompt x) in
+      let next = prompt_after keyboard prompt x in
       ap (λ (cs : List EscapeCommand). first ++ cs) (commands_push next bytes byte)
-      ∙ sym (append_assoc first (commands keyboard next bytes) (command_in (typed_after keyboard (waits_behind keyboard next bytes) byte)))
+      ∙ sym (append_assoc first (commands keyboard next bytes) (command_in (typed_after keyboard (prompt_behind keyboard next bytes) byte)))
 
-  waits_push : (waits : Bool) (bytes : List ℕ) (byte : ℕ) → waits_behind keyboard waits (bytes ++ byte ∷ [])
-      ≡ waits_after keyboard (waits_behind keyboard waits bytes) byte
-  waits_push waits [] byte = refl
-  waits_push waits (x ∷ bytes) byte = waits_push (waits_after keyboard waits x) bytes byte
+  prompt_push : (prompt : Prompt) (bytes : List ℕ) (byte : ℕ) → prompt_behind keyboard prompt (bytes ++ byte ∷ [])
+      ≡ prompt_after keyboard (prompt_behind keyboard prompt bytes) byte
+  prompt_push prompt [] byte = refl
+  prompt_push prompt (x ∷ bytes) byte = prompt_push (prompt_after keyboard prompt x) bytes byte
 
 -- commands that are obeyed
 pub obeys_none : (o : Option (List EscapeCommand)) → Obeys o [] o
 obeys_none None = refl
 obeys_none (Some l) = ap Some (sym (append-nil l))
 
-obeys_more : (a b c : Option (List EscapeCommand)) (xs ys : List EscapeCommand) → Obeys a xs b → Obeys b ys c → Obeys a (xs ++ ys) c
+pub obeys_more : (a b c : Option (List EscapeCommand)) (xs ys : List EscapeCommand) → Obeys a xs b → Obeys b ys c → Obeys a (xs ++ ys) c
 obeys_more None b c xs ys one two = subst (λ (o : Option (List EscapeCommand)). Obeys o ys c) one two
 obeys_more (Some l) b c xs ys one two = subst (λ (o : Option (List EscapeCommand)). Obeys o ys c) one two ∙ ap Some (append_assoc l xs ys)
 
 -- THE LOOP: what these first bytes gave is kept and obeyed
-module _ (keyboard : Keyboard) (waits : Bool) (given : List ℕ) where
+module _ (keyboard : Keyboard) (prompt : Prompt) (given : List ℕ) where
   pub record IsSorted (first : List SessionInput) (place : ℕ) (kept : List SessionInput) (before now : Option (List EscapeCommand))
       (escaping : Escaping) : Type 0 where
-    pub kept_are : kept ≡ first ++ inputs keyboard waits (take place given)
-    pub obeyed : Obeys before (commands keyboard waits (take place given)) now
+    pub kept_are : kept ≡ first ++ inputs keyboard prompt (take place given)
+    pub obeyed : Obeys before (commands keyboard prompt (take place given)) now
     pub keyboard_is : escaping.keyboard ≡ keyboard
-    pub waits_are : escaping.waits ≡ waits_behind keyboard waits (take place given)
+    pub prompt_is : escaping.prompt ≡ prompt_behind keyboard prompt (take place given)
 
   -- one byte more was taken
   pub one_more : (first : List SessionInput) (place d : ℕ) (kept more : List SessionInput) (before now later : Option (List EscapeCommand))
       (escaping new : Escaping)
       (typed : Typed) → IsSorted first place kept before now escaping → place < length given
-      → typed ≡ typed_after escaping.keyboard escaping.waits (get_or given place d) → new.keyboard ≡ escaping.keyboard
-      → new.waits ≡ waits_after escaping.keyboard escaping.waits (get_or given place d)
+      → typed ≡ typed_after escaping.keyboard escaping.prompt (get_or given place d) → new.keyboard ≡ escaping.keyboard
+      → new.prompt ≡ prompt_after escaping.keyboard escaping.prompt (get_or given place d)
       → more ≡ kept ++ input_in typed → Obeys now (command_in typed) later → IsSorted first (place + 1) more before later new
-  one_more first place d kept more before now later escaping new typed s few is keyboard_stays waits_is put obeyed =
+  one_more first place d kept more before now later escaping new typed s few is keyboard_stays prompt_stays put obeyed =
       let byte = get_or given place d in
       let done = take place given in
       let longer : take (place + 1) given ≡ done ++ byte ∷ [] = take_more given place d few in
-      let read : typed ≡ typed_after keyboard (waits_behind keyboard waits done) byte = is ∙ (λ i. typed_after (s.keyboard_is i) (s.waits_are i) byte) in
-      let inputs_are : inputs keyboard waits (take (place + 1) given) ≡ inputs keyboard waits done ++ input_in typed =
-      ap (λ (l : List ℕ). inputs keyboard waits l) longer ∙ inputs_push keyboard waits done byte
-      ∙ ap (λ (t : Typed). inputs keyboard waits done ++ input_in t) (sym read) in
-      let commands_are : commands keyboard waits (take (place + 1) given) ≡ commands keyboard waits done ++ command_in typed =
-      ap (λ (l : List ℕ). commands keyboard waits l) longer ∙ commands_push keyboard waits done byte
-      ∙ ap (λ (t : Typed). commands keyboard waits done ++ command_in t) (sym read) in
+      let read : typed ≡ typed_after keyboard (prompt_behind keyboard prompt done) byte = is ∙ (λ i. typed_after (s.keyboard_is i) (s.prompt_is i) byte) in
+      let inputs_are : inputs keyboard prompt (take (place + 1) given) ≡ inputs keyboard prompt done ++ input_in typed =
+      ap (λ (l : List ℕ). inputs keyboard prompt l) longer ∙ inputs_push keyboard prompt done byte
+      ∙ ap (λ (t : Typed). inputs keyboard prompt done ++ input_in t) (sym read) in
+      let commands_are : commands keyboard prompt (take (place + 1) given) ≡ commands keyboard prompt done ++ command_in typed =
+      ap (λ (l : List ℕ). commands keyboard prompt l) longer ∙ commands_push keyboard prompt done byte
+      ∙ ap (λ (t : Typed). commands keyboard prompt done ++ command_in t) (sym read) in
       record {
-        kept_are = put ∙ ap (λ (l : List SessionInput). l ++ input_in typed) s.kept_are ∙ append_assoc first (inputs keyboard waits done) (input_in typed)
+        kept_are = put ∙ ap (λ (l : List SessionInput). l ++ input_in typed) s.kept_are ∙ append_assoc first (inputs keyboard prompt done) (input_in typed)
             ∙ ap (λ (l : List SessionInput). first ++ l) (sym inputs_are);
         obeyed = subst (λ (l : List EscapeCommand). Obeys before l later) (sym commands_are)
-            (obeys_more before now later (commands keyboard waits done) (command_in typed) s.obeyed obeyed);
+            (obeys_more before now later (commands keyboard prompt done) (command_in typed) s.obeyed obeyed);
         keyboard_is = keyboard_stays ∙ s.keyboard_is;
-        waits_are = waits_is ∙ (λ i. waits_after (s.keyboard_is i) (s.waits_are i) byte) ∙ sym (waits_push keyboard waits done byte)
-            ∙ sym (ap (λ (l : List ℕ). waits_behind keyboard waits l) longer);
+        prompt_is = prompt_stays ∙ (λ i. prompt_after (s.keyboard_is i) (s.prompt_is i) byte) ∙ sym (prompt_push keyboard prompt done byte)
+            ∙ sym (ap (λ (l : List ℕ). prompt_behind keyboard prompt l) longer);
       }
 
   -- and the commands are those with it
   pub commands_with : (place d : ℕ) (escaping : Escaping) (typed : Typed) → place < length given → escaping.keyboard ≡ keyboard
-      → escaping.waits ≡ waits_behind keyboard waits (take place given)
-      → typed ≡ typed_after escaping.keyboard escaping.waits (get_or given place d)
-      → commands keyboard waits (take (place + 1) given) ≡ commands keyboard waits (take place given) ++ command_in typed
-  commands_with place d escaping typed few keyboard_is waits_are is =
+      → escaping.prompt ≡ prompt_behind keyboard prompt (take place given)
+      → typed ≡ typed_after escaping.keyboard escaping.prompt (get_or given place d)
+      → commands keyboard prompt (take (place + 1) given) ≡ commands keyboard prompt (take place given) ++ command_in typed
+  commands_with place d escaping typed few keyboard_is prompt_is is =
       let byte = get_or given place d in
       let done = take place given in
-      let read : typed ≡ typed_after keyboard (waits_behind keyboard waits done) byte = is ∙ (λ i. typed_after (keyboard_is i) (waits_are i) byte) in
-      ap (λ (l : List ℕ). commands keyboard waits l) (take_more given place d few) ∙ commands_push keyboard waits done byte
-      ∙ ap (λ (t : Typed). commands keyboard waits done ++ command_in t) (sym read)
+      let read : typed ≡ typed_after keyboard (prompt_behind keyboard prompt done) byte = is ∙ (λ i. typed_after (keyboard_is i) (prompt_is i) byte) in
+      ap (λ (l : List ℕ). commands keyboard prompt l) (take_more given place d few) ∙ commands_push keyboard prompt done byte
+      ∙ ap (λ (t : Typed). commands keyboard prompt done ++ command_in t) (sym read)
 
   -- at first nothing was
-  pub none_yet : (first : List SessionInput) (before : Option (List EscapeCommand)) (escaping : Escaping) → escaping.keyboard ≡ keyboard → escaping.waits
-      ≡ waits
+  pub none_yet : (first : List SessionInput) (before : Option (List EscapeCommand)) (escaping : Escaping) → escaping.keyboard ≡ keyboard → escaping.prompt
+      ≡ prompt
       → IsSorted first 0 first before before escaping
-  none_yet first before escaping keyboard_is waits_is = record {
+  none_yet first before escaping keyboard_is prompt_stays = record {
     kept_are = sym (append-nil first);
     obeyed = obeys_none before;
     keyboard_is = keyboard_is;
-    waits_are = waits_is;
+    prompt_is = prompt_stays;
   }
 
 -- what was pushed is last

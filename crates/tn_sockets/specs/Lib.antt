@@ -5,6 +5,8 @@ pub mod Logs
 pub mod Ends
 pub mod Sizes
 pub mod Mapping
+pub mod Prompting
 pub mod Typing
+pub mod Kept
 pub mod Presence
 pub mod Traces

@@ -2,7 +2,7 @@
 use Rattle.std.specs.Prelude.{◌≡◌, ◌≢◌, ℕ, List, [], ◌++◌, map, take, Option, option_to_list, Result, Ok, Err}
 use Rattle.std.specs.Prelude.{IfOk, MatchResult}
 use Rattle.std.specs.Io.KnownBytes.{Appends, Consumes, Keeps}
-use Rattle.tn_sockets.specs.Typing.{IsTakenUpTo, inputs, waits_behind}
+use Rattle.tn_sockets.specs.Typing.{IsTakenUpTo, inputs, prompt_behind}
 use Rattle.tn_sockets.specs.declared.escaping.Escaping.{Escaping}
 use Rattle.tn_sockets.specs.declared.escaping.SessionInput.{SessionInput}
 use Rattle.tn_sockets.specs.declared.escaping.SessionInput.TheVariants as input
@@ -39,8 +39,8 @@ pub record GivesInputs (old new : Option (List ℕ)) (was now : Escaping) (to_te
   pub bytes : List ℕ
   pub typed : Consumes old new bytes
   pub count : ℕ
-  pub taken : IsTakenUpTo count was.keyboard was.waits bytes
+  pub taken : IsTakenUpTo count was.keyboard was.prompt bytes
   pub inputs : handed_on given telling ++ left
-      ≡ handed_on [] to_tell ++ (kept ++ inputs was.keyboard was.waits (take count bytes))
+      ≡ handed_on [] to_tell ++ (kept ++ inputs was.keyboard was.prompt (take count bytes))
   pub keyboard : now.keyboard ≡ was.keyboard
-  pub waits : now.waits ≡ waits_behind was.keyboard was.waits (take count bytes)
+  pub prompt : now.prompt ≡ prompt_behind was.keyboard was.prompt (take count bytes)

@@ -1,61 +1,90 @@
--- What is typed at a terminal, of which an escape character makes commands to the client itself, and control
--- functions that are asked of the session.
-use Rattle.std.specs.Prelude.{◌≡◌, ◌≤◌, ◌⊎◌, ℕ, nat_eq, Bool, true, false, Option, None, Some, List, [], ◌∷◌}
-use Rattle.std.specs.Prelude.{◌++◌, length, take, if◌then◌else◌}
+-- What is typed at a terminal. Behind an escape character a line is typed to the client itself, which is a
+-- command, or asks the session for a control function.
+use Rattle.std.specs.Prelude.{◌≡◌, ◌≤◌, ◌⊎◌, ◌==◌, ◌||◌, ℕ, nat_eq, Bool, true, false, Option, None, Some, List}
+use Rattle.std.specs.Prelude.{[], ◌∷◌, ◌++◌, codes, length, take, if◌then◌else◌}
+use Rattle.std.specs.Str.{bytes_eq}
 use Rattle.tn_sockets.specs.declared.escaping.EscapeCommand.{EscapeCommand}
 use Rattle.tn_sockets.specs.declared.escaping.EscapeCommand.TheVariants.{Close, Help, Status, Suspend}
 use Rattle.tn_sockets.specs.declared.escaping.EscapeCommand.TheVariants.{Unknown}
 use Rattle.tn_sockets.specs.Mapping.{mapped, none_own}
+use Rattle.tn_sockets.specs.Prompting.{after_edit, after_escape, edit_of, opened}
 use Rattle.tn_sockets.specs.declared.escaping.Escaping.{Escaping}
 use Rattle.tn_sockets.specs.declared.escaping.SessionInput.{SessionInput}
 use Rattle.tn_sockets.specs.declared.escaping.SessionInput.TheVariants as input
 use Rattle.tn_sockets.specs.declared.escaping.Keyboard.{Keyboard}
 use Rattle.tn_sockets.specs.declared.escaping.Typed.{Typed}
 use Rattle.tn_sockets.specs.declared.escaping.Typed.TheVariants as typed
+use Rattle.tn_sockets.specs.declared.prompt.Edit.{Edit}
+use Rattle.tn_sockets.specs.declared.prompt.Edit.TheVariants.{Enter}
+use Rattle.tn_sockets.specs.declared.prompt.Prompt.{Prompt}
 use Rattle.tn_streams.specs.declared.control.Control.TheVariants.{Brk, Ip, Ayt}
 
 -- every byte is a key, and stands for itself
 abbrev pub of_bytes : Keyboard
-of_bytes = record { escape = None; own = none_own }
+of_bytes = record { escape = None; own = none_own; editing = none_own }
 
 abbrev pub is_escape : Option ℕ → ℕ → Bool
 is_escape None byte = false
 is_escape (Some character) byte = nat_eq byte character
 
--- what the byte behind an escape character asks the client itself for: q, ?, s and z
-abbrev pub command : ℕ → EscapeCommand
-command byte =
-    if nat_eq byte 113 then Close else if nat_eq byte 63 then Help else if nat_eq byte 115 then Status
-    else if nat_eq byte 122 then Suspend else Unknown byte
+-- the line is one of these two words
+abbrev pub is_one : List ℕ → List ℕ → List ℕ → Bool
+is_one line letter word = bytes_eq line letter || bytes_eq line word
 
--- what it is: b, i and a ask for the control functions BRK, IP and AYT
-abbrev pub meant : ℕ → Typed
-meant byte =
-    if nat_eq byte 98 then typed.Control Brk else if nat_eq byte 105 then typed.Control Ip
-    else if nat_eq byte 97 then typed.Control Ayt else typed.Command (command byte)
+-- what a line asks the client itself for
+abbrev pub command : List ℕ → EscapeCommand
+command line =
+    if is_one line (codes "q") (codes "quit") || bytes_eq line (codes "close") then Close
+    else if is_one line (codes "?") (codes "help") then Help
+    else if is_one line (codes "s") (codes "status") then Status
+    else if is_one line (codes "z") (codes "suspend") then Suspend else Unknown
 
--- what one byte is: a key of the user's own characters is the standard one, unless it is the escape character
--- or stands behind it; of two escape characters the second is a key
-abbrev pub typed_after : Keyboard → Bool → ℕ → Typed
-typed_after keyboard false byte =
+-- what a line is: it may ask for the control functions BRK, IP and AYT; an empty one asks for nothing
+abbrev pub meant : List ℕ → Typed
+meant line =
+    if length line == 0 then typed.Nothing
+    else if is_one line (codes "b") (codes "send brk") then typed.Control Brk
+    else if is_one line (codes "i") (codes "send ip") then typed.Control Ip
+    else if is_one line (codes "a") (codes "send ayt") then typed.Control Ayt else typed.Command (command line)
+
+-- what a byte is that edits a line, which has a meaning once it is ended
+abbrev pub typed_by : Edit → List ℕ → Typed
+typed_by Enter line = meant line
+typed_by _ line = typed.Nothing
+
+-- the escape character on an empty line is a key
+abbrev pub typed_again : List ℕ → ℕ → Typed
+typed_again line byte = if length line == 0 then typed.Key byte else typed.Nothing
+
+-- What one byte is while a line is typed to the client itself, and at other times: a key of the user's own
+-- characters is the standard one, unless it is the escape character.
+abbrev pub typed_when : Bool → Keyboard → Prompt → ℕ → Typed
+typed_when false keyboard prompt byte =
     if is_escape keyboard.escape byte then typed.Nothing else typed.Key (mapped keyboard.own byte)
-typed_after keyboard true byte = if is_escape keyboard.escape byte then typed.Key byte else meant byte
+typed_when true keyboard prompt byte =
+    if is_escape keyboard.escape byte then typed_again prompt.line byte
+    else typed_by (edit_of keyboard.editing prompt.sequence byte) prompt.line
+
+abbrev pub typed_after : Keyboard → Prompt → ℕ → Typed
+typed_after keyboard prompt byte = typed_when prompt.is_open keyboard prompt byte
 
 abbrev pub reading : Escaping → ℕ → Typed
-reading escaping byte = typed_after escaping.keyboard escaping.waits byte
+reading escaping byte = typed_after escaping.keyboard escaping.prompt byte
 
--- whether the byte behind this one is the one that an escape character waits for
-abbrev pub waits_after : Keyboard → Bool → ℕ → Bool
-waits_after keyboard false byte = is_escape keyboard.escape byte
-waits_after keyboard true byte = false
+-- what of the line is typed behind this byte
+abbrev pub prompt_when : Bool → Keyboard → Prompt → ℕ → Prompt
+prompt_when false keyboard prompt byte = if is_escape keyboard.escape byte then opened else prompt
+prompt_when true keyboard prompt byte =
+    if is_escape keyboard.escape byte then after_escape prompt
+    else after_edit (edit_of keyboard.editing prompt.sequence byte) byte prompt
 
-abbrev pub waits : Escaping → ℕ → Bool
-waits escaping byte = waits_after escaping.keyboard escaping.waits byte
+abbrev pub prompt_after : Keyboard → Prompt → ℕ → Prompt
+prompt_after keyboard prompt byte = prompt_when prompt.is_open keyboard prompt byte
 
--- whether an escape character waits behind all of it
-abbrev pub waits_behind : Keyboard → Bool → List ℕ → Bool
-waits_behind keyboard waits [] = waits
-waits_behind keyboard waits (byte ∷ bytes) = waits_behind keyboard (waits_after keyboard waits byte) bytes
+-- and behind all of these
+abbrev pub prompt_behind : Keyboard → Prompt → List ℕ → Prompt
+prompt_behind keyboard prompt [] = prompt
+prompt_behind keyboard prompt (byte ∷ bytes) = prompt_behind keyboard (prompt_after keyboard prompt byte) bytes
 
 -- what a session gets of what a byte is, and what the client itself is asked for by it
 abbrev pub input_in : Typed → List SessionInput
@@ -71,17 +100,17 @@ abbrev pub is_key : SessionInput → Bool
 is_key (input.Key byte) = true
 is_key (input.Control control) = false
 
--- what a session gets of what is typed, in its order; where the flag is set, an escape character came before
-abbrev pub inputs : Keyboard → Bool → List ℕ → List SessionInput
-inputs keyboard waits [] = []
-inputs keyboard waits (byte ∷ bytes) =
-    input_in (typed_after keyboard waits byte) ++ inputs keyboard (waits_after keyboard waits byte) bytes
+-- what a session gets of what is typed, in its order, behind so much of a line
+abbrev pub inputs : Keyboard → Prompt → List ℕ → List SessionInput
+inputs keyboard prompt [] = []
+inputs keyboard prompt (byte ∷ bytes) =
+    input_in (typed_after keyboard prompt byte) ++ inputs keyboard (prompt_after keyboard prompt byte) bytes
 
 -- and the commands to the client itself
-abbrev pub commands : Keyboard → Bool → List ℕ → List EscapeCommand
-commands keyboard waits [] = []
-commands keyboard waits (byte ∷ bytes) =
-    command_in (typed_after keyboard waits byte) ++ commands keyboard (waits_after keyboard waits byte) bytes
+abbrev pub commands : Keyboard → Prompt → List ℕ → List EscapeCommand
+commands keyboard prompt [] = []
+commands keyboard prompt (byte ∷ bytes) =
+    command_in (typed_after keyboard prompt byte) ++ commands keyboard (prompt_after keyboard prompt byte) bytes
 
 -- the bytes were taken one by one, and gave these
 abbrev pub AreTaken : Escaping → List ℕ → List Typed → Escaping → Type 0
@@ -90,7 +119,7 @@ AreTaken old [] (t ∷ taken) new = ⊥
 AreTaken old (byte ∷ bytes) [] new = ⊥
 AreTaken old (byte ∷ bytes) (t ∷ taken) new =
     (between : Escaping) × (t ≡ reading old byte) × (between.keyboard ≡ old.keyboard)
-    × (between.waits ≡ waits old byte) × AreTaken between bytes taken new
+    × (between.prompt ≡ prompt_after old.keyboard old.prompt byte) × AreTaken between bytes taken new
 
 -- what a session gets of what was made of bytes
 abbrev pub inputs_in : List Typed → List SessionInput
@@ -107,12 +136,12 @@ abbrev pub AskToClose : List EscapeCommand → Type 0
 AskToClose these = (before : List EscapeCommand) × (these ≡ before ++ (Close ∷ []))
 
 -- so many bytes were taken: all, or those up to one that asks to close
-abbrev pub IsTakenUpTo : ℕ → Keyboard → Bool → List ℕ → Type 0
-IsTakenUpTo count keyboard waits bytes =
+abbrev pub IsTakenUpTo : ℕ → Keyboard → Prompt → List ℕ → Type 0
+IsTakenUpTo count keyboard prompt bytes =
     (count ≤ length bytes)
-    × ((count ≡ length bytes) ⊎ AskToClose (commands keyboard waits (take count bytes)))
+    × ((count ≡ length bytes) ⊎ AskToClose (commands keyboard prompt (take count bytes)))
 
--- the same keyboard, where no character is the user's own
+-- the same keyboard, whose keys are those of no characters of the user's own
 abbrev pub unmapped : Keyboard → Keyboard
 unmapped keyboard = record keyboard { own = none_own }
 

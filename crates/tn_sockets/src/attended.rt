@@ -25,8 +25,11 @@ use tn_streams::Source;
 /// How many milliseconds a read waits before it looks whether its session is over.
 const LOOK: u16 = 500;
 
-/// How many seconds a peer has to close after it was told that no more comes.
+/// How many seconds a peer has to close after it was told that no more comes, and after its session lasted too
+/// long or its server is to end.
 const LINGER: u64 = 5;
+
+const LINGER_LATE: u64 = 1;
 
 /// How often it is looked at most whether a session is held still, and how many milliseconds lie between.
 const HOLDS: u8 = 200;
@@ -42,6 +45,8 @@ pub struct Standing {
     idle: AtomicBool,
     /// The session lasted too long.
     too_long: AtomicBool,
+    /// Its server is to end.
+    closing: AtomicBool,
     /// A job of the session wants it to end as by a hang-up.
     hung_up: AtomicBool,
     /// It is rung where a job wants that.
@@ -65,6 +70,7 @@ impl Standing {
             finished: AtomicBool::new(false),
             idle: AtomicBool::new(false),
             too_long: AtomicBool::new(false),
+            closing: AtomicBool::new(false),
             hung_up: AtomicBool::new(false),
             bell: Bell::new(),
             held: AtomicBool::new(false),
@@ -88,6 +94,24 @@ impl Standing {
         self.hung_up.load(Ordering::SeqCst)
     }
 
+    /// Ends the session as by a hang-up, within half a second, since its server is to end.
+    pub fn close(&self) {
+        self.closing.store(true, Ordering::SeqCst);
+        self.bell.ring();
+    }
+
+    /// Whether the session is to end, or ended, by `close`.
+    pub fn is_closing(&self) -> bool {
+        self.closing.load(Ordering::SeqCst)
+    }
+
+    /// Closes the connection in both directions, so that no write to a peer that takes nothing waits any more.
+    pub fn cut(&self) {
+        if let Some(stream) = self.stream.get() {
+            stream.close(Shutdown::Both);
+        }
+    }
+
     /// Lets the session go on for two seconds at most once nothing more comes from the peer.
     pub fn hold(&self) {
         self.held.store(true, Ordering::SeqCst);
@@ -103,10 +127,10 @@ impl Standing {
         self.too_long.load(Ordering::SeqCst)
     }
 
-    /// Whether the session was ended while its peer may still send: by `hang_up`, or since it lasted too
-    /// long, or what came was not typed.
+    /// Whether the session was ended while its peer may still send: by `hang_up` or `close`, or since it lasted
+    /// too long, or what came was not typed.
     pub fn is_ended_here(&self) -> bool {
-        self.is_hung_up() || self.is_too_long() || self.is_idle()
+        self.is_hung_up() || self.is_closing() || self.is_too_long() || self.is_idle()
     }
 
     /// Whether nothing more comes from the peer: it has hung up, or was told that no more comes.
@@ -168,6 +192,8 @@ pub(crate) enum Why {
     Idle,
     /// Its session has lasted too long.
     TooLong,
+    /// Its server is to end.
+    Closing,
 }
 
 fn words_of(why: Option<Why>) -> &'static [u8]
@@ -177,13 +203,14 @@ fn words_of(why: Option<Why>) -> &'static [u8]
         None => b"",
         Some(Why::Idle) => b"idle\n",
         Some(Why::TooLong) => b"too long\n",
+        Some(Why::Closing) => b"closing\n",
     }
 }
 
-/// What a client sends. It ends, as by a hang-up, where the client types nothing for too long, where the
-/// session has lasted too long, where a job of it wants that, and where the client does not close in time
-/// after it was told that no more comes. Its last words are `idle` in the first case, and `too long` in the
-/// second.
+/// What a client sends. It ends, as by a hang-up, if the client types nothing for too long, if the session has
+/// lasted too long, if its server is to end, if a job of it wants that, and if the client does not close in
+/// time after it was told that no more comes. Its last words are `idle` in the first case, `too long` in the
+/// second and `closing` in the third.
 #[derive(Drop)]
 pub struct Attended<H, S> {
     rt: H,
@@ -250,7 +277,7 @@ impl<H: Clock + Copy, S: Drop> Attended<H, S> {
     }
 
     // Whether no more is read: the peer typed nothing for too long, or it had its time to close. One that was
-    // idle has no such time.
+    // idle has no such time, and one that stayed too long, or whose server is to end, a short one.
     fn is_over(&mut self) -> bool
         ensures { self.new.stream ≡ self.old.stream }
     {
@@ -263,7 +290,12 @@ impl<H: Clock + Copy, S: Drop> Attended<H, S> {
         if self.finished.is_none() {
             self.finished = Instant::now(&self.rt).ok();
         }
-        self.is_past(self.finished, LINGER)
+        let seconds = if self.standing.is_too_long() || self.standing.is_closing() {
+            LINGER_LATE
+        } else {
+            LINGER
+        };
+        self.is_past(self.finished, seconds)
     }
 
     // Whether no more is read since nothing was typed for too long.
@@ -278,6 +310,17 @@ impl<H: Clock + Copy, S: Drop> Attended<H, S> {
         }
         self.standing.idle.store(true, Ordering::SeqCst);
         self.why = Some(Why::Idle);
+        true
+    }
+
+    // Whether no more is read since the server is to end, or the session has lasted too long.
+    fn has_had_its_time(&mut self) -> bool
+        ensures { self.new.stream ≡ self.old.stream }
+    {
+        if self.standing.is_finished() || !self.standing.is_closing() {
+            return self.is_too_long();
+        }
+        self.why = Some(Why::Closing);
         true
     }
 
@@ -357,7 +400,7 @@ impl<H: Clock + Copy + Wait, S: AsRawFd + Drop + Read + Closing> Attended<H, S> 
             if self.standing.is_to_end() {
                 return Ok(0);
             }
-            if self.is_too_long() {
+            if self.has_had_its_time() {
                 return Ok(0);
             }
             match self.read_once(buf) {

@@ -1,11 +1,12 @@
 //! Standard input as keys: it is waited for, so that a session ends though nobody types, and at a terminal
 //! the user speaks to the client itself behind an escape character.
 
-ghost use Rattle.std.specs.Prelude.{◌≡◌, ◌≢◌, ◌≤◌, ◌+◌, ◌++◌, ℕ, [], None, false, length, take};
+ghost use Rattle.std.specs.Prelude.{◌≡◌, ◌≢◌, ◌≤◌, ◌+◌, ◌++◌, ℕ, [], None, length, take};
 ghost use Rattle.std.specs.Io.{ReadsAtMost};
 ghost use Rattle.std.specs.Io.KnownBytes.{ReadConsumes};
 ghost use Rattle.std.specs.VecDeque.{deque_capacity, deque_len};
-ghost use Rattle.tn_sockets.specs.Typing.{IsTakenUpTo, inputs, waits_behind};
+ghost use Rattle.tn_sockets.specs.Prompting.{closed};
+ghost use Rattle.tn_sockets.specs.Typing.{IsTakenUpTo, inputs, prompt_behind};
 ghost use Rattle.tn_sockets.specs.Passing.{GivesInputs, given_of, handed_on};
 ghost use Rattle.tn_streams.specs.Foretelling.{ForetellsCall};
 ghost use Rattle.tn_streams.specs.Telling.{CountsRead, TellsCall};
@@ -82,7 +83,7 @@ impl<H: Clock + Copy + Wait, K: Read + Drop> Console<H, K> {
     /// Keys that come from there, which is standard input, and what they stand for. With an escape character
     /// its user speaks to the client itself.
     pub fn new(rt: H, alloc: Global, mut typing: Typing<H, K>, keyboard: Keyboard) -> Console<H, K>
-        ensures escaping { result.escaping ≡ record { keyboard = keyboard; waits = false } }
+        ensures escaping { result.escaping ≡ record { keyboard = keyboard; prompt = closed } }
         ensures keys { result.typing.keys ≡ typing.keys }
         ensures nothing_yet { (result.kept.items ≡ []) × (result.asked ≡ None) × (result.resized ≡ None) }
     {
@@ -183,11 +184,11 @@ impl<H: Clock + Copy + Wait, K: Read + Drop> Console<H, K> {
     fn sort(&mut self, bytes: &[u8])
         requires room { deque_len self.old.kept + length bytes.now ≤ deque_capacity self.old.kept }
         ensures kept { (count : ℕ)
-            × IsTakenUpTo count self.old.escaping.keyboard self.old.escaping.waits bytes.now
+            × IsTakenUpTo count self.old.escaping.keyboard self.old.escaping.prompt bytes.now
             × (self.new.kept.items ≡ self.old.kept.items
-            ++ inputs self.old.escaping.keyboard self.old.escaping.waits (take count bytes.now))
-            × (self.new.escaping.waits
-            ≡ waits_behind self.old.escaping.keyboard self.old.escaping.waits (take count bytes.now)) }
+            ++ inputs self.old.escaping.keyboard self.old.escaping.prompt (take count bytes.now))
+            × (self.new.escaping.prompt
+            ≡ prompt_behind self.old.escaping.keyboard self.old.escaping.prompt (take count bytes.now)) }
         ensures keyboard { self.new.escaping.keyboard ≡ self.old.escaping.keyboard }
         ensures typing { self.new.typing ≡ self.old.typing }
         ensures asked { self.new.asked ≡ self.old.asked }
@@ -199,8 +200,7 @@ impl<H: Clock + Copy + Wait, K: Read + Drop> Console<H, K> {
             own: self.escaping.keyboard.own,
         };
         let _taken = self.escaping.sort(bytes, &mut self.kept, &mut deeds);
-        let Deeds { mut terminal, .. } = deeds;
-        terminal.settle(self.escaping.waits);
+        let Deeds { terminal, .. } = deeds;
         self.terminal = terminal;
     }
 

@@ -1,6 +1,6 @@
 //! What the user at a terminal asks the client itself for.
 
-use crate::escaping::{EscapeCommand, Obey};
+use crate::escaping::{Echo, EscapeCommand, Obey};
 use crate::keys::Typing;
 use crate::link::Link;
 use crate::own_characters::OwnCharacters;
@@ -8,12 +8,15 @@ use crate::terminal::Terminal;
 use std::alloc::Global;
 use std::io::Write;
 
-/// What the keys of the escape character do, in lines of their own.
-const HELP: &[u8] = b"q  closes the connection and leaves\r\n?  shows these keys\r\n\
-    s  shows the state of the session\r\nz  stops, until the shell goes on with it\r\n\
-    b  sends BREAK, which some monitors wait for\r\ni  interrupts what runs at the other end\r\n\
-    a  asks whether the other end is there\r\n\
-    and the escape character again sends itself\r\n";
+/// What may be typed behind the escape character.
+const HELP: &[u8] = b"quit, close, q  close the connection and leave\r\n\
+    status, s       show the state of the session\r\n\
+    suspend, z      stop, until the shell goes on with it\r\n\
+    send brk, b     send BREAK, which some monitors wait for\r\n\
+    send ip, i      interrupt what runs at the other end\r\n\
+    send ayt, a     ask whether the other end is there\r\n\
+    help, ?         show these lines\r\n\
+    An empty line goes back. The escape character again sends itself.\r\n";
 
 /// What the user asks the client itself for is done at once.
 #[derive(Drop)]
@@ -35,11 +38,14 @@ impl<'a, H, K> Obey for Deeds<'a, H, K> {
                     self.terminal.show(b"nobody here can stop it\r\n");
                 }
             },
-            EscapeCommand::Unknown(_) => {
-                self.terminal
-                    .show(b"unknown; the escape character and ? show the keys\r\n");
-            },
+            EscapeCommand::Unknown => self.terminal.show(
+                b"unknown command; the escape character and help list them\r\n",
+            ),
         }
+    }
+
+    fn echo(&mut self, echo: Echo) {
+        self.terminal.echo(echo);
     }
 }
 
@@ -58,7 +64,7 @@ impl<'a, H, K> Deeds<'a, H, K> {
         let _ = write!(
             text,
             "connected to {} port {}\r\n{}, echo is made {}\r\nwindow {} by {}\r\n\
-            {} bytes came, {} went\r\n",
+            {} {} came, {} went\r\n",
             host,
             port,
             editing_of(link),
@@ -66,6 +72,7 @@ impl<'a, H, K> Deeds<'a, H, K> {
             width,
             height,
             link.came(),
+            if link.came() == 1 { "byte" } else { "bytes" },
             link.went()
         );
         write_own(&mut text, &self.own);

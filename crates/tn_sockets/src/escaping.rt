@@ -1,44 +1,63 @@
 //! One typed byte after another.
 
-ghost use Rattle.std.specs.Prelude.{◌≡◌, ◌≤◌, ◌+◌, ◌++◌, false, List, Option, None, [], ◌∷◌, length, take};
+ghost use Rattle.std.specs.Prelude.{◌≡◌, ◌≤◌, ◌+◌, ◌++◌, List, Option, None, [], ◌∷◌, length, take};
+ghost use Rattle.std.specs.Str.{bytes_eq};
 ghost use Rattle.std.specs.VecDeque.{deque_capacity, deque_len};
-ghost use Rattle.tn_sockets.specs.Typing.{IsTakenUpTo, Obeys, command, commands, inputs, is_escape, meant};
-ghost use Rattle.tn_sockets.specs.Typing.{of_bytes, reading, waits, waits_behind};
+ghost use Rattle.tn_sockets.specs.Prompting.{closed, edit_of};
+ghost use Rattle.tn_sockets.specs.Typing.{IsTakenUpTo, Obeys, command, commands, inputs, is_escape, is_one, meant};
+ghost use Rattle.tn_sockets.specs.Typing.{of_bytes, prompt_after, prompt_behind, reading, typed_again};
 
 use crate::own_characters::OwnCharacters;
+use crate::prompt::{Edit, Prompt, edit_of};
 use std::collections::VecDeque;
 use tn_streams::Control;
 
 /// What the user asks the client itself for.
-#[derive(Clone, Copy, Debug, PartialEq, Eq)]
+#[derive(Clone, Copy, PartialEq, Eq)]
 pub enum EscapeCommand {
-    /// `q`: close the connection.
+    /// `quit`, `close` or `q`: close the connection.
     Close,
-    /// `?`: show the keys.
+    /// `help` or `?`: show the commands.
     Help,
-    /// `s`: show the state of the session.
+    /// `status` or `s`: show the state of the session.
     Status,
-    /// `z`: stop, until the shell goes on with it.
+    /// `suspend` or `z`: stop, until the shell goes on with it.
     Suspend,
-    /// Any other byte: it means nothing.
-    Unknown(u8),
+    /// Any other line: it means nothing.
+    Unknown,
 }
 
 /// What a typed byte is.
-#[derive(Clone, Copy, Debug, PartialEq, Eq)]
+#[derive(Clone, Copy, PartialEq, Eq)]
 pub enum Typed {
     /// A key of the session.
     Key(u8),
-    /// A control function that is asked for, `b`, `i` or `a` behind the escape character.
+    /// It ends a line that asks for a control function: `send brk`, `send ip`, `send ayt`, or one letter.
     Control(Control),
-    /// A command to the client itself.
+    /// It ends a line that is a command to the client itself.
     Command(EscapeCommand),
-    /// The escape character: the next byte says what for.
+    /// It begins such a line, edits it, or ends an empty one.
     Nothing,
 }
 
-/// What a session gets of what is typed.
+/// What is shown of a byte that is typed to the client itself.
 #[derive(Clone, Copy, Debug, PartialEq, Eq)]
+pub enum Echo {
+    Nothing,
+    /// The line begins.
+    Prompt,
+    /// The byte joins the line.
+    Byte(u8),
+    /// This many bytes of the line are given up.
+    Erased(usize),
+    /// The line ends.
+    End,
+    /// The byte has no meaning, or no room.
+    Refused,
+}
+
+/// What a session gets of what is typed.
+#[derive(Clone, Copy, PartialEq, Eq)]
 pub enum SessionInput {
     Key(u8),
     Control(Control),
@@ -53,14 +72,21 @@ pub trait Obey {
 
     fn obey(&mut self, command: EscapeCommand)
         ensures { Obeys (obeyed self.old) (command ∷ []) (obeyed self.new) };
+
+    /// Shows this. No command is obeyed by it.
+    fn echo(&mut self, echo: Echo)
+        ensures { Obeys (obeyed self.old) [] (obeyed self.new) };
 }
 
 /// What the bytes that are typed stand for.
-#[derive(Clone, Copy, Debug, PartialEq, Eq)]
+#[derive(Clone, Copy, PartialEq, Eq)]
 pub struct Keyboard {
-    /// The escape character, if there is one. It comes first, also where it is one of the user's own.
+    /// The escape character, if there is one. It comes first, also if it is one of the user's own characters.
     pub escape: Option<u8>,
+    /// The characters that keys of a session are taken by.
     pub own: OwnCharacters,
+    /// The characters that edit a line which is typed to the client itself.
+    pub editing: OwnCharacters,
 }
 
 impl Keyboard {
@@ -71,49 +97,109 @@ impl Keyboard {
         Keyboard {
             escape: None,
             own: OwnCharacters::none(),
+            editing: OwnCharacters::none(),
         }
     }
 }
 
 /// Sorts what is typed into keys, control functions and commands.
-#[derive(Clone, Copy, Debug, PartialEq, Eq)]
+#[derive(Drop)]
 pub struct Escaping {
     pub keyboard: Keyboard,
-    /// Whether the last byte was an escape character that waits for the next one.
-    pub waits: bool,
+    /// The line that is typed to the client itself.
+    pub prompt: Prompt,
 }
 
 impl Escaping {
     /// Nothing was typed yet.
     pub fn new(keyboard: Keyboard) -> Escaping
-        ensures { result ≡ record { keyboard = keyboard; waits = false } }
+        ensures { result ≡ record { keyboard = keyboard; prompt = closed } }
     {
         Escaping {
             keyboard,
-            waits: false,
+            prompt: Prompt::new(),
         }
     }
 
-    /// What this byte is, after those before it. The escape character typed twice is a key. Neither it nor
-    /// the byte behind it is mapped.
+    /// What this byte is, after those before it. The escape character begins a line to the client itself; on
+    /// an empty one it is a key. No other byte of such a line is a key.
     pub fn take(&mut self, byte: u8) -> Typed
         ensures typed { result ≡ reading self.old byte }
         ensures keyboard { self.new.keyboard ≡ self.old.keyboard }
-        ensures waits { self.new.waits ≡ waits self.old byte }
+        ensures prompt { self.new.prompt ≡ prompt_after self.old.keyboard self.old.prompt byte }
+    {
+        let typed = self.typed(byte);
+        self.advance(byte);
+        typed
+    }
+
+    // What this byte is.
+    fn typed(&self, byte: u8) -> Typed
+        ensures { result ≡ reading self.now byte }
     {
         let escape = self.is_escape(byte);
-        if self.waits {
-            self.waits = false;
+        if self.prompt.is_open {
             if escape {
-                return Typed::Key(byte);
+                return typed_again(self.prompt.line.as_slice(), byte);
             }
-            return meant(byte);
+            return match self.edit_of(byte) {
+                Edit::Enter => meant(self.prompt.line.as_slice()),
+                _ => Typed::Nothing,
+            };
         }
-        self.waits = escape;
         if escape {
             return Typed::Nothing;
         }
         Typed::Key(self.keyboard.own.mapped(byte))
+    }
+
+    // The line behind this byte.
+    fn advance(&mut self, byte: u8)
+        ensures keyboard { self.new.keyboard ≡ self.old.keyboard }
+        ensures prompt { self.new.prompt ≡ prompt_after self.old.keyboard self.old.prompt byte }
+    {
+        let escape = self.is_escape(byte);
+        if !self.prompt.is_open {
+            if escape {
+                self.prompt.open();
+            }
+            return;
+        }
+        if escape {
+            self.prompt.take_escape();
+            return;
+        }
+        let edit = self.edit_of(byte);
+        self.prompt.take(edit, byte);
+    }
+
+    fn edit_of(&self, byte: u8) -> Edit
+        ensures { result ≡ edit_of self.now.keyboard.editing self.now.prompt.sequence byte }
+    {
+        edit_of(&self.keyboard.editing, self.prompt.sequence, byte)
+    }
+
+    // What is shown of this byte.
+    fn echo(&self, byte: u8) -> Echo {
+        if !self.prompt.is_open {
+            return if self.is_escape(byte) {
+                Echo::Prompt
+            } else {
+                Echo::Nothing
+            };
+        }
+        let count = self.prompt.line.as_slice().len();
+        if self.is_escape(byte) {
+            return if count == 0 { Echo::End } else { Echo::Refused };
+        }
+        match self.edit_of(byte) {
+            Edit::Enter | Edit::Leave => Echo::End,
+            Edit::Erase => Echo::Erased(count.min(1)),
+            Edit::Kill => Echo::Erased(count),
+            Edit::Add if self.prompt.has_room() => Echo::Byte(byte),
+            Edit::Skip(_) => Echo::Nothing,
+            Edit::Add | Edit::Refuse => Echo::Refused,
+        }
     }
 
     /// Keeps what a session gets of these bytes, behind what is kept, and has each command obeyed once; both
@@ -126,15 +212,16 @@ impl Escaping {
     ) -> usize
         requires room { deque_len kept.old + length bytes.now ≤ deque_capacity kept.old }
         ensures inputs { kept.new.items ≡ kept.old.items
-            ++ inputs self.old.keyboard self.old.waits (take result bytes.now) }
+            ++ inputs self.old.keyboard self.old.prompt (take result bytes.now) }
         ensures commands { Obeys (O.obeyed obeying.old)
-            (commands self.old.keyboard self.old.waits (take result bytes.now)) (O.obeyed obeying.new) }
-        ensures taken { IsTakenUpTo result self.old.keyboard self.old.waits bytes.now }
+            (commands self.old.keyboard self.old.prompt (take result bytes.now)) (O.obeyed obeying.new) }
+        ensures taken { IsTakenUpTo result self.old.keyboard self.old.prompt bytes.now }
         ensures keyboard { self.new.keyboard ≡ self.old.keyboard }
-        ensures waits { self.new.waits
-            ≡ waits_behind self.old.keyboard self.old.waits (take result bytes.now) }
+        ensures prompt { self.new.prompt
+            ≡ prompt_behind self.old.keyboard self.old.prompt (take result bytes.now) }
     {
         for place in 0..bytes.len() {
+            obeying.echo(self.echo(bytes[place]));
             match self.take(bytes[place]) {
                 Typed::Key(key) => {
                     let _pushed = kept.push_back(SessionInput::Key(key));
@@ -164,26 +251,62 @@ impl Escaping {
     }
 }
 
-// What the byte behind an escape character is.
-fn meant(byte: u8) -> Typed
-    ensures { result ≡ meant byte }
+// What the escape character is behind these bytes of a line.
+fn typed_again(line: &[u8], byte: u8) -> Typed
+    ensures { result ≡ typed_again line.now byte }
 {
-    match byte {
-        b'b' => Typed::Control(Control::Brk),
-        b'i' => Typed::Control(Control::Ip),
-        b'a' => Typed::Control(Control::Ayt),
-        _ => Typed::Command(command_of(byte)),
+    if line.is_empty() {
+        return Typed::Key(byte);
     }
+    Typed::Nothing
 }
 
-fn command_of(byte: u8) -> EscapeCommand
-    ensures { result ≡ command byte }
+// What a line to the client itself is.
+fn meant(line: &[u8]) -> Typed
+    ensures { result ≡ meant line.now }
 {
-    match byte {
-        b'q' => EscapeCommand::Close,
-        b'?' => EscapeCommand::Help,
-        b's' => EscapeCommand::Status,
-        b'z' => EscapeCommand::Suspend,
-        _ => EscapeCommand::Unknown(byte),
+    if line.is_empty() {
+        return Typed::Nothing;
     }
+    if is_one(line, b"b", b"send brk") {
+        return Typed::Control(Control::Brk);
+    }
+    if is_one(line, b"i", b"send ip") {
+        return Typed::Control(Control::Ip);
+    }
+    if is_one(line, b"a", b"send ayt") {
+        return Typed::Control(Control::Ayt);
+    }
+    Typed::Command(command_of(line))
+}
+
+fn command_of(line: &[u8]) -> EscapeCommand
+    ensures { result ≡ command line.now }
+{
+    if is_one(line, b"q", b"quit") || is(line, b"close") {
+        return EscapeCommand::Close;
+    }
+    if is_one(line, b"?", b"help") {
+        return EscapeCommand::Help;
+    }
+    if is_one(line, b"s", b"status") {
+        return EscapeCommand::Status;
+    }
+    if is_one(line, b"z", b"suspend") {
+        return EscapeCommand::Suspend;
+    }
+    EscapeCommand::Unknown
+}
+
+// Whether the line is one of these.
+fn is_one(line: &[u8], letter: &[u8], word: &[u8]) -> bool
+    ensures { result ≡ is_one line.now letter.now word.now }
+{
+    is(line, letter) || is(line, word)
+}
+
+fn is(line: &[u8], word: &[u8]) -> bool
+    ensures { result ≡ bytes_eq line.now word.now }
+{
+    line == word
 }

@@ -1,9 +1,10 @@
 //! What was typed and is still to be given to a session: a queue of keys, with the control functions that are
 //! asked for between them.
 
-ghost use Rattle.std.specs.Prelude.{◌≡◌, ◌≤◌, ◌+◌, ◌++◌, IsTrue, length, map, option_to_list, take};
+ghost use Rattle.std.specs.Prelude.{◌≡◌, ◌≤◌, ◌<◌, ◌+◌, ◌++◌, IsTrue, None, length, map, option_to_list, take};
 ghost use Rattle.std.specs.List.{count_by};
 ghost use Rattle.std.specs.VecDeque.{deque_capacity, deque_len};
+ghost use Rattle.tn_sockets.specs.Kept.{control_at_front, key_at_front};
 ghost use Rattle.tn_sockets.specs.Typing.{is_key};
 ghost use Rattle.tn_sockets.specs.declared.escaping.SessionInput.TheVariants as input;
 
@@ -39,6 +40,7 @@ pub(crate) fn count_keys(kept: &VecDeque<SessionInput>) -> usize
 pub(crate) fn give(kept: &mut VecDeque<SessionInput>, buf: &mut [u8]) -> usize
     ensures bound { result ≤ length buf.new }
     ensures gives { map input.Key (take result buf.new) ++ kept.new.items ≡ kept.old.items }
+    ensures all { result < length buf.new → key_at_front kept.new.items ≡ None }
 {
     for place in 0..buf.len() {
         let Some(key) = first_key(kept) else {
@@ -51,7 +53,8 @@ pub(crate) fn give(kept: &mut VecDeque<SessionInput>, buf: &mut [u8]) -> usize
 
 // Takes what is first, if it is a key.
 fn first_key(kept: &mut VecDeque<SessionInput>) -> Option<u8>
-    ensures { map input.Key (option_to_list result) ++ kept.new.items ≡ kept.old.items }
+    ensures takes { map input.Key (option_to_list result) ++ kept.new.items ≡ kept.old.items }
+    ensures first { result ≡ key_at_front kept.old.items }
 {
     match kept.front() {
         Some(SessionInput::Key(key)) => {
@@ -65,7 +68,8 @@ fn first_key(kept: &mut VecDeque<SessionInput>) -> Option<u8>
 
 /// Takes what is first, if it is a control function.
 pub(crate) fn first_control(kept: &mut VecDeque<SessionInput>) -> Option<Control>
-    ensures { map input.Control (option_to_list result) ++ kept.new.items ≡ kept.old.items }
+    ensures takes { map input.Control (option_to_list result) ++ kept.new.items ≡ kept.old.items }
+    ensures first { result ≡ control_at_front kept.old.items }
 {
     match kept.front() {
         Some(SessionInput::Control(control)) => {

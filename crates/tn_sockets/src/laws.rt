@@ -1,29 +1,32 @@
 //! Laws of what is typed, over the definitions alone.
 
-ghost use Rattle.std.specs.Prelude.{◌≡◌, ℕ, Bool, None, Some, List, [], ◌∷◌, ◌++◌, false, IsFalse, map};
+ghost use Rattle.std.specs.Prelude.{◌≡◌, ℕ, None, Some, List, [], ◌∷◌, ◌++◌, IsFalse, IsTrue, map};
 ghost use Rattle.tn_codes.specs.declared.codes.Func.{Func};
 ghost use Rattle.std.specs.List.{All};
 ghost use Rattle.tn_discipline.specs.Canon.{typed_entries};
 ghost use Rattle.tn_discipline.specs.Characters.{AreAllowed, is_reserved, slot, standard_characters};
 ghost use Rattle.tn_sockets.specs.Mapping.{IsOfUser, characters_of, mapped, own_function, standard_own};
 ghost use Rattle.tn_sockets.specs.Mapping.{terminal_with};
-ghost use Rattle.tn_sockets.specs.Typing.{AreTaken, commands, inputs, inputs_in, mapped_input, of_bytes};
-ghost use Rattle.tn_sockets.specs.Typing.{unmapped};
+ghost use Rattle.tn_sockets.specs.Prompting.{closed};
+ghost use Rattle.tn_sockets.specs.Typing.{AreTaken, commands, inputs, inputs_in, is_escape, mapped_input};
+ghost use Rattle.tn_sockets.specs.Typing.{of_bytes, typed_after, unmapped};
 ghost use Rattle.tn_sockets.specs.declared.escaping.Escaping.{Escaping};
 ghost use Rattle.tn_sockets.specs.declared.escaping.SessionInput.TheVariants.{Key};
 ghost use Rattle.tn_sockets.specs.declared.escaping.Keyboard.{Keyboard};
 ghost use Rattle.tn_sockets.specs.declared.escaping.Typed.{Typed};
+ghost use Rattle.tn_sockets.specs.declared.escaping.Typed.TheVariants as typed;
 ghost use Rattle.tn_sockets.specs.declared.own_characters.OwnCharacters.{OwnCharacters};
+ghost use Rattle.tn_sockets.specs.declared.prompt.Prompt.{Prompt};
 
 /// Where there is no escape character and no character of the user's own, every byte is a key.
 pub fn every_byte_is_a_key()
-    ensures { (bytes : List ℕ) → inputs of_bytes false bytes ≡ map Key bytes }
+    ensures { (bytes : List ℕ) → inputs of_bytes closed bytes ≡ map Key bytes }
 {}
 
 /// Bytes that are taken one by one give what a session gets of them.
 pub fn one_by_one()
     ensures { (old new : Escaping) (bytes : List ℕ) (taken : List Typed) → AreTaken old bytes taken new →
-        inputs_in taken ≡ inputs old.keyboard old.waits bytes }
+        inputs_in taken ≡ inputs old.keyboard old.prompt bytes }
 {}
 
 /// A character of the user's own becomes the standard one of its function, whatever it is as a standard
@@ -46,10 +49,17 @@ pub fn standard_characters_change_nothing()
 
 /// The user's own characters change which keys a session gets, each by itself, and nothing else.
 pub fn only_keys_are_mapped()
-    ensures inputs { (keyboard : Keyboard) (waits : Bool) (bytes : List ℕ) →
-        inputs keyboard waits bytes ≡ map (mapped_input keyboard) (inputs (unmapped keyboard) waits bytes) }
-    ensures commands { (keyboard : Keyboard) (waits : Bool) (bytes : List ℕ) →
-        commands keyboard waits bytes ≡ commands (unmapped keyboard) waits bytes }
+    ensures inputs { (keyboard : Keyboard) (prompt : Prompt) (bytes : List ℕ) →
+        inputs keyboard prompt bytes ≡ map (mapped_input keyboard) (inputs (unmapped keyboard) prompt bytes) }
+    ensures commands { (keyboard : Keyboard) (prompt : Prompt) (bytes : List ℕ) →
+        commands keyboard prompt bytes ≡ commands (unmapped keyboard) prompt bytes }
+{}
+
+/// Of a line that is typed to the client itself no byte is a key, but the escape character on an empty one.
+pub fn no_line_is_sent()
+    ensures { (keyboard : Keyboard) (prompt : Prompt) (byte key : ℕ) → IsTrue prompt.is_open →
+        typed_after keyboard prompt byte ≡ typed.Key key →
+        (key ≡ byte) × IsTrue (is_escape keyboard.escape byte) × (prompt.line ≡ []) }
 {}
 
 /// The keys that a session gets give at a terminal with the standard characters the entries that the typed

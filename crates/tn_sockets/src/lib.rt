@@ -8,11 +8,13 @@
 //! let (outgoing, mut sending) = queue.sides::<H, W, Brand>(rt, alloc, writer, link, trace)?;
 //! let sent = sending.run()?; // in a thread of its own
 //!
-//! let keyboard = Keyboard { escape: Some(0x1d), own: OwnCharacters::none() }; // ^]
+//! let own = OwnCharacters::none();
+//! let keyboard = Keyboard { escape: Some(0x1d), own, editing: own }; // ^]
 //! let mut escaping = Escaping::new(keyboard);
 //! escaping.take(b'a'); // Typed::Key(b'a')
 //! escaping.take(0x1d); // Typed::Nothing
-//! escaping.take(b'q'); // Typed::Command(Command::Close)
+//! escaping.take(b'q'); // Typed::Nothing
+//! escaping.take(b'\r'); // Typed::Command(EscapeCommand::Close)
 //! ```
 //!
 //! It starts no thread and no session. Nothing is proved of what a socket or a terminal carries. It is proved
@@ -23,7 +25,7 @@
 pub use attended::{Attended, Standing};
 pub use connection::{Closing, Connection};
 pub use console::Console;
-pub use escaping::{EscapeCommand, Escaping, Keyboard, Obey, SessionInput, Typed};
+pub use escaping::{Echo, EscapeCommand, Escaping, Keyboard, Obey, SessionInput, Typed};
 pub use hook::Hook;
 pub use host::Host;
 pub use incoming::Incoming;
@@ -33,6 +35,7 @@ pub use logged::Logged;
 pub use outgoing::{NewQueue, Outgoing, Throttle, new_queue};
 pub use own_characters::OwnCharacters;
 pub use pieces::{Piece, PiecePass, PieceReceiver, PieceSender, Queue};
+pub use prompt::{Edit, Prompt, PromptLine, Sequence};
 pub use screen::Screen;
 pub use sending::{Sending, Sent};
 pub use sizes::Sizes;
@@ -58,6 +61,7 @@ mod outgoing;
 mod own_characters;
 mod pieces;
 mod presence;
+mod prompt;
 mod screen;
 mod sending;
 mod sizes;

@@ -1,6 +1,8 @@
 //! What the parts of a client's connection know of each other.
 
+use std::fs::File;
 use std::net::{Shutdown, TcpStream};
+use std::os::fd::AsRawFd;
 use std::sync::atomic::{AtomicBool, AtomicUsize, Ordering};
 use std::sync::{OnceLock, Wait};
 
@@ -35,6 +37,9 @@ pub struct Link {
     held: AtomicUsize,
     came: AtomicUsize,
     went: AtomicUsize,
+    /// What gets what the screen gets, and whether it lacks something.
+    log: OnceLock<File>,
+    log_lacks: AtomicBool,
 }
 
 impl Link {
@@ -54,6 +59,27 @@ impl Link {
             held: AtomicUsize::new(0),
             came: AtomicUsize::new(0),
             went: AtomicUsize::new(0),
+            log: OnceLock::new(),
+            log_lacks: AtomicBool::new(false),
+        }
+    }
+
+    /// Has what the screen gets appended to this file, unless one gets it already.
+    pub fn log_to<R: Wait>(&self, rt: &R, file: File) {
+        let _ = self.log.set(rt, file);
+    }
+
+    /// Whether the file has all that the screen got since.
+    pub fn is_log_whole(&self) -> bool {
+        !self.log_lacks.load(Ordering::SeqCst)
+    }
+
+    /// The screen got these bytes.
+    pub(crate) fn log(&self, bytes: &[u8]) {
+        if let Some(file) = self.log.get() {
+            if !append_all(file.as_raw_fd(), bytes) {
+                self.log_lacks.store(true, Ordering::SeqCst);
+            }
         }
     }
 
@@ -63,7 +89,7 @@ impl Link {
     }
 
     /// Ends both directions. A read that waits for the other end returns.
-    pub(crate) fn hang_up(&self) {
+    pub fn hang_up(&self) {
         if let Some(stream) = self.stream.get() {
             let _ = stream.shutdown(Shutdown::Both);
         }
@@ -190,4 +216,22 @@ impl Link {
     pub(crate) fn echoes_there(&self) -> bool {
         self.echoes_there.load(Ordering::SeqCst)
     }
+}
+
+// Writes all of this to a descriptor, in as many writes as it takes. Whether it was written.
+fn append_all(fd: i32, bytes: &[u8]) -> bool {
+    let mut done = 0usize;
+    for _ in 0..bytes.len() {
+        let Some(rest) = bytes.get(done..) else {
+            return true;
+        };
+        if rest.is_empty() {
+            return true;
+        }
+        let Ok(count) = usize::try_from(libc::write(fd, rest)) else {
+            return false;
+        };
+        done = done.saturating_add(count);
+    }
+    done >= bytes.len()
 }

@@ -9,7 +9,7 @@ use tn_discipline::{Chars, is_reserved};
 
 /// The special characters of the user's own terminal (POSIX.1-2017, XBD 11.1.9), each a byte, or none where
 /// it is disabled. Two may be the same byte.
-#[derive(Clone, Copy, Debug, PartialEq, Eq)]
+#[derive(Clone, Copy, PartialEq, Eq)]
 pub struct OwnCharacters {
     pub intr: Option<u8>,
     pub quit: Option<u8>,

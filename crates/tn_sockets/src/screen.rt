@@ -7,7 +7,7 @@ use std::io::{ErrorKind, Write};
 use std::sync::Arc;
 
 /// A screen. Once it takes no more, the connection is of no use, and is ended: else the session would wait
-/// for the other end to close.
+/// for the other end to close. What it gets, the log of the connection gets.
 #[derive(Drop)]
 pub struct Screen<S> {
     /// What is written to.
@@ -27,6 +27,9 @@ impl<S: Write> Write for Screen<S> {
         };
         if fails {
             self.link.darken();
+        }
+        if let Ok(count) = &wrote {
+            self.link.log(&buf[..*count]);
         }
         wrote
     }

@@ -38,7 +38,7 @@ pub struct Sending<H, W, Q: Queue> {
 }
 
 /// What became of all that was put.
-#[derive(Clone, Copy, Debug, PartialEq, Eq)]
+#[derive(Clone, Copy, PartialEq, Eq)]
 pub enum Sent {
     /// It was sent, up to its end.
     Whole,

@@ -2,11 +2,17 @@
 
 ghost use Rattle.std.specs.Prelude.{◌≡◌};
 
+use crate::escaping::Echo;
 use std::fs::File;
 use std::io::Write;
 
 /// What stands before a command to the client itself.
 const PROMPT: &[u8] = b"\r\ntn> ";
+
+/// What takes one byte of a line from the screen.
+const ERASED: &[u8] = b"\x08 \x08";
+
+const BELL: &[u8] = b"\x07";
 
 /// The line that asks whoever set the terminal to stop the program: SUB and a line feed.
 const STOPS: &[u8] = b"\x1a\n";
@@ -19,8 +25,6 @@ pub struct Terminal {
     pub screen: Option<File>,
     /// Who set it, if somebody waits for what is asked of him.
     pub launcher: Option<File>,
-    /// Whether the last line is a prompt.
-    is_prompted: bool,
 }
 
 impl Terminal {
@@ -29,38 +33,29 @@ impl Terminal {
         ensures screen { result.screen ≡ screen }
         ensures launcher { result.launcher ≡ launcher }
     {
-        Terminal {
-            screen,
-            launcher,
-            is_prompted: false,
-        }
+        Terminal { screen, launcher }
     }
 
-    /// Shows a text that begins on a line of its own.
+    /// Shows a text.
     pub(crate) fn show(&mut self, text: &[u8]) {
-        self.begin_line();
-        self.write(text);
-    }
-
-    /// Shows a prompt where a command is waited for, and ends its line where none is.
-    pub(crate) fn settle(&mut self, waits: bool) {
-        if waits && !self.is_prompted {
-            self.write(PROMPT);
-            self.is_prompted = true;
-        }
-        if !waits && self.is_prompted {
-            self.begin_line();
-        }
-    }
-
-    fn begin_line(&mut self) {
-        self.write(b"\r\n");
-        self.is_prompted = false;
-    }
-
-    fn write(&mut self, text: &[u8]) {
         if let Some(screen) = &mut self.screen {
             let _ = screen.write_all(text);
+        }
+    }
+
+    /// Shows what is typed to the client itself.
+    pub(crate) fn echo(&mut self, echo: Echo) {
+        match echo {
+            Echo::Nothing => {},
+            Echo::Prompt => self.show(PROMPT),
+            Echo::Byte(byte) => self.show(&[byte]),
+            Echo::Erased(0) | Echo::Refused => self.show(BELL),
+            Echo::Erased(count) => {
+                for _ in 0..count {
+                    self.show(ERASED);
+                }
+            },
+            Echo::End => self.show(b"\r\n"),
         }
     }
 

@@ -25,7 +25,7 @@ use tn_server::Editing;
 use tn_streams::Control;
 
 /// What happens next.
-#[derive(Debug, Drop)]
+#[derive(Drop)]
 pub enum LoopEvent {
     /// The user types these keys.
     Typed(Text),

@@ -78,13 +78,13 @@ one_escape text escape.None (escape.Key y) none (m, is_m, at_m) = absurd (apart 
 one_escape text escape.None escape.None a b = refl
 
 pub sign_writes : WritesEscape (codes "^]") (escape.Key 29)
-sign_writes = (93, refl, inl (record { letter_is = refl; at_least = omega arith; at_most = omega arith }))
+sign_writes = (93, refl, inl (record { letter_is = refl; at_least = omega arith; at_most = omega arith; no_feed = λ is. absurd (omega (arith, is)); no_return = λ is. absurd (omega (arith, is)) }))
 
 pub capital_writes : WritesEscape (codes "^A") (escape.Key 1)
-capital_writes = (65, refl, inl (record { letter_is = refl; at_least = omega arith; at_most = omega arith }))
+capital_writes = (65, refl, inl (record { letter_is = refl; at_least = omega arith; at_most = omega arith; no_feed = λ is. absurd (omega (arith, is)); no_return = λ is. absurd (omega (arith, is)) }))
 
 pub small_writes : WritesEscape (codes "^a") (escape.Key 1)
-small_writes = (97, refl, inr (record { letter_is = refl; at_least = omega arith; at_most = omega arith }))
+small_writes = (97, refl, inr (record { letter_is = refl; at_least = omega arith; at_most = omega arith; no_feed = λ is. absurd (omega (arith, is)); no_return = λ is. absurd (omega (arith, is)) }))
 
 standard : (rows : List Row) (e : Escape) → unwrap_or (first_of (codes "escape") rows) (codes "^]") ≡ codes "^]" → HasEscape rows e → e ≡ escape.Key 29
 standard rows e is h = one_escape (codes "^]") e (escape.Key 29) (subst (λ text. WritesEscape text e) is h) sign_writes

@@ -18,6 +18,8 @@ serve_numbers_of asked = record {
   line_limit = asked.line_limit;
   idle = asked.idle;
   longest = asked.longest;
+  drain = asked.drain;
+  proxied = asked.proxied;
   local = asked.local;
   verbose = asked.verbose;
 }
@@ -32,6 +34,8 @@ serve_numbers_asked rows asked asks = record {
   line = asks.line;
   idle = asks.idle;
   longest = asks.longest;
+  drain = asks.drain;
+  proxied = asks.proxied;
   edited = asks.edited;
   verbose = asks.verbose;
 }
@@ -40,6 +44,7 @@ abbrev pub choices_of : ServeWords → ServeChoices
 choices_of asked = record {
   line_end = asked.line_end;
   ends_cut = asked.ends_cut;
+  sends_signals = asked.sends_signals;
   logfmt = asked.logfmt;
   count = asked.count;
 }
@@ -48,6 +53,7 @@ pub choices_asked : (rows : List Row) (asked : ServeWords) → AsksServe rows as
 choices_asked rows asked asks = record {
   line_end = asks.line_end;
   ends_cut = asks.ends_cut;
+  sends_signals = asks.sends_signals;
   logfmt = asks.logfmt;
   count = asks.count;
 }
@@ -58,6 +64,8 @@ connect_numbers_of asked = record {
   height = asked.height;
   line_limit = asked.line_limit;
   wait = asked.wait;
+  patience = asked.patience;
+  timeout = asked.timeout;
   quiet = asked.quiet;
 }
 
@@ -68,5 +76,7 @@ connect_numbers_asked rows asked asks = record {
   height = asks.height;
   line = asks.line;
   wait = asks.wait;
+  patience = asks.patience;
+  timeout = asks.timeout;
   quiet = asks.quiet;
 }

@@ -2,10 +2,10 @@
 use Rattle.std.specs.Prelude.{List, codes, fold}
 use Rattle.clap.specs.Words.{App, Rule, with_rule}
 use Rattle.tn_words.specs.Commands.{flag_rule, host_rule, maybe_port_rule, number_rule, place_rule}
-use Rattle.tn_words.specs.Commands.{port_rule, text_rule, wait_rule, whole_rule, with_default}
+use Rattle.tn_words.specs.Commands.{patience_rule, port_rule, text_rule, wait_rule, whole_rule, with_default}
 use Rattle.tn_words.specs.declared.commands.Choice.{Choice}
 use Rattle.tn_words.specs.declared.commands.Choice.TheVariants.{Default, Flag, Host, HostPlace, Number, Port}
-use Rattle.tn_words.specs.declared.commands.Choice.TheVariants.{PortPlace, RequiredPort, Text, Wait}
+use Rattle.tn_words.specs.declared.commands.Choice.TheVariants.{Patience, PortPlace, RequiredPort, Text, Wait}
 
 -- what a parse goes by at a choice
 abbrev pub rule_of_choice : Choice → Rule
@@ -20,6 +20,7 @@ rule_of_choice HostPlace = place_rule (codes "host")
 rule_of_choice PortPlace = number_rule (codes "at") 1 65535
 rule_of_choice Port = maybe_port_rule
 rule_of_choice Wait = wait_rule
+rule_of_choice Patience = patience_rule
 
 -- the app with these choices, in turn
 abbrev pub with_choices : App → List Choice → App

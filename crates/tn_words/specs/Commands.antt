@@ -58,6 +58,10 @@ port_rule = required maybe_port_rule
 abbrev pub wait_rule : Rule
 wait_rule = with_default (with_letter (number_rule (codes "wait") 0 86400) 113) (codes "0")
 
+-- how many seconds, by `-w`, 119
+abbrev pub patience_rule : Rule
+patience_rule = with_default (with_letter (number_rule (codes "patience") 0 86400) 119) (codes "0")
+
 -- an option that takes a text
 abbrev pub text_rule : Text → Rule
 text_rule name = record (new_rule name) { long = Some name; value_names = 1 }
@@ -85,13 +89,17 @@ serve = with_rules (codes "serve") (
     ∷ line_rule
     ∷ with_default (whole_rule (codes "idle") 0 86400) (codes "0")
     ∷ with_default (whole_rule (codes "longest") 0 86400) (codes "0")
+    ∷ with_default (whole_rule (codes "drain") 0 86400) (codes "5")
+    ∷ flag_rule (codes "proxy")
     ∷ flag_rule (codes "local")
     ∷ flag_rule (codes "verbose")
     ∷ text_rule (codes "notes")
+    ∷ text_rule (codes "metrics")
     ∷ text_rule (codes "to")
     ∷ flag_rule (codes "crlf")
     ∷ flag_rule (codes "cr")
     ∷ text_rule (codes "line-cut")
+    ∷ text_rule (codes "signals")
     ∷ []
     )
 
@@ -102,11 +110,14 @@ connect = with_rules (codes "connect") (
     ∷ maybe_port_rule
     ∷ whole_rule (codes "width") 0 65535
     ∷ whole_rule (codes "height") 0 65535
-    ∷ line_rule
+    ∷ whole_rule (codes "line") 255 4095
     ∷ text_rule (codes "escape")
     ∷ text_rule (codes "keys")
     ∷ text_rule (codes "trace")
+    ∷ text_rule (codes "log")
     ∷ wait_rule
+    ∷ patience_rule
+    ∷ with_default (whole_rule (codes "timeout") 0 86400) (codes "0")
     ∷ flag_rule (codes "quiet")
     ∷ flag_rule (codes "plain")
     ∷ flag_rule (codes "lf")

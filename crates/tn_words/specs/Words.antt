@@ -97,17 +97,23 @@ service_line_end_in rows =
     service_line_end (is_given (codes "to") rows) (is_flagged (codes "crlf") rows)
     (is_flagged (codes "cr") rows)
 
--- what is done with a line that may have been cut: it is sent, or, with `end`, ends the session; no other
--- word is accepted, and none where no service is named
-abbrev pub chosen_cut : Bool → Option Text → Option Bool
-chosen_cut named None = Some false
-chosen_cut true (Some text) =
-    if bytes_eq text (codes "end") then Some true
-    else (if bytes_eq text (codes "send") then Some false else None)
-chosen_cut false (Some text) = None
+-- which of two words is given, of which the second is the usual one; no other word is accepted, and none
+-- unless a service is named
+abbrev pub chosen_word : Text → Text → Bool → Option Text → Option Bool
+chosen_word first usual named None = Some false
+chosen_word first usual true (Some text) =
+    if bytes_eq text first then Some true else (if bytes_eq text usual then Some false else None)
+chosen_word first usual false (Some text) = None
 
+-- whether a line that may have been cut ends the session, and is not sent
 abbrev pub ends_cut_in : List Row → Option Bool
-ends_cut_in rows = chosen_cut (is_given (codes "to") rows) (first_of (codes "line-cut") rows)
+ends_cut_in rows =
+    chosen_word (codes "end") (codes "send") (is_given (codes "to") rows) (first_of (codes "line-cut") rows)
+
+-- whether signals and the end of file are sent to the service, and do nothing else
+abbrev pub sends_signals_in : List Row → Option Bool
+sends_signals_in rows =
+    chosen_word (codes "send") (codes "act") (is_given (codes "to") rows) (first_of (codes "signals") rows)
 
 -- whether notes are written in pairs: with `logfmt` they are, with `text` or without the option they are not;
 -- no other word is accepted
@@ -141,12 +147,16 @@ pub record AsksServe (rows : List Row) (asked : ServeWords) : Type 0 where
   pub line : HasNumber rows (codes "line") 255 4095 asked.line_limit
   pub idle : HasNumber rows (codes "idle") 0 86400 asked.idle
   pub longest : HasNumber rows (codes "longest") 0 86400 asked.longest
+  pub drain : HasNumber rows (codes "drain") 0 86400 asked.drain
+  pub proxied : HasFlag rows (codes "proxy") asked.proxied
   pub edited : HasFlag rows (codes "local") asked.local
   pub verbose : HasFlag rows (codes "verbose") asked.verbose
   pub logfmt : logfmt_in rows ≡ Some asked.logfmt
+  pub metrics : MayHavePath rows (codes "metrics") (option_map string_bytes asked.metrics)
   pub to : MayHaveAddress rows asked.to
   pub line_end : service_line_end_in rows ≡ Some asked.line_end
   pub ends_cut : ends_cut_in rows ≡ Some asked.ends_cut
+  pub sends_signals : sends_signals_in rows ≡ Some asked.sends_signals
 
 -- HOST writes this host, and this port where it writes one; where it is not given, the host is this machine
 abbrev pub HasPlace : List Row → Text → Option ℕ → Type 0
@@ -211,15 +221,31 @@ chosen_characters (Some text) = named_characters text
 abbrev pub characters_in : List Row → Option Characters
 characters_in rows = chosen_characters (first_of (codes "keys") rows)
 
+-- how many bytes a line may have if no number is given
+abbrev pub usual_line : Bool → ℕ
+usual_line true = 4095
+usual_line false = 255
+
+-- A line may have this many bytes.
+pub record AsksLine (rows : List Row) (limit : ℕ) : Type 0 where
+  pub given : Option ℕ
+  pub by_option : MayHaveNumber rows (codes "line") 255 4095 given
+  pub is : limit ≡ unwrap_or given (usual_line (is_flagged (codes "plain") rows))
+  pub at_least : 255 ≤ limit
+  pub at_most : limit ≤ 4095
+
 pub record AsksConnect (rows : List Row) (asked : ConnectWords) : Type 0 where
   pub place : AsksPlace rows (string_bytes asked.host) asked.port
   pub width : MayHaveNumber rows (codes "width") 0 65535 asked.width
   pub height : MayHaveNumber rows (codes "height") 0 65535 asked.height
-  pub line : HasNumber rows (codes "line") 255 4095 asked.line_limit
+  pub line : AsksLine rows asked.line_limit
   pub escape : HasEscape rows asked.escape
   pub characters : characters_in rows ≡ Some asked.characters
   pub trace : option_map string_bytes asked.trace ≡ first_of (codes "trace") rows
+  pub log : option_map string_bytes asked.log ≡ first_of (codes "log") rows
   pub wait : HasNumber rows (codes "wait") 0 86400 asked.wait
+  pub patience : HasNumber rows (codes "patience") 0 86400 asked.patience
+  pub timeout : HasNumber rows (codes "timeout") 0 86400 asked.timeout
   pub quiet : HasFlag rows (codes "quiet") asked.quiet
   pub plain : line_end_in rows ≡ Some asked.plain
 

@@ -8,7 +8,7 @@ ghost use Rattle.tn_words.specs.Choices.{rule_of_choice, with_choices};
 ghost use Rattle.tn_words.specs.Commands.{tn, alone, offline, plain, serve, connect, whole_rule};
 ghost use Rattle.tn_words.specs.Commands.{with_default, flag_rule};
 ghost use Rattle.tn_words.specs.Commands.{host_rule, maybe_port_rule, number_rule, place_rule};
-ghost use Rattle.tn_words.specs.Commands.{port_rule, text_rule, wait_rule};
+ghost use Rattle.tn_words.specs.Commands.{patience_rule, port_rule, text_rule, wait_rule};
 
 use clap::builder::ValueParser;
 use clap::{Arg, ArgAction, Command, value_parser};
@@ -85,6 +85,13 @@ pub(crate) const LONGEST: Whole = Whole {
     most: 86_400,
 };
 
+/// At most a day.
+pub(crate) const DRAIN: Whole = Whole {
+    name: "drain",
+    least: 0,
+    most: 86_400,
+};
+
 pub(crate) const WIDTH: Whole = Whole {
     name: "width",
     least: 0,
@@ -111,6 +118,20 @@ pub(crate) const WAIT: Whole = Whole {
     most: 86_400,
 };
 
+/// At most a day.
+pub(crate) const PATIENCE: Whole = Whole {
+    name: "patience",
+    least: 0,
+    most: 86_400,
+};
+
+/// At most a day.
+pub(crate) const TIMEOUT: Whole = Whole {
+    name: "timeout",
+    least: 0,
+    most: 86_400,
+};
+
 pub(crate) const HOST: &str = "host";
 
 pub(crate) const ESCAPE: &str = "escape";
@@ -119,11 +140,17 @@ pub(crate) const KEYS: &str = "keys";
 
 pub(crate) const TRACE: &str = "trace";
 
+pub(crate) const LOG: &str = "log";
+
 pub(crate) const LOCALLY: &str = "local";
 
 pub(crate) const VERBOSE: &str = "verbose";
 
+pub(crate) const PROXIED: &str = "proxy";
+
 pub(crate) const NOTES: &str = "notes";
+
+pub(crate) const METRICS: &str = "metrics";
 
 pub(crate) const QUIET: &str = "quiet";
 
@@ -145,6 +172,8 @@ pub(crate) const TO: &str = "to";
 pub(crate) const CRLF: &str = "crlf";
 
 pub(crate) const LINE_CUT: &str = "line-cut";
+
+pub(crate) const SIGNALS: &str = "signals";
 
 /// The version of `tn`, which the line that it prints has too.
 const VERSION: &str = "1.2.0";
@@ -175,6 +204,8 @@ enum Choice {
     Port,
     /// How long to wait at the end of the keys.
     Wait,
+    /// How long to wait for more of the server after that.
+    Patience,
 }
 
 /// How long a line may be.
@@ -202,7 +233,7 @@ const SERVE_CHOICES: &[Choice] = &[
     Choice::Text(
         UNTIL,
         "FILE",
-        "Accepts no more once this file is there, lets its sessions end, and ends with status 0",
+        "Accepts no more once this file is there, ends its sessions as `--drain` says, and ends with status 0",
     ),
     Choice::Default(
         TICKS,
@@ -220,6 +251,15 @@ const SERVE_CHOICES: &[Choice] = &[
         "0",
         "Ends each session after this many seconds; 0 never does",
     ),
+    Choice::Default(
+        DRAIN,
+        "5",
+        "Gives sessions this many seconds to end, once `--until` or a signal ends the server; 0 waits",
+    ),
+    Choice::Flag(
+        PROXIED,
+        "Takes the client's address from the line of the PROXY protocol, version 1, by which each connection begins",
+    ),
     Choice::Flag(LOCALLY, "Lets the client edit the lines, where it can"),
     Choice::Flag(
         VERBOSE,
@@ -229,6 +269,11 @@ const SERVE_CHOICES: &[Choice] = &[
         NOTES,
         "FORM",
         "Writes notes as `text`, which is the default, or as `logfmt`, in pairs such as session=0",
+    ),
+    Choice::Text(
+        METRICS,
+        "FILE",
+        "Keeps counts of connections, sessions, bytes and lines in this file, in the text form of Prometheus",
     ),
     Choice::Text(
         TO,
@@ -246,6 +291,11 @@ const SERVE_CHOICES: &[Choice] = &[
         "With a line as long as one may be, which may have been cut: `send` it, which is the default, or \
          `end` the session",
     ),
+    Choice::Text(
+        SIGNALS,
+        "WHAT",
+        "With ^C, ^\\, ^Z and ^D: `act` on them here, which is the default, or `send` them to that service",
+    ),
 ];
 
 /// The places and the options of `tn connect`.
@@ -261,12 +311,15 @@ const CONNECT_CHOICES: &[Choice] = &[
         HEIGHT,
         "The height of the window, in lines; 0 tells none; default: the terminal's, or 24",
     ),
-    LINE_LENGTH,
+    Choice::Number(
+        LINE,
+        "How many bytes a line may have, with its closing byte; default: 255, or 4095 with --plain",
+    ),
     Choice::Text(
         ESCAPE,
         "C",
-        "The key that speaks to the client itself at a terminal: a caret and one of A to Z, [, \\, ], ^ \
-         and _, or `none`; default: ^]",
+        "The key that speaks to the client itself at a terminal: a caret and one of A to Z but J and M, [, \\, ], \
+         ^ and _, or `none`; default: ^]",
     ),
     Choice::Text(
         KEYS,
@@ -277,9 +330,16 @@ const CONNECT_CHOICES: &[Choice] = &[
     Choice::Text(
         TRACE,
         "FILE",
-        "Writes to this file what goes over the connection",
+        "Writes to this file what goes over the connection; what it had is kept in FILE~",
     ),
+    Choice::Text(LOG, "FILE", "Appends to this file what the screen gets"),
     Choice::Wait,
+    Choice::Patience,
+    Choice::Default(
+        TIMEOUT,
+        "0",
+        "Gives up an address that takes no connection for this many seconds; 0 never does",
+    ),
     Choice::Flag(
         QUIET,
         "Tells nothing of the connection at a terminal, but what fails",
@@ -504,7 +564,9 @@ fn connect_command<C: Grow>(alloc: Global) -> Result<C, AllocError>
          the server has closed.\n\n\
          At a terminal, start it by its launcher (`tn connect` once installed, `./tn connect` in the sources), which sets the terminal so that each key is sent at \
          once, and sets it back at the end. With `tn serve` at the other end, the line `exit` ends the \
-         session, and so does ^D on an empty line.",
+         session, and so does ^D on an empty line.\n\n\
+         There ^] begins a line to the client itself, which RETURN ends: quit, close or q; status or s; suspend or z; \
+         send brk, send ip and send ayt, or b, i and a; help or ?. An empty line goes back, and ^] again sends ^].",
         "Example, where `tn serve --port 2323` runs in another terminal:\n  \
          printf 'hello\\rexit\\r' | tn connect --port 2323",
     );
@@ -543,6 +605,7 @@ fn choice_arg<'a>(alloc: Global, choice: Choice) -> Arg<'a>
             "The port, in place of the one behind HOST or within it",
         ),
         Choice::Wait => wait_option(alloc),
+        Choice::Patience => patience_option(alloc),
     }
 }
 
@@ -608,6 +671,18 @@ fn wait_option<'a>(alloc: Global) -> Arg<'a>
         .value_name("SECONDS")
         .default_value("0")
         .help("At the end of its input, waits so long before the server is told that no more comes")
+}
+
+// How long to wait for more of the server after that.
+fn patience_option<'a>(alloc: Global) -> Arg<'a>
+    ensures rule { rule_of result ≡ patience_rule }
+    ensures local { result.global ≡ false }
+{
+    number_place(alloc, PATIENCE)
+        .short('w')
+        .value_name("SECONDS")
+        .default_value("0")
+        .help("After that, leaves once nothing has come for this many seconds; 0 never does")
 }
 
 fn required_port<'a>(alloc: Global, help: &'static str) -> Arg<'a>

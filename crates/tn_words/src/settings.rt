@@ -139,18 +139,27 @@ pub struct ServeWords {
     pub idle: u32,
     /// After how many seconds a session ends, from 0 to 86,400; at 0 it never does for that.
     pub longest: u32,
+    /// How many seconds sessions have to end once no more are to begin, from 0 to 86,400; at 0 they take their
+    /// time.
+    pub drain: u32,
+    /// Whether connections are of a proxy, and begin with the line that says for whom.
+    pub proxied: bool,
     /// Whether the client is asked to edit the lines.
     pub local: bool,
     /// Whether connections and the ends of their sessions are noted.
     pub verbose: bool,
     /// Whether notes are written in pairs (logfmt), and not as sentences.
     pub logfmt: bool,
+    /// The file for the counts of the server.
+    pub metrics: Option<String>,
     /// The line service that each session is joined to.
     pub to: Option<Address>,
     /// What ends each line for that service.
     pub line_end: LineEnd,
     /// Whether a line that may have been cut ends its session, in place of going to that service.
     pub ends_cut: bool,
+    /// Whether signals and the end of file go to that service as their bytes.
+    pub sends_signals: bool,
 }
 
 /// The key by which the user at a terminal speaks to the client itself.
@@ -182,6 +191,8 @@ fn control_of(letter: u8) -> Option<u8>
     ensures none { result ≡ None → (key : ℕ) → ¬ IsControlOf letter key }
 {
     match letter {
+        // RETURN and a line feed end lines.
+        b'J' | b'M' | b'j' | b'm' => None,
         b'A'..=b'_' => Some(letter - b'@'),
         b'a'..=b'z' => Some(letter - b'`'),
         _ => None,
@@ -231,8 +242,15 @@ pub struct ConnectWords {
     pub characters: Characters,
     /// The file that gets a trace of the connection.
     pub trace: Option<String>,
+    /// The file that gets what the screen gets.
+    pub log: Option<String>,
     /// How many seconds after the end of its input the server is told that no more comes, from 0 to 86,400.
     pub wait: u32,
+    /// For how many seconds nothing may come after that, from 0 to 86,400; at 0 it may for ever.
+    pub patience: u32,
+    /// After how many seconds an address that takes no connection is given up, from 0 to 86,400; at 0 the system
+    /// decides.
+    pub timeout: u32,
     /// Whether a terminal is told nothing of the connection.
     pub quiet: bool,
     /// What ends each line, where the connection is without Telnet.

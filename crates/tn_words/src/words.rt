@@ -4,22 +4,22 @@ ghost use Rattle.std.specs.Prelude.{◌≡◌, ◌≤◌, ℕ, List, ⊤, true, 
 ghost use Rattle.std.specs.Prelude.{IfSome, codes, map, option_map, string_bytes, unwrap_or};
 ghost use Rattle.clap.specs.Words.{Text, kind_of, rows_of, first_of, found_of, subcommand_rows_of};
 ghost use Rattle.tn_words.specs.Parts.{AsksConnectNumbers, AsksServeChoices, AsksServeNumbers};
-ghost use Rattle.tn_words.specs.Words.{AskFor, AsksConnect, AsksCount, AsksIn, AsksNothing, AsksPlace};
+ghost use Rattle.tn_words.specs.Words.{AskFor, AsksConnect, AsksCount, AsksIn, AsksLine, AsksNothing, AsksPlace};
 ghost use Rattle.tn_words.specs.Words.{AsksPort, AsksServe};
 ghost use Rattle.tn_words.specs.Words.{HasEscape, HasNumber, HasPlace, IsPath, Lacks};
 ghost use Rattle.tn_words.specs.Words.{MayHaveAddress, MayHaveNumber};
 ghost use Rattle.tn_words.specs.Words.{MayHavePath, MissesNumber, Refuses, TellsKind, chosen_count};
-ghost use Rattle.tn_words.specs.Words.{chosen_cut, chosen_logfmt, logfmt_in};
+ghost use Rattle.tn_words.specs.Words.{chosen_logfmt, chosen_word, logfmt_in, sends_signals_in};
 ghost use Rattle.tn_words.specs.Words.{characters_in, chosen_line_end, detail_of, ends_cut_in};
 ghost use Rattle.tn_words.specs.Words.{has_telnet_option};
 ghost use Rattle.tn_words.specs.Words.{is_flagged, is_given, line_end_in, one_port, service_line_end};
-ghost use Rattle.tn_words.specs.Words.{service_line_end_in};
+ghost use Rattle.tn_words.specs.Words.{service_line_end_in, usual_line};
 
 use crate::commands::{
-    AT, CONNECT, COUNT, CR, CRLF, DECODE, ESCAPE, FOREVER, HEIGHT, HOST, IDLE, KEYS, LF, LIMIT,
-    LINE, LINE_CUT, LOCAL, LOCALLY, LONGEST, MOST_PATH, NOTES, PER_HOST, PLAIN, PORT, QUIET,
-    REPLAY, SERVE, TICKS, TO, TRACE, UNTIL, VERBOSE, VERSION_LINE, WAIT, WIDTH, WORLD, Whole,
-    tn_command,
+    AT, CONNECT, COUNT, CR, CRLF, DECODE, DRAIN, ESCAPE, FOREVER, HEIGHT, HOST, IDLE, KEYS, LF,
+    LIMIT, LINE, LINE_CUT, LOCAL, LOCALLY, LOG, LONGEST, METRICS, MOST_PATH, NOTES, PATIENCE,
+    PER_HOST, PLAIN, PORT, PROXIED, QUIET, REPLAY, SERVE, SIGNALS, TICKS, TIMEOUT, TO, TRACE,
+    UNTIL, VERBOSE, VERSION_LINE, WAIT, WIDTH, WORLD, Whole, tn_command,
 };
 use crate::settings::{Address, Characters, ConnectWords, Escape, ServeWords, place_in};
 use clap::error::ErrorKind;
@@ -122,11 +122,17 @@ const NO_SERVICE_LINE_END: &str = "'--crlf' and '--cr' exclude each other, and n
 
 const NO_SERVICE: &str = "'--line-cut' needs '--to'";
 
+const NO_SERVICE_FOR_SIGNALS: &str = "'--signals' needs '--to'";
+
+const NO_SIGNALS: &str = "'--signals <WHAT>': it is neither `act` nor `send`";
+
 const NO_CUT: &str = "'--line-cut <WHAT>': it is neither `send` nor `end`";
 
 const NO_FORM: &str = "'--notes <FORM>': it is neither `text` nor `logfmt`";
 
-const NO_PATH: &str = "'--until <FILE>' needs a path of 1 to 4095 bytes";
+const NO_UNTIL: &str = "'--until <FILE>' needs a path of 1 to 4095 bytes";
+
+const NO_METRICS: &str = "'--metrics <FILE>' needs a path of 1 to 4095 bytes";
 
 const TWO_COUNTS: &str = "'--count' and '--forever' exclude each other";
 
@@ -184,7 +190,8 @@ fn serving(alloc: Global, words: &ArgMatches<'_>) -> Result<ServeWords, WordsFau
     };
     let to = to_of(alloc, words)?;
     let choices = serve_choices(alloc, words)?;
-    let until = until_of(alloc, words)?;
+    let until = path_of(alloc, words, UNTIL, NO_UNTIL)?;
+    let metrics = path_of(alloc, words, METRICS, NO_METRICS)?;
     let host = String::from_str(alloc, host)?;
     Ok(ServeWords {
         host,
@@ -197,12 +204,16 @@ fn serving(alloc: Global, words: &ArgMatches<'_>) -> Result<ServeWords, WordsFau
         line_limit: numbers.line_limit,
         idle: numbers.idle,
         longest: numbers.longest,
+        drain: numbers.drain,
+        proxied: numbers.proxied,
         local: numbers.local,
         verbose: numbers.verbose,
         logfmt: choices.logfmt,
+        metrics,
         to,
         line_end: choices.line_end,
         ends_cut: choices.ends_cut,
+        sends_signals: choices.sends_signals,
     })
 }
 
@@ -216,6 +227,8 @@ struct ServeNumbers {
     line_limit: Limit,
     idle: u32,
     longest: u32,
+    drain: u32,
+    proxied: bool,
     local: bool,
     verbose: bool,
 }
@@ -234,6 +247,8 @@ fn serve_numbers(words: &ArgMatches<'_>) -> Option<ServeNumbers>
         line_limit: line_limit_in(words)?,
         idle: number(words, IDLE)?,
         longest: number(words, LONGEST)?,
+        drain: number(words, DRAIN)?,
+        proxied: words.get_flag(PROXIED),
         local: words.get_flag(LOCALLY),
         verbose: words.get_flag(VERBOSE),
     })
@@ -244,6 +259,7 @@ fn serve_numbers(words: &ArgMatches<'_>) -> Option<ServeNumbers>
 struct ServeChoices {
     line_end: LineEnd,
     ends_cut: bool,
+    sends_signals: bool,
     logfmt: bool,
     count: Option<u32>,
 }
@@ -259,6 +275,9 @@ fn serve_choices(alloc: Global, words: &ArgMatches<'_>) -> Result<ServeChoices, 
     let Some(ends_cut) = ends_cut_in(words) else {
         return Err(lacking(alloc, &cut_lack(words)));
     };
+    let Some(sends_signals) = sends_signals_in(words) else {
+        return Err(lacking(alloc, &signals_lack(words)));
+    };
     let Some(logfmt) = logfmt_in(words) else {
         return Err(lacking(alloc, &notes_lack(words)));
     };
@@ -268,6 +287,7 @@ fn serve_choices(alloc: Global, words: &ArgMatches<'_>) -> Result<ServeChoices, 
     Ok(ServeChoices {
         line_end,
         ends_cut,
+        sends_signals,
         logfmt,
         count,
     })
@@ -314,26 +334,35 @@ fn service_line_end(named: bool, crlf: bool, cr: bool) -> Option<LineEnd>
 fn ends_cut_in(words: &ArgMatches<'_>) -> Option<bool>
     ensures { result ≡ ends_cut_in (rows_of (found_of words.now)) }
 {
-    chosen_cut(is_given(words, TO), words.get_str(LINE_CUT))
+    chosen_word("end", "send", is_given(words, TO), words.get_str(LINE_CUT))
 }
 
-fn chosen_cut(named: bool, given: Option<&str>) -> Option<bool>
-    ensures { result ≡ chosen_cut named (option_map (λ text. text.now) given.entry) }
+// Whether signals go to the service; `None` if the option makes no sense.
+fn sends_signals_in(words: &ArgMatches<'_>) -> Option<bool>
+    ensures { result ≡ sends_signals_in (rows_of (found_of words.now)) }
+{
+    chosen_word("send", "act", is_given(words, TO), words.get_str(SIGNALS))
+}
+
+// Whether the first of two words is given. The second is the usual one; without a service neither makes sense.
+fn chosen_word(first: &str, usual: &str, named: bool, given: Option<&str>) -> Option<bool>
+    ensures { result ≡
+        chosen_word first.now usual.now named (option_map (λ text. text.now) given.entry) }
 {
     match given {
         None => Some(false),
-        Some(text) if named => cut_of(text),
+        Some(text) if named => word_of(first, usual, text),
         Some(_) => None,
     }
 }
 
-fn cut_of(text: &str) -> Option<bool>
-    ensures { result ≡ chosen_cut true (Some text.now) }
+fn word_of(first: &str, usual: &str, text: &str) -> Option<bool>
+    ensures { result ≡ chosen_word first.now usual.now true (Some text.now) }
 {
-    if text == "end" {
+    if text == first {
         return Some(true);
     }
-    if text == "send" {
+    if text == usual {
         return Some(false);
     }
     None
@@ -344,6 +373,14 @@ fn cut_lack<'a>(words: &ArgMatches<'a>) -> Lack<'a> {
     match words.get_str(LINE_CUT) {
         Some(text) if is_given(words, TO) => Lack::Value(text, NO_CUT),
         _ => Lack::Words(NO_SERVICE),
+    }
+}
+
+// What is wrong if the words choose nothing for signals.
+fn signals_lack<'a>(words: &ArgMatches<'a>) -> Lack<'a> {
+    match words.get_str(SIGNALS) {
+        Some(text) if is_given(words, TO) => Lack::Value(text, NO_SIGNALS),
+        _ => Lack::Words(NO_SERVICE_FOR_SIGNALS),
     }
 }
 
@@ -377,18 +414,23 @@ fn notes_lack<'a>(words: &ArgMatches<'a>) -> Lack<'a> {
     }
 }
 
-// The file that ends the server once it is there, if one is named.
-fn until_of(alloc: Global, words: &ArgMatches<'_>) -> Result<Option<String>, WordsFault>
+// The path that an option names, if it is given. `lack` is told of one that is no path.
+fn path_of(
+    alloc: Global,
+    words: &ArgMatches<'_>,
+    name: &str,
+    lack: &'static str,
+) -> Result<Option<String>, WordsFault>
     ensures asked { IfOk result (λ path.
-        MayHavePath (rows_of (found_of words.now)) (codes "until") (option_map string_bytes path)) }
+        MayHavePath (rows_of (found_of words.now)) name.now (option_map string_bytes path)) }
     ensures lacks { IfErr result (Lacks
-        ((path : Option Text) → ¬ MayHavePath (rows_of (found_of words.now)) (codes "until") path)) }
+        ((path : Option Text) → ¬ MayHavePath (rows_of (found_of words.now)) name.now path)) }
 {
-    let Some(text) = words.get_str(UNTIL) else {
+    let Some(text) = words.get_str(name) else {
         return Ok(None);
     };
     if !is_path(text) {
-        return Err(lacking(alloc, &Lack::Words(NO_PATH)));
+        return Err(lacking(alloc, &Lack::Words(lack)));
     }
     let path = String::from_str(alloc, text)?;
     Ok(Some(path))
@@ -438,7 +480,8 @@ fn connecting(alloc: Global, words: &ArgMatches<'_>) -> Result<ConnectWords, Wor
     let Some(plain) = line_end_in(words) else {
         return Err(lacking(alloc, &line_end_lack(words)));
     };
-    let trace = trace_of(alloc, words)?;
+    let trace = text_of(alloc, words, TRACE)?;
+    let log = text_of(alloc, words, LOG)?;
     Ok(ConnectWords {
         host: place.host,
         port: place.port,
@@ -448,7 +491,10 @@ fn connecting(alloc: Global, words: &ArgMatches<'_>) -> Result<ConnectWords, Wor
         escape,
         characters,
         trace,
+        log,
         wait: numbers.wait,
+        patience: numbers.patience,
+        timeout: numbers.timeout,
         quiet: numbers.quiet,
         plain,
     })
@@ -461,6 +507,8 @@ struct ConnectNumbers {
     height: Option<u16>,
     line_limit: Limit,
     wait: u32,
+    patience: u32,
+    timeout: u32,
     quiet: bool,
 }
 
@@ -473,8 +521,10 @@ fn connect_numbers(words: &ArgMatches<'_>) -> Option<ConnectNumbers>
     Some(ConnectNumbers {
         width: size(words, WIDTH)?,
         height: size(words, HEIGHT)?,
-        line_limit: line_limit_in(words)?,
+        line_limit: connect_limit_in(words)?,
         wait: number(words, WAIT)?,
+        patience: number(words, PATIENCE)?,
+        timeout: number(words, TIMEOUT)?,
         quiet: words.get_flag(QUIET),
     })
 }
@@ -641,11 +691,12 @@ fn is_given(words: &ArgMatches<'_>, name: &str) -> bool
     words.get_str(name).is_some()
 }
 
-fn trace_of(alloc: Global, words: &ArgMatches<'_>) -> Result<Option<String>, AllocError>
-    ensures { IfOk result (λ trace.
-        option_map string_bytes trace ≡ first_of (codes "trace") (rows_of (found_of words.now))) }
+// The text of an option, if it is given.
+fn text_of(alloc: Global, words: &ArgMatches<'_>, name: &str) -> Result<Option<String>, AllocError>
+    ensures { IfOk result (λ given.
+        option_map string_bytes given ≡ first_of name.now (rows_of (found_of words.now))) }
 {
-    match words.get_str(TRACE) {
+    match words.get_str(name) {
         Some(path) => Ok(Some(String::from_str(alloc, path)?)),
         None => Ok(None),
     }
@@ -685,6 +736,32 @@ fn line_limit_in(words: &ArgMatches<'_>) -> Option<Limit>
 {
     let bytes = short_number(words, LINE)?;
     Limit::new(bytes)
+}
+
+// How long a line of a client may be.
+fn connect_limit_in(words: &ArgMatches<'_>) -> Option<Limit>
+    ensures some { IfSome result (AsksLine (rows_of (found_of words.now))) }
+    ensures none { result ≡ None → (limit : ℕ) → ¬ AsksLine (rows_of (found_of words.now)) limit }
+{
+    let bytes = line_bytes(words)?;
+    Limit::new(bytes)
+}
+
+fn line_bytes(words: &ArgMatches<'_>) -> Option<u16>
+    ensures some { IfSome result (AsksLine (rows_of (found_of words.now))) }
+    ensures none { result ≡ None → (limit : ℕ) → ¬ AsksLine (rows_of (found_of words.now)) limit }
+{
+    match size(words, LINE)? {
+        Some(bytes) => Some(bytes),
+        None => Some(usual_line(is_flagged(words, PLAIN))),
+    }
+}
+
+// How many bytes a line may have if no number is given.
+fn usual_line(plain: bool) -> u16
+    ensures { result ≡ usual_line plain }
+{
+    if plain { 4_095 } else { 255 }
 }
 
 // The number of an option, if it is within its range.

@@ -54,6 +54,8 @@ where
         origin: KeySource::Reader,
         escape: None,
         wait: 0,
+        patience: 0,
+        timeout: 0,
     };
     let (mut causes, mut told) = (Vec::new(alloc), Vec::new(alloc));
     let notes = ClientContext {

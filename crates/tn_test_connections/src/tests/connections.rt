@@ -72,6 +72,8 @@ fn serving(sessions: u16, count: u64) -> Serving {
         sessions,
         per_host: 64,
         count,
+        drain: 0,
+        is_proxied: false,
         options: options(0),
     }
 }

@@ -30,6 +30,7 @@ where
             line_end: LineEnd::CrLf,
             limit: Limit::standard(),
             ends_cut: false,
+            sends_signals: false,
         },
     };
     let serving = Serving::standard();

@@ -5,7 +5,7 @@ use std::fs::{File, Files};
 use std::io::{self, Cursor, ErrorKind, Read, Write};
 use std::sync::Arc;
 use tn_program::{
-    KeySource, Link, Lookout, Network, OwnCharacters, Streams, own_characters, run_words,
+    KeySource, Link, Lookout, Network, OwnCharacters, Replacing, Streams, own_characters, run_words,
 };
 use tn_serve::Host;
 
@@ -46,7 +46,7 @@ fn run<H, R, W>(
     writer: &mut W,
 ) -> Option<(u8, Vec<u8>)>
 where
-    H: Network + Host + Lookout + Eprint + Files<File = File>,
+    H: Network + Host + Lookout + Replacing + Eprint + Files<File = File>,
     R: Read + Drop + Send + 'static,
     W: Write,
 {

@@ -45,40 +45,40 @@ const ASKED: &[(&str, &str)] = &[
     (
         "tn serve --port 2323",
         "Serve(ServeWords { host: \"127.0.0.1\", port: 2323, sessions: 8, per_host: 64, count: Some(1), \
-         until: None, ticks: 0, line_limit: Limit { bytes: 255 }, idle: 0, longest: 0, local: false, \
-         verbose: false, logfmt: false, to: None, line_end: Lf, ends_cut: false })",
+         until: None, ticks: 0, line_limit: Limit { bytes: 255 }, idle: 0, longest: 0, drain: 5, proxied: false, \
+         local: false, verbose: false, logfmt: false, metrics: None, to: None, line_end: Lf, ends_cut: false, sends_signals: false })",
     ),
     (
         "tn serve --limit=64 --count 1000000 --ticks=1000 --host ::1 --line 4095 --idle 86400 \
-         --until /run/end --per-host 2 --longest=3600 --local --verbose --notes logfmt --port=2323 --to [::1]:7 --crlf \
-         --line-cut end",
+         --until /run/end --drain 86400 --proxy --per-host 2 --longest=3600 --local --verbose --notes logfmt --metrics /m --port=2323 --to [::1]:7 --crlf \
+         --line-cut end --signals send",
         "Serve(ServeWords { host: \"::1\", port: 2323, sessions: 64, per_host: 2, count: Some(1000000), \
          until: Some(\"/run/end\"), ticks: 1000, line_limit: Limit { bytes: 4095 }, idle: 86400, \
-         longest: 3600, local: true, verbose: true, logfmt: true, to: Some(Address { host: \"::1\", port: 7 }), \
-         line_end: CrLf, ends_cut: true })",
+         longest: 3600, drain: 86400, proxied: true, local: true, verbose: true, logfmt: true, metrics: Some(\"/m\"), to: Some(Address { host: \"::1\", port: 7 }), \
+         line_end: CrLf, ends_cut: true, sends_signals: true })",
     ),
     (
         "tn serve --forever -p 7 --cr --to h:7 --line-cut=send",
         "Serve(ServeWords { host: \"127.0.0.1\", port: 7, sessions: 8, per_host: 64, count: None, \
-         until: None, ticks: 0, line_limit: Limit { bytes: 255 }, idle: 0, longest: 0, local: false, \
-         verbose: false, logfmt: false, to: Some(Address { host: \"h\", port: 7 }), line_end: Cr, ends_cut: false })",
+         until: None, ticks: 0, line_limit: Limit { bytes: 255 }, idle: 0, longest: 0, drain: 5, proxied: false, \
+         local: false, verbose: false, logfmt: false, metrics: None, to: Some(Address { host: \"h\", port: 7 }), line_end: Cr, ends_cut: false, sends_signals: false })",
     ),
     (
-        "tn connect -p7 --width 65535 --height 0 --escape ^a -q 86400 --quiet --keys standard",
+        "tn connect -p7 --width 65535 --height 0 --escape ^a -q 86400 -w 7 --timeout 5 --log l --quiet --keys standard",
         "Connect(ConnectWords { host: \"127.0.0.1\", port: 7, width: Some(65535), height: Some(0), \
-         line_limit: Limit { bytes: 255 }, escape: Key(1), characters: Standard, trace: None, wait: 86400, \
+         line_limit: Limit { bytes: 255 }, escape: Key(1), characters: Standard, trace: None, log: Some(\"l\"), wait: 86400, patience: 7, timeout: 5, \
          quiet: true, plain: None })",
     ),
     (
         "tn connect example.org",
         "Connect(ConnectWords { host: \"example.org\", port: 23, width: None, height: None, \
-         line_limit: Limit { bytes: 255 }, escape: Key(29), characters: Own, trace: None, wait: 0, \
+         line_limit: Limit { bytes: 255 }, escape: Key(29), characters: Own, trace: None, log: None, wait: 0, patience: 0, timeout: 0, \
          quiet: false, plain: None })",
     ),
     (
         "tn connect --escape none --port 7 ::1 --trace a/b",
         "Connect(ConnectWords { host: \"::1\", port: 7, width: None, height: None, \
-         line_limit: Limit { bytes: 255 }, escape: None, characters: Own, trace: Some(\"a/b\"), wait: 0, \
+         line_limit: Limit { bytes: 255 }, escape: None, characters: Own, trace: Some(\"a/b\"), log: None, wait: 0, patience: 0, timeout: 0, \
          quiet: false, plain: None })",
     ),
     ("tn connect --port 7", AT_PORT_7),
@@ -91,7 +91,7 @@ const ASKED: &[(&str, &str)] = &[
 /// A connection to port 7 of this machine, without any option.
 const AT_PORT_7: &str =
     "Connect(ConnectWords { host: \"127.0.0.1\", port: 7, width: None, height: None, \
-     line_limit: Limit { bytes: 255 }, escape: Key(29), characters: Own, trace: None, wait: 0, quiet: false, \
+     line_limit: Limit { bytes: 255 }, escape: Key(29), characters: Own, trace: None, log: None, wait: 0, patience: 0, timeout: 0, quiet: false, \
      plain: None })";
 
 #[test]
@@ -135,7 +135,7 @@ const REFUSED: &[&str] = &[
     "tn serve --port 7 --line-cut send",
     "tn serve --port 7 --to h:7 --line-cut End",
     "tn serve --port 7 --to h:7 --line-cut",
-    "tn serve --port 7 --to h:7 --line-cut end --line-cut end",
+    "tn serve --port 7 --to h:7 --line-cut end --signals send --line-cut end --signals send",
     "tn serve --port 7 --until=",
     "tn serve --port 7 --until a --until b",
     "tn serve --port 7 --forever --count 2",
@@ -201,7 +201,10 @@ const TOLD: &[(&str, &str)] = &[
     ("tn connect h:x", "invalid value 'h:x' for '[HOST]'"),
     ("tn connect h --cr", "need '--plain'"),
     ("tn serve -p 7 --cr", "need '--to'"),
-    ("tn serve -p 7 --line-cut end", "'--line-cut' needs '--to'"),
+    (
+        "tn serve -p 7 --line-cut end --signals send",
+        "'--line-cut' needs '--to'",
+    ),
     (
         "tn serve -p 7 --to h:7 --line-cut all",
         "invalid value 'all' for '--line-cut <WHAT>'",

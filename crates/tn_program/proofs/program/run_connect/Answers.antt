@@ -1,4 +1,4 @@
-use Rattle.std.proofs.Common.{IfOk, List, ℕ, refl, subst}
+use Rattle.std.proofs.Common.{IfOk, List, ℕ, inl, inr, refl, subst}
 use Rattle.tn_connect.specs.Clients.{ConnectsBy, RunsClient, connection_of, foreseen, window_of}
 use Rattle.tn_connect.specs.declared.settings.KeySource.{KeySource}
 use Rattle.tn_network.specs.Asked.{Reaches}
@@ -8,7 +8,10 @@ use Rattle.tn_streams.specs.Known.{KnownTyping}
 use Rattle.tn_program.proofs.program.run_connect.Goals as goal
 
 pub returns-in_default-clause-comes : goal.returns-in_default-clause-comes
-returns-in_default-clause-comes g c = (c.args.asked, refl, c.in_default.ensures, refl)
+returns-in_default-clause-comes g c = (c.args.asked, refl, inl c.in_default.ensures, refl)
+
+pub returns-in_default-open_log-clause-comes : goal.returns-in_default-open_log-clause-comes
+returns-in_default-open_log-clause-comes g c = (c.args.asked, refl, inr c.in_default-open_log.ensures, refl)
 
 pub returns-clause-comes : goal.returns-clause-comes
 returns-clause-comes g c = (

@@ -1,9 +1,12 @@
-use Rattle.std.proofs.Common.{IfOk, List, ℕ, refl, subst}
+use Rattle.std.proofs.Common.{IfOk, List, ℕ, inr, refl, subst}
 use Rattle.tn_connect.specs.Clients.{ConnectsBy}
 use Rattle.tn_connect.specs.Talks.{RunsTalk, talked_over}
 use Rattle.tn_connect.specs.declared.settings.Plain.{Plain}
 use Rattle.tn_network.specs.Asked.{Reaches}
 use Rattle.tn_program.proofs.program.run_plain.Goals as goal
+
+pub returns-in_default-clause-comes : goal.returns-in_default-clause-comes
+returns-in_default-clause-comes g c = (c.args.asked.now, refl, inr c.in_default.ensures, refl)
 
 pub returns-clause-comes : goal.returns-clause-comes
 returns-clause-comes g c = (

@@ -43,7 +43,10 @@ returns-clause-asked c =
       escape = c.in_ok-escape.ensures.asked;
       characters = c.in_ok-characters.ensures.asked;
       trace = c.in_ok-trace.ensures;
+      log = c.in_ok-log.ensures;
       wait = numbers.wait;
+      patience = numbers.patience;
+      timeout = numbers.timeout;
       quiet = numbers.quiet;
       plain = sym c.line_end_in.ensures ∙ c.in-Some-line_end_in.is;
     }

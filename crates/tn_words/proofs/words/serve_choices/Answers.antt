@@ -13,6 +13,11 @@ returns-in_default-ends_cut_in-clause-lacks c =
     lacks_by c.lacking-in_default-ends_cut_in.result c.lacking-in_default-ends_cut_in.ensures (λ asked asks.
     has_none _ _ (sym c.ends_cut_in.ensures ∙ c.in_default-ends_cut_in.is) asks.ends_cut)
 
+pub returns-in_default-sends_signals_in-clause-lacks : goal.returns-in_default-sends_signals_in-clause-lacks
+returns-in_default-sends_signals_in-clause-lacks c =
+    lacks_by c.lacking-in_default-sends_signals_in.result c.lacking-in_default-sends_signals_in.ensures (λ asked asks.
+    has_none _ _ (sym c.sends_signals_in.ensures ∙ c.in_default-sends_signals_in.is) asks.sends_signals)
+
 pub returns-in_default-logfmt_in-clause-lacks : goal.returns-in_default-logfmt_in-clause-lacks
 returns-in_default-logfmt_in-clause-lacks c =
     lacks_by c.lacking-in_default-logfmt_in.result c.lacking-in_default-logfmt_in.ensures (λ asked asks.
@@ -27,6 +32,7 @@ pub returns-clause-asked : goal.returns-clause-asked
 returns-clause-asked c = record {
   line_end = sym c.service_line_end_in.ensures ∙ c.in-Some.is;
   ends_cut = sym c.ends_cut_in.ensures ∙ c.in-Some-ends_cut_in.is;
+  sends_signals = sym c.sends_signals_in.ensures ∙ c.in-Some-sends_signals_in.is;
   logfmt = sym c.logfmt_in.ensures ∙ c.in-Some-logfmt_in.is;
   count = search rules;
 }

@@ -31,6 +31,10 @@ pub returns-in_err-number-2-clause-none : goal.returns-in_err-number-2-clause-no
 returns-in_err-number-2-clause-none c none asked asks =
     c.number-2.ensures.none c.in_err-number-2.was asked.longest asks.longest
 
+pub returns-in_err-number-3-clause-none : goal.returns-in_err-number-3-clause-none
+returns-in_err-number-3-clause-none c none asked asks =
+    c.number-3.ensures.none c.in_err-number-3.was asked.drain asks.drain
+
 pub returns-clause-asked : goal.returns-clause-asked
 returns-clause-asked c = record {
   port = c.in_ok-short_number.ensures.some;
@@ -40,14 +44,20 @@ returns-clause-asked c = record {
   line = c.in_ok-line_limit_in.ensures.some;
   idle = c.in_ok-number.ensures.some;
   longest = c.in_ok-number-2.ensures.some;
+  drain = c.in_ok-number-3.ensures.some;
+  proxied = record {
+    given = λ is. c.get_flag.ensures.value (one_text-rows (found_of c.args.words.now) (codes "proxy") ∙ is);
+    not_given = λ is. c.get_flag.ensures.other (one_text-rows (found_of c.args.words.now) (codes "proxy") ∙ is);
+    unknown = λ is. c.get_flag.ensures.none (one_text-rows (found_of c.args.words.now) (codes "proxy") ∙ is);
+  };
   edited = record {
-    given = λ is. c.get_flag.ensures.value (one_text-rows (found_of c.args.words.now) (codes "local") ∙ is);
-    not_given = λ is. c.get_flag.ensures.other (one_text-rows (found_of c.args.words.now) (codes "local") ∙ is);
-    unknown = λ is. c.get_flag.ensures.none (one_text-rows (found_of c.args.words.now) (codes "local") ∙ is);
+    given = λ is. c.get_flag-2.ensures.value (one_text-rows (found_of c.args.words.now) (codes "local") ∙ is);
+    not_given = λ is. c.get_flag-2.ensures.other (one_text-rows (found_of c.args.words.now) (codes "local") ∙ is);
+    unknown = λ is. c.get_flag-2.ensures.none (one_text-rows (found_of c.args.words.now) (codes "local") ∙ is);
   };
   verbose = record {
-    given = λ is. c.get_flag-2.ensures.value (one_text-rows (found_of c.args.words.now) (codes "verbose") ∙ is);
-    not_given = λ is. c.get_flag-2.ensures.other (one_text-rows (found_of c.args.words.now) (codes "verbose") ∙ is);
-    unknown = λ is. c.get_flag-2.ensures.none (one_text-rows (found_of c.args.words.now) (codes "verbose") ∙ is);
+    given = λ is. c.get_flag-3.ensures.value (one_text-rows (found_of c.args.words.now) (codes "verbose") ∙ is);
+    not_given = λ is. c.get_flag-3.ensures.other (one_text-rows (found_of c.args.words.now) (codes "verbose") ∙ is);
+    unknown = λ is. c.get_flag-3.ensures.none (one_text-rows (found_of c.args.words.now) (codes "verbose") ∙ is);
   };
 }

@@ -33,6 +33,11 @@ returns-in_err-until-clause-lacks c =
     let p = err_from_is_err_and c.from_residual-in_err-until.result c.from_residual-in_err-until.ensures.1 in
     rw (p.1, p.2) (lacks_more c.in_err-until.field-0.0 (λ none asked asks. none _ asks.until) c.in_err-until.ensures.lacks)
 
+pub returns-in_err-metrics-clause-lacks : goal.returns-in_err-metrics-clause-lacks
+returns-in_err-metrics-clause-lacks c =
+    let p = err_from_is_err_and c.from_residual-in_err-metrics.result c.from_residual-in_err-metrics.ensures.1 in
+    rw (p.1, p.2) (lacks_more c.in_err-metrics.field-0.0 (λ none asked asks. none _ asks.metrics) c.in_err-metrics.ensures.lacks)
+
 pub returns-clause-asked : goal.returns-clause-asked
 returns-clause-asked c =
     let numbers = c.in-Some-serve_numbers.ensures.asked in
@@ -49,10 +54,14 @@ returns-clause-asked c =
       line = numbers.line;
       idle = numbers.idle;
       longest = numbers.longest;
+      drain = numbers.drain;
+      proxied = numbers.proxied;
       edited = numbers.edited;
       verbose = numbers.verbose;
       to = c.in_ok-to.ensures.asked;
       line_end = choices.line_end;
       ends_cut = choices.ends_cut;
+      sends_signals = choices.sends_signals;
       logfmt = choices.logfmt;
+      metrics = c.in_ok-metrics.ensures.asked;
     }

@@ -1,0 +1,119 @@
+//! The files of a client: the trace of its connection, and the log of its screen. Only their owner reads
+//! them, since they have what is typed and shown.
+
+ghost use Rattle.std.specs.Prelude.{◌≢◌, ◌⊎◌, None, OnErr};
+
+use std::alloc::Global;
+use std::fs::{File, Files, OpenOptions, Permissions};
+use std::io::{ErrorKind, Write};
+use std::os::unix::fs::{MetadataExt, OpenOptionsExt, PermissionsExt};
+use std::sync::Wait;
+use std::{fs, io};
+use tn_connect::Link;
+use tn_words::ConnectWords;
+
+/// Only its owner reads and writes such a file.
+const PRIVATE: u32 = 0o600;
+
+/// The file that gets the trace, if one is wanted. If it can't be made, that is noted.
+pub(crate) fn open_trace<H: Files<File = File>>(
+    rt: &H,
+    alloc: Global,
+    asked: &ConnectWords,
+    causes: &mut Vec<u8>,
+) -> io::Result<Option<File>>
+    ensures { OnErr result (asked.now.trace ≢ None) }
+{
+    let Some(path) = &asked.trace else {
+        return Ok(None);
+    };
+    match create_private(rt, alloc, path.as_str()) {
+        Ok(file) => Ok(Some(file)),
+        Err(error) => {
+            let _ = writeln!(causes, "tn: {}: {}", path, error);
+            Err(error)
+        },
+    }
+}
+
+/// Has what the screen gets appended to a file, if that is wanted. If it can't be opened, that is noted.
+pub(crate) fn open_log<H: Files<File = File> + Wait>(
+    rt: &H,
+    asked: &ConnectWords,
+    link: &Link,
+    causes: &mut Vec<u8>,
+) -> io::Result<()>
+    ensures { OnErr result (asked.now.log ≢ None) }
+{
+    let Some(path) = &asked.log else {
+        return Ok(());
+    };
+    match append_private(rt, path.as_str()) {
+        Ok(file) => {
+            link.log_to(rt, file);
+            Ok(())
+        },
+        Err(error) => {
+            let _ = writeln!(causes, "tn: {}: {}", path, error);
+            Err(error)
+        },
+    }
+}
+
+// An empty file. One that was there before is kept under its name and a tilde; a link is renamed itself, and
+// not followed. What is no regular file is written to as it is.
+fn create_private<H: Files<File = File>>(rt: &H, alloc: Global, path: &str) -> io::Result<File> {
+    if is_device(rt, path) {
+        return open_device(rt, path);
+    }
+    if fs::symlink_metadata(rt, path).is_ok() {
+        let mut kept = String::from_str(alloc, path)?;
+        kept.push('~')?;
+        fs::rename(rt, path, kept.as_str())?;
+    }
+    let mut options = OpenOptions::new();
+    options.mode(PRIVATE);
+    options.write(true);
+    options.create_new(true);
+    options.open(rt, path)
+}
+
+// A file that is appended to. A link is not followed.
+fn append_private<H: Files<File = File>>(rt: &H, path: &str) -> io::Result<File> {
+    if is_device(rt, path) {
+        return open_device(rt, path);
+    }
+    let mut options = OpenOptions::new();
+    options.mode(PRIVATE);
+    options.append(true);
+    options.create(true);
+    let file = options.open(rt, path)?;
+    let named = fs::symlink_metadata(rt, path)?;
+    let opened = file.metadata()?;
+    if named.is_symlink() || named.ino() != opened.ino() {
+        return Err(io::Error::new(ErrorKind::PermissionDenied, "it is a link"));
+    }
+    file.set_permissions(Permissions::from_mode(PRIVATE))?;
+    Ok(file)
+}
+
+// Whether the path leads to what is there and no regular file: a terminal, a pipe, or a descriptor.
+fn is_device<H: Files<File = File>>(rt: &H, path: &str) -> bool {
+    if path.starts_with("/dev/") || path.starts_with("/proc/") {
+        return true;
+    }
+    match fs::metadata(rt, path) {
+        Ok(found) => !found.is_file(),
+        Err(_) => false,
+    }
+}
+
+// It has to be the user's own, or the system's.
+fn open_device<H: Files<File = File>>(rt: &H, path: &str) -> io::Result<File> {
+    let file = OpenOptions::new().write(true).open(rt, path)?;
+    let owner = file.metadata()?.uid();
+    if owner != 0 && owner != libc::geteuid() {
+        return Err(io::Error::new(ErrorKind::PermissionDenied, "it is somebody else's"));
+    }
+    Ok(file)
+}

@@ -1,0 +1,66 @@
+-- The line that a user types to the client itself, behind the escape character: how it is edited.
+use Rattle.std.specs.Prelude.{ℕ, nat_le, ◌==◌, ◌||◌, ◌&&◌, ◌+◌, ◌-◌, true, false, not, List, [], ◌∷◌, ◌++◌, length}
+use Rattle.std.specs.Prelude.{take, if◌then◌else◌}
+use Rattle.tn_sockets.specs.Mapping.{mapped}
+use Rattle.tn_sockets.specs.declared.own_characters.OwnCharacters.{OwnCharacters}
+use Rattle.tn_sockets.specs.declared.prompt.Edit.{Edit}
+use Rattle.tn_sockets.specs.declared.prompt.Edit.TheVariants.{Enter, Leave, Erase, Kill, Add, Skip, Refuse}
+use Rattle.tn_sockets.specs.declared.prompt.Prompt.{Prompt}
+use Rattle.tn_sockets.specs.declared.prompt.Sequence.{Sequence}
+use Rattle.tn_sockets.specs.declared.prompt.Sequence.TheVariants as sequence
+
+-- no line is typed, and one begins
+abbrev pub closed : Prompt
+closed = record { is_open = false; line = []; sequence = sequence.Nothing }
+
+abbrev pub opened : Prompt
+opened = record { is_open = true; line = []; sequence = sequence.Nothing }
+
+-- a line has at most 255 bytes
+abbrev pub with_added : List ℕ → ℕ → List ℕ
+with_added line byte = if nat_le (length line + 1) 255 then line ++ byte ∷ [] else line
+
+abbrev pub without_last : List ℕ → List ℕ
+without_last line = take (length line - 1) line
+
+-- what a standard character does: both BS and DEL erase
+abbrev pub edit_by : ℕ → Edit
+edit_by character =
+    if character == 8 || character == 127 then Erase else if character == 21 then Kill
+    else if character == 3 then Leave else if nat_le 32 character && nat_le character 126 then Add else Refuse
+
+-- what a byte does that is part of no sequence: a line feed ends a line as a return does
+abbrev pub plain_edit : OwnCharacters → ℕ → Edit
+plain_edit own byte =
+    if byte == 10 || byte == 13 then Enter else if byte == 27 then Skip sequence.Escape
+    else edit_by (mapped own byte)
+
+-- What a byte does. A sequence is ESC, a bracket, signs and digits, and one letter or sign more; or ESC, O and
+-- one byte (ECMA-48, 5.4). It is passed over.
+abbrev pub edit_of : OwnCharacters → Sequence → ℕ → Edit
+edit_of own sequence.Nothing byte = plain_edit own byte
+edit_of own sequence.Escape byte =
+    if byte == 91 then Skip sequence.Control else if byte == 79 then Skip sequence.Letter else plain_edit own byte
+edit_of own sequence.Control byte =
+    if nat_le 32 byte && nat_le byte 63 then Skip sequence.Control
+    else if nat_le 64 byte && nat_le byte 126 then Skip sequence.Nothing else plain_edit own byte
+edit_of own sequence.Letter byte =
+    if nat_le 32 byte && nat_le byte 126 then Skip sequence.Nothing else plain_edit own byte
+
+-- and what the line is then
+abbrev pub after_edit : Edit → ℕ → Prompt → Prompt
+after_edit Enter byte prompt = record { is_open = false; line = prompt.line; sequence = sequence.Nothing }
+after_edit Leave byte prompt = record { is_open = false; line = prompt.line; sequence = sequence.Nothing }
+after_edit Erase byte prompt =
+    record { is_open = prompt.is_open; line = without_last prompt.line; sequence = sequence.Nothing }
+after_edit Kill byte prompt = record { is_open = prompt.is_open; line = []; sequence = sequence.Nothing }
+after_edit Add byte prompt =
+    record { is_open = prompt.is_open; line = with_added prompt.line byte; sequence = sequence.Nothing }
+after_edit (Skip s) byte prompt = record { is_open = prompt.is_open; line = prompt.line; sequence = s }
+after_edit Refuse byte prompt =
+    record { is_open = prompt.is_open; line = prompt.line; sequence = sequence.Nothing }
+
+-- the line after the escape character, which ends an empty one
+abbrev pub after_escape : Prompt → Prompt
+after_escape prompt =
+    record { is_open = not (length prompt.line == 0); line = prompt.line; sequence = sequence.Nothing }
