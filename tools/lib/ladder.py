@@ -116,17 +116,25 @@ class Ladder:
         self.marks.append(lambda: self.picture.path(f"M{source} {y:g}H{target}"))
         self.marks.append(lambda: self.picture.path(f"M{target} {y:g}l{-9 * way} -4v8z", "tip"))
         for text in texts:
-            self.hear_mode(target, text)
+            self.take_mode(source, target, text.removeprefix("IAC "))
         self.y += 24
 
-    def hear_mode(self, end, text):
-        """An end edits, or takes bytes as edited, from the MODE that it hears on."""
-        if not text.removeprefix("IAC ").startswith("SB LINEMODE MODE"):
-            return
-        if "EDIT" in text.split():
-            self.begin.setdefault(end, self.y)
-            self.y += 14
-        elif end in self.begin:
+    def take_mode(self, source, target, text):
+        """An end edits, or takes bytes as edited, from the MODE on that reaches it. It ends with a MODE without EDIT and with LINEMODE; the
+        client that ends LINEMODE by itself edits no more at once."""
+        if text.startswith("SB LINEMODE MODE"):
+            if "EDIT" in text.split():
+                self.begin.setdefault(target, self.y)
+                self.y += 14
+            else:
+                self.end_band(target)
+        elif text in ("WONT LINEMODE", "DONT LINEMODE"):
+            self.end_band(target)
+            if source == LEFT:
+                self.end_band(source)
+
+    def end_band(self, end):
+        if end in self.begin:
             self.bands.append((end, self.begin.pop(end), self.y))
 
     def draw_ends(self):

@@ -119,9 +119,10 @@ class Peer(Bytes):
 
     def __init__(self, world, port, host="127.0.0.1", opening=b"", name="a peer got"):
         self.began, self.served, self.left = time.monotonic(), None, None
-        super().__init__(socket.create_connection(("127.0.0.1", port), timeout=PATIENCE, source_address=(host, 0)))
+        to = "::1" if ":" in host else "127.0.0.1"
+        super().__init__(socket.create_connection((to, port), timeout=PATIENCE, source_address=(host, 0)))
         world.keep(name, lambda: self.got)
-        self.address = "%s:%d" % self.connection.getsockname()
+        self.address = ("[%s]:%d" if ":" in host else "%s:%d") % self.connection.getsockname()[:2]
         self.sent = 0
         self.send(opening)
 
@@ -186,6 +187,17 @@ class Listener(Bytes):
         if self.connection is not None:
             self.connection.close()
         self.listener.close()
+
+
+def filled(world):
+    """A server that takes no connection, and those that wait for it."""
+    listener = Listener(world, backlog=0)
+    waiting = []
+    while not waiting or select.select([], [waiting[-1]], [], 1)[1]:
+        waiting.append(socket.socket())
+        waiting[-1].setblocking(False)
+        waiting[-1].connect_ex(("127.0.0.1", listener.port))
+    return listener, waiting
 
 
 class Relay:

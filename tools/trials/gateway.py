@@ -339,3 +339,29 @@ def another_makers_service_answers(world, start, steps, *words):
         user.type(keys, answer) if keys else user.screen.wait_for(answer)
     user.end()
     serving.end()
+
+
+@case(each={"edited at the server": (), "edited at the client": ("--local",)})
+def signals_go_to_a_service_that_wants_them(world, *words):
+    """As a console behind a serial line wants them: nothing of ^C, ^\\, ^Z and ^D is done here."""
+    def talk(service, connection):
+        while b"\x04" not in service.got and service.read(connection):
+            connection.sendall(b"got %d\n" % len(service.got))
+        connection.sendall(b"logout\n")
+
+    service, serving = joined(world, talk, "--signals", "send", *words)
+    user = User(world, serving.port, edits=editing(words))
+    user.type(b"top\r", b"got 4\r\n")
+    for count, key in enumerate((b"\x03", b"\x1a", b"\x1c"), 5):
+        user.type(key, b"got %d\r\n" % count)
+    user.type(b"\x04", b"logout\r\n")
+    user.end()
+    expect_same(b"top\n\x03\x1a\x1c\x04", service.end(), "what the service got")
+    serving.end()
+
+
+@case(each={"without a service": ("'--signals' needs '--to'", "--signals", "send"),
+            "of another word": ("'--signals <WHAT>': it is neither `act` nor `send`", "--to", "127.0.0.1:7", "--signals", "keep")})
+def signals_make_sense_only(world, lack, *words):
+    ran = world.run("serve", "--port", "7", *words)
+    expect(ran.returncode == 2 and lack.encode() in ran.stderr, f"wanted {lack}, got {ran}")

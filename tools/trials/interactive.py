@@ -1,7 +1,7 @@
 """`tn connect` at a pseudoterminal, with servers that do as they like: what is sent, shown and printed, and how it ends."""
 import fcntl
 import os
-import select
+import re
 import signal
 import socket
 import struct
@@ -10,24 +10,13 @@ import termios
 import threading
 import time
 
-from ends import AYT, BRK, DO, DONT, IAC, IP, LINEMODE, NAWS, WILL, WONT, Listener, Serving, mode, size
+from ends import AYT, BRK, DO, DONT, IAC, IP, LINEMODE, NAWS, WILL, WONT, Listener, Serving, filled, mode, size
 from sockets import probed_in, sockets_of
 from terminal import Terminal, at_terminal, is_there, state_of
-from world import case, expect, expect_same, wait_until
+from world import case, expect, expect_in_order, expect_same, wait_until
 
 ASKS_SIZE = bytes([IAC, DO, NAWS])
 ASKS_LINEMODE = bytes([IAC, DO, LINEMODE])
-
-
-def filled(world):
-    """A server that takes no connection, and those that wait for it."""
-    listener = Listener(world, backlog=0)
-    waiting = []
-    while not waiting or select.select([], [waiting[-1]], [], 1)[1]:
-        waiting.append(socket.socket())
-        waiting[-1].setblocking(False)
-        waiting[-1].connect_ex(("127.0.0.1", listener.port))
-    return listener, waiting
 
 
 @case(each={"by ^C": (b"\x03", 130), "by ^backslash": (b"\x1c", 131), "by ^Z": (b"\x1a", None)})
@@ -36,10 +25,12 @@ def it_can_be_left_while_it_connects(world, key, status):
     terminal = Terminal(world, "--port", listener.port, shell=status is None)
     terminal.see(f"Trying 127.0.0.1:{listener.port}..".encode())
     program = terminal.program()
+    terminal.gets_raw()
     time.sleep(0.3)  # Nothing is to happen before it is connected.
-    expect(terminal.is_set_back(), "the terminal is raw before it is connected")
+    expect(termios.tcgetattr(terminal.slave)[3] & termios.ISIG, "the terminal takes no signals before it is connected")
     if status is None:
         terminal.type(key, b"stopped")
+        expect(terminal.is_set_back(), "the terminal is not set back while it is stopped")
         terminal.type(b"\n")
         wait_until(lambda: state_of(program) not in "TZ", "the program goes on")
     else:
@@ -62,13 +53,29 @@ def the_connection_is_reported(world):
     terminal.see(b"Connected to 127.0.0.1.\r\n")
 
 
+@case(each={"by Telnet": (bytes([IAC, WILL, 1]), b"\r\0", 0), "by lines": (b"", b"\r\n", 1, "--plain")})
+def a_greeting_that_is_answered_at_once_meets_a_terminal_that_is_set(world, opening, line_end, shown, *words):
+    for _ in range(20):
+        listener = Listener(world)
+        terminal = Terminal(world, *words, f"127.0.0.1:{listener.port}")
+        listener.accept()
+        listener.send(opening + b"login: ")
+        wait_until(lambda: b"login: " in terminal.shown, "the greeting is shown", pause=0.001)
+        os.write(terminal.master, b"me\r")
+        listener.read_until(b"me" + line_end)
+        listener.close()
+        terminal.end()
+        expect_in_order(terminal.shown, b"Trying 127.0.0.1", b"Connected to 127.0.0.1.", b"\r\nlogin: ")
+        expect_same(shown, bytes(terminal.shown).count(b"me"), "how often the answer is shown")
+
+
 @case
 def nothing_is_reported_if_it_is_not_wanted(world):
     listener, terminal = at_terminal(world, "--quiet")
     listener.send(b"a prompt")
     terminal.see(b"a prompt")
     terminal.leave()
-    expect_same(b"a prompt" + b" " * 100 + b"\r", bytes(terminal.shown), "what is shown with --quiet")
+    expect_same(b"a prompt\r\ntn> q\r\n" + b" " * 100 + b"\r", bytes(terminal.shown), "what is shown with --quiet")
     with tempfile.TemporaryFile() as errors:
         _, terminal = at_terminal(world, errors=errors)
         terminal.leave()
@@ -80,12 +87,13 @@ def nothing_is_reported_if_it_is_not_wanted(world):
 @case
 def a_silent_server_can_be_left(world):
     listener, terminal = at_terminal(world)
-    probed = probed_in(listener.connection.getpeername()[1], listener.port)
-    expect(probed and 10 < probed <= 60, f"wanted a silent server to be probed within a minute, got {probed}")
+    # Until all is acknowledged another timer runs.
+    probed = wait_until(lambda: probed_in(listener.connection.getpeername()[1], listener.port), "a silent server is to be probed")
+    expect(10 < probed <= 60, f"wanted a silent server to be probed within a minute, got {probed}")
     terminal.leave()
 
 
-@case(each={"at once": (b"",), "after a command": (b"\x1dby",)})
+@case(each={"at once": (b"",), "after a command": (b"\x1db\ry",)})
 def a_server_that_reads_nothing_can_be_left(world, before):
     listener = Listener(world, buffer=1024)
     terminal = Terminal(world, "--port", listener.port)
@@ -98,7 +106,7 @@ def a_server_that_reads_nothing_can_be_left(world, before):
     terminal.leave()
     came = listener.read_rest().count(b"x")
     expect(came < typed, "all was sent")
-    terminal.see(f"tn: {typed - came + len(before[2:])} bytes typed were not sent\r\n".encode())
+    terminal.see(f"tn: {typed - came + len(before[3:])} bytes typed were not sent\r\n".encode())
 
 
 @case
@@ -107,7 +115,7 @@ def a_paste_that_is_read_is_sent_whole(world):
     typed = 60_000
     reading = threading.Thread(target=listener.read_rest)
     reading.start()
-    terminal.paste(b"x" * typed + b"\x1dq")
+    terminal.paste(b"x" * typed + b"\x1dq\r")
     terminal.end()
     reading.join()
     expect_same(b"x" * typed, listener.got, "what the server got")
@@ -119,7 +127,7 @@ def it_is_asked_for_at_the_terminal(world):
     with tempfile.TemporaryFile() as log:
         listener, terminal = at_terminal(world, screen=log)
         terminal.type(b"\x1d", b"\r\ntn> ")
-        terminal.type(b"?", b"\r\nq  closes")
+        terminal.type(b"?\r", b"?\r\nquit, close, q  close")
         terminal.type(b"\x1d\x1d")
         listener.read_until(b"\x1d")
         terminal.leave()
@@ -132,13 +140,13 @@ def it_can_be_stopped_by_a_key(world):
     listener, terminal = at_terminal(world, shell=True)
     listener.send(ASKS_SIZE)
     listener.read_until(size(100, 40))
-    terminal.type(b"\x1dz", b"stopped")
+    terminal.type(b"\x1dz\r", b"stopped")
     expect(terminal.is_set_back(), "the terminal is not set back while it is stopped")
     terminal.resize(50, 132)
     terminal.type(b"\n")
     terminal.gets_raw()
     listener.read_until(size(132, 50))
-    terminal.type(b"k\x1dq")
+    terminal.type(b"k\x1dq\r")
     listener.read_until(b"k")
     terminal.see(b"ended with 0")
     expect(terminal.is_set_back(), "the terminal is not set back")
@@ -149,7 +157,7 @@ def a_monitor_that_waits_for_brk_is_reached(world):
     listener, terminal = at_terminal(world)
     listener.send(bytes([IAC, WILL, 1, IAC, WILL, 3]) + ASKS_SIZE)
     listener.read_until(size(100, 40))
-    terminal.type(b"\x1db")
+    terminal.type(b"\x1dsend brk\r")
     listener.read_until(bytes([IAC, BRK]))
     listener.send(b"monitor> ")
     terminal.see(b"\r\nmonitor> ")
@@ -177,9 +185,10 @@ EDITED_AT = {"the server": (False,), "the client": (True,)}
 def at_a_served_terminal_brk_and_ip_do_what_the_key_does(world, is_local):
     def lines_by(key):
         shown = typed_to_ours(world, is_local, (b"abc", b"abc"), (key, b"int"), (b"def\r", b"def\r\n", b"abcdef\r\n"))
-        return [line for line in shown.replace(b"\r\ntn> \r\n", b"").replace(b"^C", b"").split(b"\r\n") if line.strip()]
+        prompts = re.compile(rb"\r\ntn> [^\r]*\r\n")
+        return [line for line in prompts.sub(b"", shown).replace(b"^C", b"").split(b"\r\n") if line.strip()]
     by_key = lines_by(b"\x03")
-    for command in (b"\x1di", b"\x1db"):
+    for command in (b"\x1di\r", b"\x1db\r"):
         by_command = lines_by(command)
         expect_same((by_key[-1], 1), (by_command[-1], b"".join(by_command).count(b"int")), f"the last line by {command!r}, and its signals")
 
@@ -200,15 +209,24 @@ ESCAPED = bytes([IAC, BRK])
 
 @case(each={
     "the escape character twice": (b"a\x1d\x1db.", b"a\x1db."),
-    "commands among keys": (b"abc\x1dbdef\x1di\x1da\x1d\x1d\x1db\x1dbg.",
+    "commands among keys": (b"abc\x1db\rdef\x1di\r\x1da\r\x1d\x1d\x1db\r\x1db\rg.",
                             b"abc" + ESCAPED + b"def" + bytes([IAC, IP, IAC, AYT]) + b"\x1d" + 2 * ESCAPED + b"g."),
-    "an unknown command": (b"a\x1dxb.", b"ab."),
-    "another escape character": (b"\x1dq\x01b.", b"\x1dq" + ESCAPED + b".", {}, "--escape", "^A"),
+    "words": (b"a\x1dsend brk\rb\x1dsend ip\rc\x1dsend ayt\rd\x1dstatus\re\x1dhelp\r.",
+              b"a" + ESCAPED + b"b" + bytes([IAC, IP]) + b"c" + bytes([IAC, AYT]) + b"de."),
+    "unknown words": (b"a\x1dend brk\rb\x1dlose it\rc\x1dqu\rd.", b"abcd."),
+    "no word": (b"a\x1d\rb\x1d\nc\x1dx\x7f\rd\x1dxyz\x15\re\x1dquit\x03f.", b"abcdef."),
+    "an edited word": (b"a\x1dsemd\x7f\x7fnd brl\x7fk\rb\x1dnonsense\x15send ip\rc.", b"a" + ESCAPED + b"b" + bytes([IAC, IP]) + b"c."),
+    "keys that send more than a byte": (b"a\x1d\x1b[A\x1bOB\x1b[15~\x1b[1;5Cb\x1b[D\rc\x1d\x1b[A\rd.", b"a" + ESCAPED + b"cd."),
+    "the escape character behind a word": (b"a\x1db\x1d\rc.", b"a" + ESCAPED + b"c."),
+    "a long line": (b"a\x1d" + b"b" * 300 + b"\rc\x1d" + b"b" * 300 + b"\x7f" * 254 + b"\rd.", b"ac" + ESCAPED + b"d."),
+    "another escape character": (b"\x1dq\x01b\r.", b"\x1dq" + ESCAPED + b".", {}, "--escape", "^A"),
     "no escape character": (b"\x1dq.", b"\x1dq.", {}, "--escape", "none"),
     "own characters": (b"123456\x1d\x1d.", b"\x03\x1c\x1a\x7f\x15\x04\x1d.", {
         termios.VINTR: b"1", termios.VQUIT: b"2", termios.VSUSP: b"3", termios.VERASE: b"4", termios.VKILL: b"5", termios.VEOF: b"6"}),
-    "own characters that are taken otherwise": (b"\x1d\x1d\x1dbb.", b"\x1d" + ESCAPED + b"\x7f.", {
-        termios.VQUIT: b"\x1d", termios.VERASE: b"b", termios.VKILL: b"\x00", termios.VINTR: b"q"}),
+    "own characters that are taken otherwise": (b"\x1d\x1d#\x1db\r.", b"\x1d\x7f" + ESCAPED + b".", {
+        termios.VQUIT: b"\x1d", termios.VERASE: b"#", termios.VKILL: b"\x00", termios.VINTR: b"q"}),
+    "own characters that edit a word": (b"a\x1dx#b\rb\x1dxyz@b\rc\x1dxq.", b"a" + ESCAPED + b"b" + ESCAPED + b"c.", {
+        termios.VERASE: b"#", termios.VKILL: b"@", termios.VINTR: b"q"}),
     "characters that are never taken": (b"a\r\n\xffx\x00.", b"a\r\0\n\xff\xff\x1c\x00.", {
         termios.VERASE: b"\r", termios.VKILL: b"\n", termios.VINTR: b"\xff", termios.VEOF: b"\x00", termios.VQUIT: b"x", termios.VSUSP: b"x"})})
 def what_is_typed_is_sent_of(world, keys, wanted, characters=None, *words):
@@ -216,17 +234,28 @@ def what_is_typed_is_sent_of(world, keys, wanted, characters=None, *words):
     terminal.type(keys)
     listener.read_until(b".")
     expect_same(wanted, listener.got, "what the server got")
-    if b"\x1dx" in keys:
-        terminal.see(b"unknown")
+    if b"lose" in keys:
+        wait_until(lambda: bytes(terminal.shown).count(b"\r\nunknown command") == 3, "each unknown command is reported")
 
 
-@case(each={"keys": (b"exit\r\x1dqgone", b"exit\r\0"), "a command": (b"ab\x1di\x1dq", b"ab" + bytes([IAC, IP]))})
+@case(each={"keys": (b"exit\r\x1dq\rgone", b"exit\r\0"), "a command": (b"ab\x1di\r\x1dclose\r", b"ab" + bytes([IAC, IP])),
+            "a word": (b"ab\x1dquit\r", b"ab")})
 def what_is_typed_before_it_leaves_is_sent(world, keys, wanted):
     listener, terminal = at_terminal(world)
     terminal.type(keys)
     terminal.end()
     expect(b"not sent" not in terminal.shown, "keys are reported as not sent")
     expect_same(wanted, listener.read_rest(), "what the server got")
+
+
+@case
+def a_line_to_the_client_is_shown_as_it_is_edited(world):
+    _, terminal = at_terminal(world)
+    terminal.type(b"\x1dstap\x7ftus", b"\r\ntn> stap\x08 \x08tus")
+    terminal.type(b"\x15", 6 * b"\x08 \x08")
+    terminal.type(b"\x7f\x1b[A?", b"\x07?")
+    terminal.type(b"\x1d\r", b"\x07\r\nquit, close, q ")
+    terminal.leave()
 
 
 @case
@@ -240,11 +269,23 @@ def help_is_shown_and_not_sent(world):
     listener, terminal = at_terminal(world)
     listener.send(b"login: ")
     terminal.see(b"login: ")
-    terminal.type(b"\x1d?")
-    terminal.see(b"login: \r\nq  closes")
+    terminal.type(b"\x1d?\r")
+    terminal.see(b"login: \r\ntn> ?\r\nquit, close, q  close")
+    for word in (b"status", b"suspend", b"send brk", b"send ip", b"send ayt", b"help"):
+        terminal.see(b"\r\n" + word)
     terminal.type(b"k\r")
     listener.read_until(b"k\r")
     expect(b"?" not in listener.got and b"\x1d" not in listener.got, "what is for the client is sent")
+    terminal.leave()
+
+
+@case
+def one_byte_is_no_bytes(world):
+    listener, terminal = at_terminal(world)
+    listener.send(b"x")
+    terminal.see_state(b"\r\n1 byte came, 0 went\r\n")
+    listener.send(b"x")
+    terminal.see_state(b"\r\n2 bytes came, 0 went\r\n")
     terminal.leave()
 
 
@@ -263,7 +304,7 @@ def the_state_says_what_is_agreed_on_by(world, words, *texts):
     listener.send(words + b"hello")
     terminal.see(b"hello")
     listener.settle()
-    terminal.type(b"\x1ds", *texts)
+    terminal.type(b"\x1ds\r", *texts)
     terminal.leave()
 
 
@@ -322,10 +363,14 @@ def a_dead_screen_ends_it(world):
 
 @case
 def a_broken_connection_ends_it(world):
-    listener, terminal = at_terminal(world)
-    listener.reset()
-    terminal.end(3)
-    terminal.see(b"tn: the connection broke")
+    for keys in (b"", b"abc"):
+        listener, terminal = at_terminal(world)
+        terminal.type(keys)
+        listener.read_until(keys)
+        listener.reset()
+        terminal.end(3)
+        terminal.see(b"\rtn: session\r\ntn: the connection broke\r\n")
+        expect(b"sending failed" not in terminal.shown, "a connection that broke is reported twice")
 
 
 @case
@@ -350,7 +395,7 @@ def by_hang_up(_, terminal):
 
 
 def by_keys(_, terminal):
-    terminal.type(b"\x1dq")
+    terminal.type(b"\x1dq\r")
 
 
 def by_kill(_, terminal):
@@ -395,7 +440,7 @@ def after_a_stop_it_goes_on(world, number, send):
     # A program that was not stopped itself may wait for the key that the shell took, and sends no size before the next.
     terminal.type(b"\x03k")
     listener.read_until(b"\x03k", size(132, 50))
-    terminal.type(b"\x1dq", b"ended with 0")
+    terminal.type(b"\x1dq\r", b"ended with 0")
     expect(terminal.is_set_back(), "the terminal is not set back after a stop")
 
 

@@ -1,9 +1,10 @@
 """What tools of their own judge: the packages, each call for memory refused in turn, and the library for C."""
 import os
+import re
 import subprocess
 
 import basics
-from world import Failed, NotTried, case
+from world import Failed, NotTried, case, expect, expect_same
 
 
 def judged(tool, *words, tries=1):
@@ -28,6 +29,26 @@ def the_packages_are_as_the_pages_say(world):
 @case(seconds=300)
 def each_call_for_memory_may_be_refused(world):
     judged("refuse-each", world.program)
+
+
+LADDER = """0.000 < IAC DO LINEMODE
+0.001 > IAC WILL LINEMODE
+0.002 < IAC SB LINEMODE MODE EDIT
+0.003 > IAC SB LINEMODE MODE EDIT ACK
+0.004 < IAC DONT LINEMODE
+0.005 > IAC WONT LINEMODE
+0.006 > data "a"
+0.007 > data "b"
+"""
+
+
+@case
+def a_ladder_draws_editing_until_linemode_ends(world):
+    run = subprocess.run([os.path.join(basics.TOP, "tools/ladder")], input=LADDER, capture_output=True, text=True, check=True)
+    bands = [(int(x), int(stop)) for x, stop in re.findall(r'd="M(\d+) \d+V(\d+)" class="edits"', run.stdout)]
+    foot = int(re.search(r'd="M170 34V(\d+)"', run.stdout)[1])
+    expect_same(2, len(bands), "how many ends edit, or take bytes as edited")
+    expect(all(stop < foot - 50 for _, stop in bands), f"the bands {bands} go on to the foot at {foot}")
 
 
 @case(long=True, seconds=1_800)

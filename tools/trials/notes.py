@@ -4,18 +4,20 @@ import itertools
 import os
 import re
 import resource
+import signal
 import socket
 import subprocess
 import time
 
 import basics
 from ends import IAC, NAWS, SB, SE, WILL, Peer, Serving
-from sockets import probed_in, sockets_of, unread
+from sockets import enter_own_network, probed_in, sockets_of, unread
 from world import Collected, NotTried, case, expect, expect_same, free_port, wait_until
 
 BEGAN = re.compile(r"session (\d+) \(serial (\d+)\) from (\S+) began")
 STARVED = re.compile(r"no connection can be accepted now: (.+)")
 FULL = re.compile(r"no session \(serial (\d+)\) from (\S+): full")
+WITHOUT_DESCRIPTOR = re.compile(r"no session from (\S+): full, Too many open files.*")
 ROSTER = re.compile(r"accepted \d+|full")
 ENDED = re.compile(r"session (\d+) \(serial (\d+)\) from (\S+) ended: (.+), (\d+\.\d) s, in ([\d,]+) bytes, out ([\d,]+) bytes, "
                    r"([\d,]+) entries")
@@ -66,8 +68,8 @@ def each_session_is_noted(world):
     first, second = Peer(world, serving.port).is_served(), Peer(world, serving.port).is_served()
     third = Peer(world, serving.port)
     expect_same(b"full\r\n", third.leave(), "what one more peer gets")
-    probed = probed_in(serving.port, second.connection.getsockname()[1])
-    expect(probed and 10 < probed <= 60, f"wanted a silent peer to be probed within a minute, got {probed}")
+    probed = wait_until(lambda: probed_in(serving.port, second.connection.getsockname()[1]), "a silent peer is to be probed")
+    expect(10 < probed <= 60, f"wanted a silent peer to be probed within a minute, got {probed}")
     first.send(b"hello\r\n" * 200)
     first.leave()
     wait_for_end(serving, first)
@@ -88,7 +90,7 @@ def each_session_is_noted(world):
     expect_same("3", noted(lines, FULL, third)[1], "the serial number of one more")
     numbers = [expect_session(lines, 1, first, "hang-up", 200), expect_session(lines, 2, second, "hang-up", 0)]
     expect_same([0, 1], sorted(numbers), "the numbers of the two first")
-    expect_same(numbers[0], expect_session(lines, 4, fourth, "connection reset", 0), "a number that is free again")
+    expect_same(numbers[0], expect_session(lines, 4, fourth, "reset by the client", 0), "a number that is free again")
     expect_session(lines, 5, fifth, "done", 1)
     expect_same(noted(lines, ENDED, fourth)[0], lines[lines.index("tn: session") + 1], "the line after `tn: session`")
 
@@ -159,7 +161,7 @@ def who_types_nothing_is_idle(world, piece):
 @case(each={"--forever": (["--forever"],), "--count": (["--count", "3"],)})
 def once_a_file_is_there_sessions_go_on_and_none_begins(world, words):
     marker = world.path("end")
-    serving = Serving(world, "--verbose", "--until", marker, *words)
+    serving = Serving(world, "--verbose", "--until", marker, "--drain", "0", *words)
     first, second = Peer(world, serving.port).is_served(), Peer(world, serving.port).is_served()
     open(marker, "w", encoding="ascii").close()
     serving.printed.wait_for(b"no more connections are accepted\n")
@@ -172,6 +174,84 @@ def once_a_file_is_there_sessions_go_on_and_none_begins(world, words):
     expect_same(1, lines.count("no more connections are accepted"), "how often that is noted")
     expect_session(lines, 1, first, "hang-up", 1)
     expect_session(lines, 2, second, "hang-up", 0)
+
+
+@case(each={"--drain 1": (1, "--drain", "1"), "--drain 5, the default": (5,)})
+def once_a_file_is_there_sessions_have_their_time_to_end(world, seconds, *words):
+    marker = world.path("end")
+    serving = Serving(world, "--verbose", "--forever", "--until", marker, *words)
+    first, second = Peer(world, serving.port).is_served(), Peer(world, serving.port).is_served()
+    open(marker, "w", encoding="ascii").close()
+    began = time.monotonic()
+    answers(first)
+    for peer in (first, second):
+        peer.read_until(b"closing\r\n")
+        lasted = time.monotonic() - began
+        expect(lasted >= seconds, f"wanted {seconds} s for a session to end, and it had {lasted:.1f}")
+        peer.leave()
+        expect(peer.got.endswith(b"closing\r\n"), "more comes after why it is ended")
+    lines = serving.notes()
+    expect_session(lines, 1, first, "closing", 1)
+    expect_session(lines, 2, second, "closing", 0)
+
+
+@case
+def once_a_file_is_there_a_peer_that_takes_nothing_is_cut(world):
+    marker = world.path("end")
+    serving = Serving(world, "--verbose", "--until", marker, "--drain", "1")
+    peer = Peer(world, serving.port).is_served()
+    fill(peer.connection)
+    open(marker, "w", encoding="ascii").close()
+    expect_same("closing", noted(serving.notes("tn: session"), ENDED, peer)[4], "why it was ended")
+
+
+def fill(connection):
+    """Sends lines, and reads nothing of what comes back, until the server takes no more."""
+    connection.setblocking(False)
+    last = time.monotonic()
+    while time.monotonic() < last + 1:
+        try:
+            connection.send(b"a line for a peer that reads nothing\r\n" * 100)
+            last = time.monotonic()
+        except BlockingIOError:
+            time.sleep(0.02)
+
+
+def launched(world, *words):
+    """A server that the launcher runs, and a peer that it serves."""
+    serving = Serving(world, "--forever", "--verbose", *words, under=(world.launcher,), env={**os.environ, "TMPDIR": world.folder})
+    return serving, Peer(world, serving.port).is_served()
+
+
+@case(each={"TERM": (signal.SIGTERM,), "INT": (signal.SIGINT,)})
+def a_signal_ends_a_server_in_order(world, number):
+    serving, peer = launched(world, "--drain", "1")
+    serving.process.send_signal(signal.SIGHUP)
+    answers(peer)
+    serving.process.send_signal(number)
+    peer.read_until(b"closing\r\n")
+    peer.leave()
+    expect_session(serving.notes(), 1, peer, "closing", 1)
+    expect_same([], os.listdir(world.folder), "what is left of it")
+
+
+@case
+def a_second_signal_ends_a_server_at_once(world):
+    serving, peer = launched(world, "--drain", "0", "--until", world.path("end"))
+    serving.process.send_signal(signal.SIGTERM)
+    serving.printed.wait_for(b"no more connections are accepted\n")
+    answers(peer)
+    serving.process.send_signal(signal.SIGTERM)
+    serving.end(None, 128 + signal.SIGTERM)
+    expect_same([], os.listdir(world.folder), "what is left of it")
+
+
+@case
+def a_killed_launcher_ends_the_server(world):
+    serving, peer = launched(world)
+    serving.process.kill()
+    peer.read_rest()
+    wait_until(lambda: not basics.is_listened_to(serving.port), "the server ends")
 
 
 @case
@@ -228,19 +308,48 @@ def one_address_has_as_many_sessions_as_it_may(world):
         expect_session(lines, serial, peer, "hang-up", 0)
 
 
+def allow_files(serving, count):
+    """From now on a server may have descriptors below this number; returns what it might have before."""
+    allowed = resource.prlimit(serving.process.pid, resource.RLIMIT_NOFILE)
+    resource.prlimit(serving.process.pid, resource.RLIMIT_NOFILE, (count, allowed[1]))
+    return allowed[0]
+
+
+def first_free(serving):
+    taken = {int(name) for name in serving.files()}
+    return next(free for free in itertools.count() if free not in taken)
+
+
+@case
+def without_a_descriptor_a_peer_is_turned_away(world):
+    serving = Serving(world, "--verbose", "--count", "2")
+    first = Peer(world, serving.port).is_served()
+    before = allow_files(serving, first_free(serving))
+    others = [Peer(world, serving.port) for _ in range(3)]
+    for peer in others:
+        expect_same(b"full\r\n", peer.leave(), "what a peer gets without a descriptor for it")
+    answers(first)
+    allow_files(serving, before)
+    last = Peer(world, serving.port).is_served()
+    first.leave()
+    last.leave()
+    lines = serving.notes()
+    for peer in others:
+        noted(lines, WITHOUT_DESCRIPTOR, peer)
+    expect_session(lines, 1, first, "hang-up", 1)
+    expect_same("2", noted(lines, ENDED, last)[2], "the serial number of the next session")
+
+
 @case
 def a_peer_waits_until_there_is_a_descriptor_for_it(world):
     serving = Serving(world, "--verbose", "--count", "2")
     first = Peer(world, serving.port).is_served()
-    number = serving.process.pid
-    taken = {int(name) for name in serving.files()}
-    allowed = resource.prlimit(number, resource.RLIMIT_NOFILE)
-    resource.prlimit(number, resource.RLIMIT_NOFILE, (next(free for free in itertools.count() if free not in taken), allowed[1]))
+    before = allow_files(serving, 3)  # Not even the spare descriptor of a listener can be given again.
     second = Peer(world, serving.port)
     serving.printed.wait_for(b"no connection can be accepted now")
     expect(not second.read_more(1), "a peer gets something though no descriptor is left")
     answers(first)
-    resource.prlimit(number, resource.RLIMIT_NOFILE, allowed)
+    allow_files(serving, before)
     second.is_served()
     first.leave()
     second.leave()
@@ -248,6 +357,113 @@ def a_peer_waits_until_there_is_a_descriptor_for_it(world):
     expect_same(1, len([line for line in lines if STARVED.fullmatch(line) and "open files" in line]), "how often that is noted")
     expect_session(lines, 1, first, "hang-up", 1)
     expect_same("hang-up", noted(lines, ENDED, second)[4], "how the other session ended")
+
+
+def proxied(world, serving, line, address=None):
+    """A peer whose proxy sends this line, for a client of this address."""
+    peer = Peer(world, serving.port, opening=line)
+    peer.address, peer.sent = address or peer.address, 0
+    return peer
+
+
+@case
+def a_proxy_names_its_client(world):
+    serving = Serving(world, "--verbose", "--proxy", "--per-host", "1", "--count", "4")
+    first = proxied(world, serving, b"PROXY TCP4 192.0.2.7 127.0.0.1 4000 23\r\nhel", "192.0.2.7:4000").is_served()
+    first.sent = 3
+    first.send(b"lo\r\n")
+    first.read_until(b"hello\r\n\xff\xf9")
+    second = proxied(world, serving, b"PROXY TCP4 192.0.2.7 127.0.0.1 4001 23\r\n", "192.0.2.7:4001")
+    expect_same(b"full\r\n", second.leave(), "what a second connection for one host gets")
+    third = proxied(world, serving, b"PROXY TCP6 2001:db8::7 ::1 4002 23\r\n", "[2001:db8::7]:4002").is_served()
+    fourth = proxied(world, serving, b"PROXY UNKNOWN\r\n").is_served()
+    for peer in (first, third, fourth):
+        peer.leave()
+    lines = serving.notes()
+    expect_session(lines, 1, first, "hang-up", 1)
+    expect_same("2", noted(lines, FULL, second)[1], "the serial number of the second connection")
+    expect_session(lines, 3, third, "hang-up", 0)
+    expect_session(lines, 4, fourth, "hang-up", 0)
+
+
+@case(each={"text": (b"hello\r\n",), "nothing": (b"",), "an endless line": (b"PROXY TCP4 " + 200 * b"1",), "no address": (b"PROXY TCP4 a b 1 2\r\n",),
+            "a port too large": (b"PROXY TCP4 192.0.2.7 127.0.0.1 65536 23\r\n",), "another protocol": (b"PROXY UDP4 192.0.2.7 127.0.0.1 1 2\r\n",)})
+def who_sends_no_line_of_a_proxy_is_closed(world, opening):
+    serving = Serving(world, "--proxy")
+    stranger = Peer(world, serving.port, opening=opening)
+    expect_same(b"", stranger.read_rest(), "what a connection without the line of a proxy gets")
+    proxied(world, serving, b"PROXY UNKNOWN\r\n").is_served().leave()
+    lines = serving.notes()
+    expect_same([f"no session from {stranger.address}: it does not begin with a PROXY line"], lines, "what is noted")
+
+
+def counts_in(path):
+    with open(path, encoding="ascii") as file:
+        return {name: int(value) for name, value in (line.rsplit(" ", 1) for line in file if not line.startswith("#"))}
+
+
+@case
+def counts_are_kept_for_a_collector(world):
+    path = world.path("tn.prom")
+    serving = Serving(world, "--metrics", path, "--limit", "1", "--count", "4")
+    expect_same({0}, set(counts_in(path).values()), "the counts at the beginning")
+    first = Peer(world, serving.port).is_served()
+    wait_for = lambda name: wait_until(lambda: counts_in(path)[name] == 1, f"{name} is 1")
+    wait_for("tn_sessions_open")
+    Peer(world, serving.port).leave()
+    answers(first)
+    first.leave()
+    wait_for('tn_sessions_ended_total{cause="hang-up"}')
+    second = Peer(world, serving.port).is_served()
+    second.send(b"\x04")
+    second.leave()
+    wait_for('tn_sessions_ended_total{cause="done"}')
+    third = Peer(world, serving.port).is_served()
+    third.reset()
+    serving.end(b"tn: session\n")
+    counted = {name: count for name, count in counts_in(path).items() if count}
+    expect_same({'tn_connections_total{got="session"}': 3, 'tn_connections_total{got="full"}': 1, 'tn_sessions_ended_total{cause="hang-up"}': 1,
+                 'tn_sessions_ended_total{cause="done"}': 1, 'tn_sessions_ended_total{cause="reset by the client"}': 1, "tn_entries_total": 2,
+                 'tn_bytes_total{way="in"}': first.sent + second.sent, 'tn_bytes_total{way="out"}': len(first.got + second.got + third.got)},
+                counted, "what was counted at the end")
+    expect_same(["tn.prom"], os.listdir(world.folder), "what is left beside the counts")
+
+
+@case
+def counts_that_cannot_be_written_are_noted(world):
+    serving = Serving(world, "--metrics", world.path("none/tn.prom"))
+    Peer(world, serving.port).is_served().leave()
+    lines = serving.notes()
+    expect(len(lines) == 1 and re.fullmatch(r"cannot write \S+/none/tn.prom: No such file or directory.*", lines[0]), f"one note: {lines}")
+
+
+@case(alone=True)
+def who_stays_too_long_keeps_no_place(world):
+    serving = Serving(world, "--limit", "1", "--longest", "1", "--forever")
+    first = Peer(world, serving.port).is_served()
+    first.read_until(b"too long\r\n")
+    began = time.monotonic()
+    second = Peer(world, serving.port)
+    while second.leave() == b"full\r\n":
+        second = Peer(world, serving.port)
+        time.sleep(0.1)
+    expect(time.monotonic() - began < 4, f"the place of who stayed too long was free after {time.monotonic() - began:.1f} s")
+
+
+@case
+def a_subnet_of_ipv6_counts_as_one_host(world):
+    enter_own_network("2001:db8:0:1::1", "2001:db8:0:1::2", "2001:db8:0:2::1")
+    serving = Serving(world, "--verbose", "--host", "::", "--per-host", "2", "--count", "6")
+    first, second = Peer(world, serving.port, "2001:db8:0:1::1").is_served(), Peer(world, serving.port, "2001:db8:0:1::2").is_served()
+    third = Peer(world, serving.port, "2001:db8:0:1::1")
+    expect_same(b"full\r\n", third.leave(), "what the third peer of a subnet gets")
+    others = [Peer(world, serving.port, host).is_served() for host in ("2001:db8:0:2::1", "127.0.0.1", "127.0.0.2")]
+    for peer in (first, second, *others):
+        peer.leave()
+    lines = serving.notes()
+    noted(lines, FULL, third)
+    for serial, peer in ((1, first), (2, second), (4, others[0]), (5, others[1]), (6, others[2])):
+        expect_session(lines, serial, peer, "hang-up", 0)
 
 
 def full_pipe():
@@ -339,7 +555,7 @@ def notes_for_the_journal_begin_with_their_priority(world):
     lines = serving.end(None).decode().splitlines()
     expect_same(f"<6>listening on 127.0.0.1:{serving.port}", lines[0], "the first line")
     expect_same(["<6>accepted 0", "<3>tn: session"], [line for line in lines if line in ("<6>accepted 0", "<3>tn: session")][-2:], "plain lines")
-    expect(any(re.fullmatch(r"<4>session \d+ \(serial 2\) from \S+ ended: connection reset, .*", line) for line in lines), f"a warning: {lines}")
+    expect(any(re.fullmatch(r"<6>session \d+ \(serial 2\) from \S+ ended: reset by the client, .*", line) for line in lines), f"no warning: {lines}")
     expect(all(re.match(r"<[346]>\D", line) for line in lines), f"a priority and no time in each line: {lines}")
 
 
@@ -374,9 +590,7 @@ def only_a_session_that_failed_is_reported(world):
     Peer(world, serving.port).is_served().leave()
     bad = Peer(world, serving.port).is_served()
     bad.reset()
-    lines = serving.notes("tn: session")
-    expect_same((2, "tn: session"), (len(lines), lines[0]), "how many lines are printed, and the first")
-    expect_end(lines, noted(lines, ENDED, bad)[1], 2, bad, "connection reset", 0)
+    serving.end(b"tn: session\n")
 
 
 def expect_not_listening(world, port, host, cause, **settings):

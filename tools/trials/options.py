@@ -6,9 +6,12 @@
                  --to, --crlf, --cr, --line-cut     gateway
     tn connect   --escape, --width, --height        interactive.another_escape_character_is_taken, a_size_by_hand_wins
                  --keys                             interactive.the_terminals_own_characters_are_taken
-                 --trace, -q                        piped.a_trace_is_written, the_end_of_a_pipe_is_sent_late
+                 --trace, --log                     piped.a_trace_is_written, the module files
+                 -q, -w                             piped.the_end_of_a_pipe_is_sent_late, a_silent_server_is_left_after_the_input
+                 --timeout                          piped.an_address_that_takes_no_connection_is_given_up
                  --quiet                            interactive.nothing_is_reported_if_it_is_not_wanted
                  --plain, --lf, --cr                plain
+                 --line                             a_line_has_as_many_bytes_as_it_may, plain.a_full_line_refuses_keys_and_is_sent_as_it_is_shown
 """
 import signal
 import socket
@@ -90,6 +93,12 @@ def a_client_is_asked_to_edit(world, is_asked, *words):
     expect_same(is_asked, any(mask & 1 for mask in modes), f"whether EDIT is asked for, by {modes}")
     peer.leave()
     serving.end()
+
+
+@case(each={key: (key,) for key in ("^M", "^J", "^m", "^j")})
+def an_escape_key_ends_no_line(world, key):
+    run = world.run("connect", f"--escape={key}", "127.0.0.1:1")
+    expect_same((2, True), (run.returncode, f"invalid value '{key}'".encode() in run.stderr), f"the status, and what is printed: {run.stderr}")
 
 
 @case(each={

@@ -10,10 +10,10 @@ import socket
 import subprocess
 
 import basics
-from ends import Relay, Serving, User
-from services import Service, instrument, listened, start_redis, start_smtpd, strict_mail
+from ends import Peer, Relay, Serving, User
+from services import Service, instrument, listened, start_redis, start_ser2net, start_smtpd, strict_mail
 from terminal import Console, Terminal
-from world import NotTried, case, expect_in_order, expect_same, free_port, status_of, wait_until, within
+from world import NotTried, case, expect, expect_in_order, expect_same, free_port, status_of, wait_until, within
 
 TYPED = [b"helo\x7flo\r", b"\x03", b"exit\r"]
 
@@ -67,6 +67,35 @@ def our_server_has_a_client(world, name, typed, wanted, words):
     status_of(console.process, words)
     console.catch_up()
     expect_in_order(cleaned(console.shown), *wanted.encode().split(b"|"))
+
+
+CONSERVER = """config * {{ sslrequired no; }}
+default full {{ rw *; }}
+access * {{ trusted 127.0.0.1; }}
+console ours {{ master localhost; type exec; exec {command}; include full; }}
+"""
+
+
+@case(each={"conserver-remote": (), "conserver-local": ("--local",)})
+def our_client_gives_conserver_a_console(world, *words):
+    require(["conserver", "console"])
+    serving = Serving(world, *words)
+    port, settings = free_port(), world.path("conserver.cf")
+    command = f"{world.launcher} {world.program} connect --escape none 127.0.0.1 {serving.port}"
+    with open(settings, "w", encoding="ascii") as file:
+        file.write(CONSERVER.format(command=command))
+    world.start("conserver", "-C", settings, "-p", port, "-M", "127.0.0.1", "-n", "-L", world.path("log"), stdout=subprocess.DEVNULL,
+                stderr=subprocess.DEVNULL)
+    listened(port)
+    console = Console(world, "console", "-M", "localhost", "-p", port, "-l", "ann", "ours")
+    for keys in TYPED:
+        console.collected.wait_quiet()
+        console.type(keys)
+    console.collected.wait_for(b"bye")
+    serving.end()
+    expect_in_order(cleaned(console.shown), b"hello", b"int", b"bye")
+    console.type(b"\x05c.")
+    status_of(console.process, "console")
 
 
 PERL = """my $t = Net::Telnet->new(Host => "127.0.0.1", Port => $ARGV[0], Timeout => 40);
@@ -163,6 +192,8 @@ SERVICES = {
     "plain-mail": ([], stand_in(strict_mail), [], *MAIL),
     "plain-instrument": ([], stand_in(instrument), ["--lf"], [b"*IDN?\n"],
                          [(b"Connected", b"*IDDN\x7f\x7fN?\r"), (b"MAKER", b"\x04")], "MAKER,MODEL"),
+    "plain-ser2net": (["ser2net"], constant(start_ser2net), ["--cr"], [b"hello\n"],
+                      [(b"Connected", b"helo\x7flo\r"), (b"hello", b"half\x03"), (b"^C", b"\x04")], "hello"),
     "plain-nc": (["nc.openbsd"], constant(start_nc), [], [b"a\nb\rc\r\nhalf"],
                  [(b"from nc", b"helo\x7flo\r"), (b"lo", b"half\x03"), (b"^C", b"\x04")], "from nc")}
 
@@ -187,6 +218,62 @@ def our_plain_client_has_a_service(world, commands, start, options, piped, typed
     expect_in_order(cleaned(terminal.shown), *wanted.encode().split(b"|"))
     if commands == ["nc.openbsd"]:
         wait_until(lambda: open(world.path("written"), "rb").read() == b"a\r\nb\r\nc\r\nhalfhello\r\n", "nc writes what went")
+
+
+@case(each={"edited at the server": (), "edited at the client": ("--local",)})
+def our_server_gives_ser2nets_console(world, *words):
+    """The console's own terminal echoes what it gets, and takes the signals."""
+    require(["ser2net"])
+    serving = Serving(world, "--to", f"127.0.0.1:{start_ser2net(world)}", "--cr", "--signals", "send", *words)
+    user = User(world, serving.port, edits="client" if words else "server")
+    user.type(b"helo\x7flo\r", b"hello\r\nhello\r\n")
+    user.type(b"\x03")
+    user.end()
+    serving.end()
+
+
+HAPROXY = """defaults
+    mode tcp
+    timeout connect 2s
+    timeout client 1h
+    timeout server 1h
+listen telnet
+    bind 127.0.0.1:{port}
+    balance leastconn
+    option redispatch 1
+    retries 3
+    server one 127.0.0.1:{one} send-proxy
+    server two 127.0.0.1:{two} send-proxy
+"""
+
+
+@case
+def haproxy_leads_to_another_server(world):
+    """Two servers behind one port: once one is killed, nobody at the other notices, and new clients go there."""
+    require(["haproxy"])
+    one, two = (Serving(world, "--proxy", "--forever", "--limit", "64") for _ in range(2))
+    port = free_port()
+    with open(world.path("haproxy.cfg"), "w", encoding="ascii") as file:
+        file.write(HAPROXY.format(port=port, one=one.port, two=two.port))
+    world.start("haproxy", "-q", "-db", "-f", world.path("haproxy.cfg"), stdout=subprocess.DEVNULL, stderr=subprocess.DEVNULL)
+    listened(port)
+    peers = [Peer(world, port).is_served() for _ in range(40)]
+    one.process.kill()
+    left = [peer for peer in peers if not has_ended(peer)]
+    expect(15 <= len(left) <= 25, f"wanted about half of 40 sessions to go on, and {len(left)} do")
+    left += [Peer(world, port).is_served() for _ in range(20)]
+    for peer in left:
+        peer.send(b"hello\r\n")
+        peer.read_until(b"hello\r\n\xff\xf9")
+
+
+def has_ended(peer):
+    """Whether its session has ended with a server that was killed: nothing comes of a line."""
+    try:
+        peer.send(b"still\r\n")
+        return not peer.read_while(lambda: b"still\r\n\xff\xf9" not in peer.got)
+    except ConnectionError:
+        return True
 
 
 def make_certificate(world, name, signing=None):
@@ -221,13 +308,14 @@ def write(world, name, *lines):
 class Stunnel:
     """stunnel at both ends of a tunnel."""
     wants = ["openssl", "stunnel"]
+    words, also = [], []
 
     def __init__(self, world, port, outer):
         self.world, self.outer = world, outer
         make_certificates(world)
         world.start("stunnel", write(world, "in.conf", "foreground = yes", "pid =", "[tn]", f"accept = 127.0.0.1:{outer}",
                                      f"connect = 127.0.0.1:{port}", f"cert = {world.path('localhost.pem')}",
-                                     f"CAfile = {world.path('ours.crt')}", "verifyChain = yes"))
+                                     f"CAfile = {world.path('ours.crt')}", "verifyChain = yes", *self.also))
 
     def enter(self, inner, who):
         certificate = [] if who == "stranger" else [f"cert = {self.world.path('user.pem')}"]
@@ -237,9 +325,15 @@ class Stunnel:
                                                  f"CAfile = {trusted}", "verifyChain = yes", "checkHost = localhost"))
 
 
+class StunnelProxy(Stunnel):
+    """stunnel at both ends, which names the user's address to the server."""
+    words, also = ["--proxy"], ["protocol = proxy"]
+
+
 class Socat:
     """socat at both ends of a tunnel."""
     wants = ["openssl", "socat"]
+    words = []
 
     def __init__(self, world, port, outer):
         self.world, self.outer = world, outer
@@ -257,6 +351,7 @@ class Socat:
 class Ssh:
     """ssh at the user, and sshd at the server; `other` is a key that nobody here trusts."""
     wants = ["ssh", "ssh-keygen", "/usr/sbin/sshd"]
+    words = []
 
     def __init__(self, world, port, outer):
         self.world, self.port, self.outer = world, port, outer
@@ -293,10 +388,10 @@ def what_comes(port):
             return b""
 
 
-@case(each={"stunnel": (Stunnel,), "socat-tls": (Socat,), "ssh": (Ssh,)})
+@case(each={"stunnel": (Stunnel,), "stunnel-proxy": (StunnelProxy,), "socat-tls": (Socat,), "ssh": (Ssh,)})
 def only_our_user_comes_through_a_tunnel(world, kind):
     require(kind.wants)
-    serving = Serving(world, "--local", "--verbose")
+    serving = Serving(world, "--local", "--verbose", *kind.words)
     outer = free_port()
     tunnel = kind(world, serving.port, outer)
     listened(outer)

@@ -8,7 +8,8 @@ import subprocess
 import threading
 import time
 
-from ends import DO, IAC, NAWS, SB, WILL, Listener, Serving, read_text, size
+from ends import DO, IAC, NAWS, SB, WILL, Listener, Serving, filled, read_text, size
+from services import Service
 from sockets import sockets_of
 from terminal import at_terminal
 from world import PATIENCE, case, expect, expect_same, free_port, status_of, wait_until
@@ -43,7 +44,7 @@ def from_a_pipe_every_byte_is_a_key(world):
 @case
 def characters_that_are_not_known_are_the_standard_ones(world):
     listener, process = from_pipe(world, env={**os.environ, "TN_TERMINAL": "1", "TN_KEYS": "08"})
-    process.stdin.write(b"ab\x08\x1dq")
+    process.stdin.write(b"ab\x08\x1dq\r")
     process.stdin.close()
     expect_same(0, status_of(process), "the status")
     printed = process.stderr.read()
@@ -94,7 +95,9 @@ def what_was_not_sent_is_reported(world):
     listener.reset()
     status_of(process)
     printed = process.stderr.read()
-    expect(re.search(rb"tn: closed by the other end; \d+ bytes typed were not sent\n", printed), f"printed is {printed!r}")
+    # A read meets the reset first, or a write does.
+    expect(re.search(rb"tn: (?:closed by the other end|the connection broke); \d+ bytes? typed w(?:ere|as) not sent\n", printed),
+           f"printed is {printed!r}")
 
 
 @case
@@ -140,6 +143,30 @@ def the_host_that_was_asked_for_is_the_one(world):
     run = world.run("connect", f"127.0.0.2:{serving.port}", data=b"exit\r")
     expect_same((0, True), (run.returncode, run.stdout.endswith(b"bye\r\n")), "the status, and the farewell")
     serving.end()
+
+
+@case(each={"by Telnet": (b"one\r\n",), "by lines": (b"", "--plain")})
+def a_silent_server_is_left_after_the_input(world, echo, *words):
+    def talk(service, connection):
+        service.read_all(connection)
+        for _ in range(3):
+            time.sleep(1)  # As long as something comes, it is not left.
+            connection.sendall(b"late\r\n")
+        service.hold()
+    service = Service(world, talk)
+    begun = time.monotonic()
+    run = world.run("connect", *words, "-w", 2, f"127.0.0.1:{service.port}", data=b"one\n", timeout=2 * PATIENCE)
+    service.go_on.set()
+    expect(time.monotonic() - begun >= 5, "it is left too soon")
+    expect_same((echo + b"late\r\n" * 3, 0, b""), (run.stdout, run.returncode, run.stderr), "what is shown, the status, and what is printed")
+
+
+@case(each={"by Telnet": (), "by lines": ("--plain",)})
+def an_address_that_takes_no_connection_is_given_up(world, *words):
+    listener, _waiting = filled(world)
+    run = world.run("connect", *words, "--timeout", 1, f"127.0.0.1:{listener.port}", timeout=2 * PATIENCE)
+    expect_same((1, True), (run.returncode, run.stderr.startswith(f"tn: network\ntn: 127.0.0.1:{listener.port}: ".encode())),
+                f"the status, and whether it is reported by {run.stderr}")
 
 
 @case

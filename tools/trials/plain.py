@@ -137,6 +137,30 @@ def lines_are_edited_at_a_terminal(world):
     expect_in_order(terminal.shown, b"helo\x08 \x08lo\r\n", b"got hello\r\n", b"half^C\r\n", b"b\r\ngot b\r\n")
 
 
+@case(each={"of 1,000 bytes": (1_000,), "as long as one may be": (4_094,)})
+def a_long_line_is_sent_whole(world, length):
+    service, terminal = plain_terminal(world, listening)
+    terminal.paste(b"x" * length + b"\r")
+    terminal.see(b"x" * length + b"\r\n")
+    service.wait_for(b"x" * length + b"\r\n")
+    expect(b"\x07" not in terminal.shown, "a key is refused")
+    terminal.type(b"\x04")
+    terminal.end()
+
+
+@case(each={"4,095 by default": (4_094,), "--line 255": (254, "--line", "255")})
+def a_full_line_refuses_keys_and_is_sent_as_it_is_shown(world, most, *words):
+    service, terminal = plain_terminal(world, listening, *words)
+    terminal.paste(b"x" * most + b"yyy")
+    terminal.see(b"x" * most + b"\x07\x07\x07")
+    expect_same(b"", bytes(service.got), "what went before RETURN")
+    terminal.type(b"\x7fz\r", b"\x08 \x08z\r\n")
+    service.wait_for(b"x" * (most - 1) + b"z\r\n")
+    expect_same(b"x" * (most - 1) + b"z\r\n", bytes(service.got), "what went")
+    terminal.type(b"\x04")
+    terminal.end()
+
+
 OWN = {termios.VERASE: b"\x08", termios.VINTR: b"\x18", termios.VKILL: b"\x03"}
 
 

@@ -38,7 +38,7 @@ EOF, ERASE, KILL, LF, CR = 4, 127, 21, 10, 13
 # Who echoes, one after another; a server without --local has the first two. Before the last some keys may have no echo.
 AS_THEY_ARE, BY_SERVER, BY_CLIENT = range(3)
 
-NOT_SENT = re.compile(rb"tn: closed by the other end; (\d+) bytes typed were not sent\n")
+NOT_SENT = re.compile(rb"tn: closed by the other end; (\d+) (?:bytes typed were|byte typed was) not sent\n")
 def some_keys(chance):
     """Keys of all kinds; but what ends a session, `exit` and an end of file on an empty line, is typed near the end alone."""
     keys = bytearray()

@@ -113,6 +113,15 @@ def start_redis(world):
     return listened(port)
 
 
+def start_ser2net(world):
+    """The port of a ser2net that gives each connection a terminal of its own, whose line editing is on."""
+    port, settings = free_port(), world.path("ser2net.yaml")
+    with open(settings, "w", encoding="ascii") as file:
+        file.write(f"%YAML 1.1\n---\nconnection: &console\n  accepter: tcp,127.0.0.1,{port}\n  connector: pty,/bin/cat\n")
+    world.start("ser2net", "-d", "-n", "-c", settings, stdout=subprocess.DEVNULL, stderr=subprocess.DEVNULL)
+    return listened(port)
+
+
 def start_smtpd(world):
     """The port of OpenSMTPD's smtpd, which wants root."""
     if os.geteuid() != 0:

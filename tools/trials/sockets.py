@@ -3,11 +3,16 @@ import contextlib
 import ctypes
 import errno
 import os
+import shutil
 import socket
+import subprocess
 
 from world import NotTried
 
 KEEPALIVE = "02"
+
+# The flag of `unshare` for a network of one's own.
+NEW_NETWORK = 0x40000000
 
 # The system call that shares a descriptor of another process (Linux 5.6).
 PIDFD_GETFD = 438
@@ -55,3 +60,12 @@ def unread(here, there):
     """How many bytes have come at this end of a connection that nobody has read."""
     row = row_of(here, there)
     return int(row[4].split(":")[1], 16) if row else 0
+
+
+def enter_own_network(*addresses):
+    """From now on this process, and what it starts, have a network of their own, whose loopback has these addresses of IPv6 too."""
+    if not shutil.which("ip") or ctypes.CDLL(None, use_errno=True).unshare(NEW_NETWORK) < 0:
+        raise NotTried("this machine gives a process no network of its own")
+    for words in ["link set lo up", *(f"-6 address add {it}/128 dev lo" for it in addresses)]:
+        if subprocess.run(["ip", *words.split()], check=False, capture_output=True).returncode != 0:
+            raise NotTried(f"this machine has no `ip {words}`")

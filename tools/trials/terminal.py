@@ -142,7 +142,7 @@ class Terminal(Console):
         """Asks for the state by `^]` `s`, until it has all of these texts."""
         def has_all():
             after = len(self.shown)
-            self.type(b"\x1ds", b" went\r\n")
+            self.type(b"\x1ds\r", b" went\r\n")
             return all(text in self.shown[after:] for text in texts)
         wait_until(has_all, f"the state has {texts!r}")
 
@@ -154,7 +154,7 @@ class Terminal(Console):
 
     def leave(self):
         """The user leaves, and all is as it was before."""
-        os.write(self.master, b"\x1dq")
+        os.write(self.master, b"\x1dq\r")
         self.end()
 
 

@@ -95,18 +95,18 @@ def shortened(value, most=1_500):
     return text if len(text) <= most else f"{text[:most // 2]} .. {text[-most // 2:]}"
 
 
-def within(seconds, holds):
-    """What this gives as soon as it holds; false if it does not in time."""
+def within(seconds, holds, pause=0.02):
+    """What this gives as soon as it holds; false if it does not in time. It is asked again after each pause."""
     end = time.monotonic() + seconds
     while not (found := holds()):
         if time.monotonic() > end:
             return found
-        time.sleep(0.02)
+        time.sleep(pause)
     return found
 
 
-def wait_until(holds, what, seconds=PATIENCE):
-    found = within(seconds, holds)
+def wait_until(holds, what, seconds=PATIENCE, pause=0.02):
+    found = within(seconds, holds, pause)
     expect(found, f"wanted within {seconds} s: {what}")
     return found
 
