@@ -11,11 +11,12 @@ _tn() {
     fi
     case $before in
         --line-cut) mapfile -t COMPREPLY < <(compgen -W 'send end' -- "$word"); return ;;
+        --signals) mapfile -t COMPREPLY < <(compgen -W 'act send' -- "$word"); return ;;
         --escape) mapfile -t COMPREPLY < <(compgen -W 'none' -- "$word"); return ;;
         --keys) mapfile -t COMPREPLY < <(compgen -W 'own standard' -- "$word"); return ;;
-        --until|--trace) mapfile -t COMPREPLY < <(compgen -f -- "$word"); return ;;
+        --until|--metrics|--trace|--log) mapfile -t COMPREPLY < <(compgen -f -- "$word"); return ;;
         --host|--to) mapfile -t COMPREPLY < <(compgen -A hostname -- "$word"); return ;;
-        -p|--port|--limit|--per-host|--count|--ticks|--line|--idle|--longest|--notes|--width|--height|-q) return ;;
+        -p|--port|--limit|--per-host|--count|--ticks|--line|--idle|--longest|--drain|--notes|--width|--height|-q|-w|--timeout) return ;;
     esac
     if ((COMP_CWORD == 1)); then
         words='local replay decode world serve connect help -h --help -V --version'
@@ -30,10 +31,10 @@ _tn() {
             world)
                 words='-h --help' ;;
             serve)
-                words='--host -p --port --limit --per-host --count --forever --until --ticks --line --idle --longest --local --verbose --notes --to --crlf --cr --line-cut -h --help' ;;
+                words='--host -p --port --limit --per-host --count --forever --until --ticks --line --idle --longest --drain --proxy --local --verbose --notes --metrics --to --crlf --cr --line-cut --signals -h --help' ;;
             connect)
                 if [[ $word != -* ]]; then mapfile -t COMPREPLY < <(compgen -A hostname -- "$word"); return; fi
-                words='-p --port --width --height --line --escape --keys --trace -q --quiet --plain --lf --cr -h --help' ;;
+                words='-p --port --width --height --line --escape --keys --trace --log -q -w --timeout --quiet --plain --lf --cr -h --help' ;;
             help)
                 words='local replay decode world serve connect help' ;;
             *) return ;;
