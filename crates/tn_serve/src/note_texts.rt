@@ -91,9 +91,9 @@ pub(crate) struct SessionEnd<'a> {
 }
 
 /// Notes how a session ended and what passed over its connection: a warning if it ended in a fault, unless
-/// its client reset the connection, or if its service was not reached.
+/// its client reset the connection or its server was to end, or if its service was not reached.
 pub(crate) fn ended<L: Log>(log: &L, end: &SessionEnd<'_>) {
-    let is_in_order = end.finished.is_whole() || is_reset(end.finished, end.passed);
+    let is_in_order = end.finished.is_whole() || why_broken(end).is_some();
     let level = if is_in_order && end.causes.is_empty() {
         Level::Info
     } else {
@@ -147,8 +147,8 @@ fn write_cause<W: fmt::Write>(f: &mut fmt::Formatter<W>, end: &SessionEnd<'_>) -
         passed,
         ..
     } = *end;
-    if is_reset(finished, passed) {
-        return f.write_str("reset by the client");
+    if let Some(cause) = why_broken(end) {
+        return f.write_str(cause);
     }
     match &finished.report {
         Err(fault) => write_fault(f, *fault, passed),
@@ -163,20 +163,24 @@ fn write_cause<W: fmt::Write>(f: &mut fmt::Formatter<W>, end: &SessionEnd<'_>) -
     }
 }
 
-// Whether the client reset the connection. A write after that fails as over a pipe that nobody reads.
-fn is_reset(finished: &Finished, passed: Passed) -> bool {
-    let fault = match &finished.report {
+// Why the connection broke, unless the system failed: the server was to end and cut it, or the client reset
+// it. A write after a reset fails as over a pipe that nobody reads.
+fn why_broken(end: &SessionEnd<'_>) -> Option<&'static str> {
+    let fault = match &end.finished.report {
         Err(fault) => *fault,
         Ok(report) => match report.ended {
             Ended::Fault(fault) => fault,
-            _ => return false,
+            _ => return None,
         },
     };
-    matches!(fault, SessionFault::Read | SessionFault::Write)
-        && matches!(
-            passed.broke,
-            Some(ErrorKind::ConnectionReset | ErrorKind::BrokenPipe)
-        )
+    let is_broken = matches!(fault, SessionFault::Read | SessionFault::Write);
+    match end.passed.broke {
+        _ if is_broken && end.is_closing => Some("closing"),
+        Some(ErrorKind::ConnectionReset | ErrorKind::BrokenPipe) if is_broken => {
+            Some("reset by the client")
+        },
+        _ => None,
+    }
 }
 
 // If the connection broke, the system's word for it.
