@@ -17,7 +17,7 @@ use Rattle.tn_discipline.specs.declared.keys.Role.{Role}
 use Rattle.tn_discipline.specs.declared.keys.Role.TheVariants as role
 use Rattle.tn_linemode.specs.Exchange.{client_next, client_answer, client_answers, Answers}
 use Rattle.tn_linemode.specs.Modes.{edits, mode_of, is_acknowledged, mode_answer}
-use Rattle.tn_nvt.specs.Spelling.{cr, doubled_byte, doubled_bytes, spelling, Fits}
+use Rattle.tn_nvt.specs.Spelling.{cr, doubled_byte, doubled_bytes, spelling, Fits, lf}
 use Rattle.tn_nvt.specs.declared.items.Item.{Item}
 use Rattle.tn_nvt.specs.declared.items.Item.TheVariants.{Byte, Newline, Cmd, Neg, Sub}
 use Rattle.tn_nvt.proofs.lemmas.Sizes.{doubled_within, total, total-append, weighs_at_most}
@@ -27,9 +27,9 @@ use Rattle.tn_linemode.specs.Words.{word_items, payload_items, mode_items, paylo
 use Rattle.tn_linemode.proofs.lemmas.Sizes.{size, size-append, size-one, size-word, size-mode, size-list, size-triple, answers-size, says_under, size-came}
 use Rattle.tn_linemode.proofs.lemmas.Sizes.{size-least, size-params}
 use Rattle.tn_client.specs.Bounds.{held_sent, max_answered, max_of_calls, bytes_due}
-use Rattle.tn_client.specs.Events.{History, typed, got, resized, proposed, sent, begun, next, items}
+use Rattle.tn_client.specs.Events.{History, typed, got, resized, proposed, sent, begun, next, items, entered}
 use Rattle.tn_client.specs.Lines.{role_at, held_bytes, count_under, line}
-use Rattle.tn_client.specs.Replies.{byte_items, command_of, command_items, raw_key_items, edited_key_items, sent_ahead_items, key_items, size_items}
+use Rattle.tn_client.specs.Replies.{byte_items, command_of, command_items, raw_items, edited_key_items, sent_ahead_items, typed_items, sent_as, size_items}
 use Rattle.tn_client.specs.Replies.{new_size_items, payload_answers, answer_items, end_of_edit_items, is_same_size, resize_items, command_sent, replies}
 use Rattle.tn_client.specs.Replies.{items_said}
 use Rattle.tn_client.specs.Steps.{is_sent_now, line_sent, line_left, count_told, line_typed}
@@ -145,16 +145,20 @@ size-command : (c : Option Command) → size (command_items c) ≤ 2
 size-command None = omega arith
 size-command (Some c) = omega (arith, size-one (Cmd c))
 
-size-raw : (r : Role) (key : ℕ) → size (raw_key_items r key) ≤ 2
-size-raw (role.Signal sig) key = size-command (command_of (role.Signal sig))
-size-raw role.Ignored key = omega (arith, size-one (Byte key), size-byte key)
-size-raw role.Nl key = omega (arith, size-one (Byte key), size-byte key)
-size-raw (role.Eol b) key = omega (arith, size-one (Byte key), size-byte key)
-size-raw (role.Eol2 b) key = omega (arith, size-one (Byte key), size-byte key)
-size-raw role.Eof key = omega (arith, size-one (Byte key), size-byte key)
-size-raw role.Erase key = omega (arith, size-one (Byte key), size-byte key)
-size-raw role.Kill key = omega (arith, size-one (Byte key), size-byte key)
-size-raw (role.Ordinary b) key = omega (arith, size-one (Byte key), size-byte key)
+size-sent : (is_line : Bool) (key : ℕ) → size (sent_as is_line key ∷ []) ≤ 2
+size-sent true key = omega (arith, size-one Newline)
+size-sent false key = omega (arith, size-one (Byte key), size-byte key)
+
+size-raw : (r : Role) (is_line : Bool) (key : ℕ) → size (raw_items r (sent_as is_line key)) ≤ 2
+size-raw (role.Signal sig) is_line key = size-command (command_of (role.Signal sig))
+size-raw role.Ignored is_line key = size-sent is_line key
+size-raw role.Nl is_line key = size-sent is_line key
+size-raw (role.Eol b) is_line key = size-sent is_line key
+size-raw (role.Eol2 b) is_line key = size-sent is_line key
+size-raw role.Eof is_line key = size-sent is_line key
+size-raw role.Erase is_line key = size-sent is_line key
+size-raw role.Kill is_line key = size-sent is_line key
+size-raw (role.Ordinary b) is_line key = size-sent is_line key
 
 size-bytes-push : (bytes : List ℕ) (byte : ℕ) → size (byte_items (bytes ++ byte ∷ [])) ≤ size (byte_items bytes) + 2
 size-bytes-push bytes byte =
@@ -206,13 +210,16 @@ ahead_pays : (sends : Bool) (l : HalfLine) → size (sent_ahead_items sends l) +
 ahead_pays true l = omega arith
 ahead_pays false l = omega arith
 
-typed_pays : (h : History) (key : ℕ) (edit : Bool) → edits (mode h) ≡ edit
-    → size (replies h (typed key)) + size (byte_items (held_bytes (next h (typed key)))) ≤ size (byte_items (held_bytes h)) + 2
-typed_pays h key true e =
+typed_pays : (h : History) (is_line : Bool) (key : ℕ) (edit : Bool) → edits (mode h) ≡ edit
+    → size (typed_items (edits (mode h)) (forward h) (role_at h key) (line h) (sent_as is_line key))
+    + size (byte_items (held_bytes (next h (typed key)))) ≤ size (byte_items (held_bytes h)) + 2
+typed_pays h is_line key true e =
     let r : Role = role_at h key in
     let l : HalfLine = line h in
+    let item : Item = sent_as is_line key in
     let sends : Bool = is_sent_now (forward h) l r in
-    let says : replies h (typed key) ≡ edited_key_items r l ++ sent_ahead_items sends (line_after l r) = ap (λ (b : Bool). key_items b (forward h) r l key) e in
+    let says : typed_items (edits (mode h)) (forward h) r l item ≡ edited_key_items r l ++ sent_ahead_items sends (line_after l r) =
+    ap (λ (b : Bool). typed_items b (forward h) r l item) e in
     omega (
       arith,
       ap size says,
@@ -222,13 +229,15 @@ typed_pays h key true e =
       ap (λ (x : HalfLine). size (byte_items x.held)) (line_next h (typed key)
           ∙ ap (λ (b : Bool). line_typed b (forward h) l r) e),
     )
-typed_pays h key false e =
+typed_pays h is_line key false e =
     let r : Role = role_at h key in
-    let says : replies h (typed key) ≡ raw_key_items r key = ap (λ (b : Bool). key_items b (forward h) r (line h) key) e in
+    let item : Item = sent_as is_line key in
+    let says : typed_items (edits (mode h)) (forward h) r (line h) item ≡ raw_items r item =
+    ap (λ (b : Bool). typed_items b (forward h) r (line h) item) e in
     omega (
       arith,
       ap size says,
-      size-raw r key,
+      size-raw r is_line key,
       ap (λ (x : HalfLine). size (byte_items x.held)) (line_next h (typed key)
           ∙ ap (λ (b : Bool). line_typed b (forward h) (line h) r) e),
     )
@@ -295,7 +304,9 @@ bounded names (begun width height limit) =
 bounded names (next h (got item)) =
     omega (arith, bounded names h, total-append weight (items h) (item ∷ []), size-append (items_said h) (replies h (got item)), item_pays names h item)
 bounded names (next h (typed key)) =
-    omega (arith, bounded names h, size-append (items_said h) (replies h (typed key)), typed_pays h key (edits (mode h)) refl)
+    omega (arith, bounded names h, size-append (items_said h) (replies h (typed key)), typed_pays h false key (edits (mode h)) refl)
+bounded names (next h entered) =
+    omega (arith, bounded names h, size-append (items_said h) (replies h entered), typed_pays h true lf (edits (mode h)) refl)
 bounded names (next h (resized width height)) =
     omega (
       arith,

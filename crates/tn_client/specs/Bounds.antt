@@ -4,7 +4,7 @@ use Rattle.tn_linemode.specs.Modes.{edits}
 use Rattle.tn_nvt.specs.Spelling.{spelling, spells}
 use Rattle.tn_nvt.specs.declared.items.Item.{Item}
 use Rattle.tn_nvt.specs.declared.items.Item.TheVariants.{Neg, Sub}
-use Rattle.tn_client.specs.Events.{Event, typed, got, resized, proposed, sent, History, begun, next}
+use Rattle.tn_client.specs.Events.{Event, typed, got, resized, proposed, sent, History, begun, next, entered}
 use Rattle.tn_client.specs.Lines.{held_bytes}
 use Rattle.tn_client.specs.Replies.{byte_items, end_of_edit_items, items_said}
 use Rattle.tn_client.specs.Terms.{mode}
@@ -24,6 +24,7 @@ max_answered _ = 0
 -- window's size; a triple.
 abbrev pub max_of_call : Event → ℕ
 max_of_call (typed key) = 2
+max_of_call entered = 2
 max_of_call (got item) = 0
 max_of_call (resized width height) = 13
 max_of_call (proposed func value) = 10

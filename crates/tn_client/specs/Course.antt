@@ -3,7 +3,7 @@ use Rattle.std.specs.Prelude.{◌≡◌, ℕ, List, [], ◌++◌}
 use Rattle.tn_nvt.specs.Feeding as nvt
 use Rattle.tn_nvt.specs.declared.items.Item.{Item}
 use Rattle.tn_linemode.specs.Prefixes.{IsRead}
-use Rattle.tn_client.specs.Events.{Event, typed, got, resized, proposed, sent, History, begun, next, items}
+use Rattle.tn_client.specs.Events.{Event, typed, got, resized, proposed, sent, History, begun, next, items, entered}
 use Rattle.tn_client.specs.Events.{gets}
 use Rattle.tn_client.specs.Calls.{End, LeadsTo}
 
@@ -22,6 +22,7 @@ stream (called c e) = stream c
 -- no item comes by a call
 abbrev pub IsCall : Event → Type 0
 IsCall (typed key) = Unit {0}
+IsCall entered = Unit {0}
 IsCall (got item) = ⊥
 IsCall (resized width height) = Unit {0}
 IsCall (proposed func value) = Unit {0}

@@ -1,13 +1,16 @@
--- What happens at a client end: keys are typed, items come, the window changes, characters are proposed, and
--- commands are sent.
+-- What happens at a client end: keys are typed, a new line is entered, items come, the window changes,
+-- characters are proposed, and commands are sent.
 use Rattle.std.specs.Prelude.{ℕ, Option, List, [], ◌∷◌, ◌++◌}
 use Rattle.tn_codes.specs.declared.codes.Func.{Func}
+use Rattle.tn_nvt.specs.Spelling.{lf}
 use Rattle.tn_nvt.specs.declared.items.Item.{Item}
 use Rattle.tn_linemode.specs.Folding.{after_all}
 use Rattle.tn_client.specs.declared.commands.UserCommand.{UserCommand}
 
+-- RFC 1123, section 3.3.1: a new line that is entered is the key LF, which is sent as CR LF
 pub data Event : Type 0 where
   typed : ℕ → Event
+  entered : Event
   got : Item → Event
   resized : ℕ → ℕ → Event
   proposed : Func → Option ℕ → Event
@@ -29,6 +32,7 @@ items (next h _) = items h
 abbrev pub keys : History → List ℕ
 keys (begun width height limit) = []
 keys (next h (typed key)) = keys h ++ key ∷ []
+keys (next h entered) = keys h ++ lf ∷ []
 keys (next h _) = keys h
 
 -- these items came, one after another

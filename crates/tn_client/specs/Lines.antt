@@ -12,7 +12,8 @@ use Rattle.tn_discipline.specs.declared.keys.Role.{Role}
 use Rattle.tn_discipline.specs.declared.keys.Role.TheVariants as role
 use Rattle.tn_discipline.specs.declared.termios.Settings.{Settings}
 use Rattle.tn_linemode.specs.Modes.{edits, traps}
-use Rattle.tn_client.specs.Events.{typed, got, History, begun, next}
+use Rattle.tn_nvt.specs.Spelling.{lf}
+use Rattle.tn_client.specs.Events.{typed, got, History, begun, next, entered}
 use Rattle.tn_client.specs.Terms.{mode, forward, chars}
 
 -- the settings that a client has its keys by: a carriage return ends the line as a line feed does, the
@@ -44,6 +45,7 @@ isig_told isig edit mask = if not edit && edits mask then traps mask else isig
 abbrev pub roles_under : Bool → History → List Role
 roles_under isig (begun width height limit) = []
 roles_under isig (next h (typed key)) = roles_under isig h ++ roles_from (role_under isig h key)
+roles_under isig (next h entered) = roles_under isig h ++ roles_from (role_under isig h lf)
 roles_under isig (next h (got item)) =
     roles_under (isig_told isig (edits (mode h)) (mode (next h (got item)))) h
 roles_under isig (next h _) = roles_under isig h
@@ -95,6 +97,10 @@ lengths_since_sent (begun width height limit) = []
 lengths_since_sent (next h (typed key)) =
     if edits (mode h)
     then lengths_with (is_sent_ahead h key) (length (half_line (next h (typed key)))) (lengths_since_sent h)
+    else []
+lengths_since_sent (next h entered) =
+    if edits (mode h)
+    then lengths_with (is_sent_ahead h lf) (length (half_line (next h entered))) (lengths_since_sent h)
     else []
 lengths_since_sent (next h (got item)) =
     lengths_kept (edits (mode h)) (edits (mode (next h (got item))))

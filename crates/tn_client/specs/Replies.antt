@@ -21,7 +21,8 @@ use Rattle.tn_nvt.specs.declared.items.Item.{Item}
 use Rattle.tn_nvt.specs.declared.items.Item.TheVariants.{Byte, Newline, Cmd, Neg, Sub}
 use Rattle.tn_option.specs.Options.{Options, reply_to}
 use Rattle.tn_linemode.specs.Words.{word_items, payload_items, mode_items, list_items}
-use Rattle.tn_client.specs.Events.{Event, typed, got, resized, proposed, sent, History, begun, next}
+use Rattle.tn_nvt.specs.Spelling.{lf}
+use Rattle.tn_client.specs.Events.{Event, typed, got, resized, proposed, sent, History, begun, next, entered}
 use Rattle.tn_client.specs.Terms.{options, mode, forward, chars, size, payload_at, options_after, mode_at}
 use Rattle.tn_client.specs.Terms.{tells_size}
 use Rattle.tn_client.specs.Lines.{role_at, sends_ahead, line}
@@ -59,11 +60,11 @@ abbrev pub command_items : Option Command → List Item
 command_items None = []
 command_items (Some command) = Cmd command ∷ []
 
--- a key without EDIT is sent at once: a signal, which it is with TRAPSIG alone, as its command,
--- and any other as it is
-abbrev pub raw_key_items : Role → ℕ → List Item
-raw_key_items (role.Signal sig) key = command_items (command_of (role.Signal sig))
-raw_key_items _ key = Byte key ∷ []
+-- a key without EDIT is sent at once: a signal, which it is only with TRAPSIG, as its command, and any other as
+-- this item
+abbrev pub raw_items : Role → Item → List Item
+raw_items (role.Signal sig) item = command_items (command_of (role.Signal sig))
+raw_items _ item = item ∷ []
 
 -- With EDIT a line is sent once it is closed, and a signal at once. An erasure is sent where it reaches what
 -- was sent before.
@@ -88,9 +89,15 @@ abbrev pub edit_items : Option Mask → Role → HalfLine → List Item
 edit_items forward r l =
     edited_key_items r l ++ sent_ahead_items (sends_ahead forward l.limit (line_length l) r) (line_after l r)
 
-abbrev pub key_items : Bool → Option Mask → Role → HalfLine → ℕ → List Item
-key_items true forward r l key = edit_items forward r l
-key_items false forward r l key = raw_key_items r key
+-- a key as an item: as a new line, or as its byte
+abbrev pub sent_as : Bool → ℕ → Item
+sent_as true key = Newline
+sent_as false key = Byte key
+
+-- what a key sends, which is this item if it is sent at once
+abbrev pub typed_items : Bool → Option Mask → Role → HalfLine → Item → List Item
+typed_items true forward r l item = edit_items forward r l
+typed_items false forward r l item = raw_items r item
 
 -- RFC 1073: the window's size
 abbrev pub size_items : ℕ × ℕ → List Item
@@ -143,7 +150,8 @@ command_sent user.Nop = command.Nop
 
 -- what the client says at an event
 abbrev pub replies : History → Event → List Item
-replies h (typed key) = key_items (edits (mode h)) (forward h) (role_at h key) (line h) key
+replies h (typed key) = typed_items (edits (mode h)) (forward h) (role_at h key) (line h) (Byte key)
+replies h entered = typed_items (edits (mode h)) (forward h) (role_at h lf) (line h) Newline
 replies h (got item) = item_replies (options h) (mode h) (chars h) (size h) (line h) item
 replies h (resized width height) = resize_items (tells_size (options h)) (size h) (width, height)
 replies h (proposed func value) = list_items (triple_of func value ∷ [])

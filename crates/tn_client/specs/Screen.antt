@@ -11,7 +11,8 @@ use Rattle.tn_discipline.specs.declared.termios.Settings.{Settings}
 use Rattle.tn_linemode.specs.Modes.{edits}
 use Rattle.tn_nvt.specs.declared.items.Item.{Item}
 use Rattle.tn_nvt.specs.declared.items.Item.TheVariants.{Byte, Newline}
-use Rattle.tn_client.specs.Events.{Event, typed, got, resized, proposed, sent, History, begun, next}
+use Rattle.tn_nvt.specs.Spelling.{lf}
+use Rattle.tn_client.specs.Events.{Event, typed, got, resized, proposed, sent, History, begun, next, entered}
 use Rattle.tn_client.specs.Terms.{options, mode, chars, is_echoed}
 use Rattle.tn_client.specs.Lines.{key_settings, role_at, line}
 
@@ -58,6 +59,9 @@ abbrev pub shows : History → Event → List ℕ
 shows h (typed key) =
     let terminal = key_settings (mode h) (chars h) in
     key_shown (is_echoed (options h)) (edits (mode h)) terminal (role_at h key) (line h) key
+shows h entered =
+    let terminal = key_settings (mode h) (chars h) in
+    key_shown (is_echoed (options h)) (edits (mode h)) terminal (role_at h lf) (line h) lf
 shows h (got item) = item_shown item
 shows h (resized width height) = []
 shows h (proposed func value) = []

@@ -15,17 +15,17 @@ use Rattle.tn_discipline.specs.declared.keys.Role.{Role}
 use Rattle.tn_discipline.specs.declared.keys.Role.TheVariants as role
 use Rattle.tn_linemode.specs.Modes.{edits, traps}
 use Rattle.tn_nvt.specs.Room.{LacksRoom}
-use Rattle.tn_nvt.specs.Spelling.{spells}
+use Rattle.tn_nvt.specs.Spelling.{spells, lf}
 use Rattle.tn_linemode.specs.Triples.{triple_of}
 use Rattle.tn_linemode.specs.Words.{list_items}
 use Rattle.tn_nvt.specs.declared.items.Item.{Item}
-use Rattle.tn_nvt.specs.declared.items.Item.TheVariants.{Cmd}
+use Rattle.tn_nvt.specs.declared.items.Item.TheVariants.{Cmd, Byte, Newline}
 use Rattle.tn_linemode.specs.Folding.{after_all, said_all}
-use Rattle.tn_client.specs.Events.{Event, typed, got, resized, proposed, sent}
+use Rattle.tn_client.specs.Events.{Event, typed, got, resized, proposed, sent, entered}
 use Rattle.tn_client.specs.Terms.{options_after, mode_at, mode_by, forward_by, forward_at, chars_by}
 use Rattle.tn_client.specs.Terms.{payload_at, is_echoed, tells_size}
 use Rattle.tn_client.specs.Lines.{settings_by, key_settings, role_of_typed, is_forward, sends_ahead}
-use Rattle.tn_client.specs.Replies.{key_items, item_replies, end_of_edit_items, payload_answers, resize_items}
+use Rattle.tn_client.specs.Replies.{item_replies, end_of_edit_items, payload_answers, resize_items, typed_items}
 use Rattle.tn_client.specs.Replies.{command_sent}
 use Rattle.tn_client.specs.Screen.{key_shown, item_shown}
 use Rattle.tn_client.specs.Calls.{End, ReadsList}
@@ -69,8 +69,16 @@ end_after_count old key =
       plain = count_typed false false old old.plain key;
     }
 
+-- a key says this; it is this item if it is sent at once
+abbrev pub says_typed : End → ℕ → Item → List Item
+says_typed old key item = typed_items (edits old.mode) old.forward (role_now old key) old.line item
+
 abbrev pub says_key : End → ℕ → List Item
-says_key old key = key_items (edits old.mode) old.forward (role_now old key) old.line key
+says_key old key = says_typed old key (Byte key)
+
+-- a new line is the key LF, but without EDIT it is sent as CR LF
+abbrev pub says_new_line : End → List Item
+says_new_line old = says_typed old lf Newline
 
 -- the key had this effect: its byte was kept, and is in the forward mask
 abbrev pub sends_where : Option Mask → Role → Effect → Bool
@@ -83,11 +91,17 @@ shows_key old key =
     key_shown (is_echoed old.options) (edits old.mode) terminal (role_now old key) old.line key
 
 -- what it says does not fit what is allocated, or what it shows does not, or it gives a text
-abbrev pub LacksMemoryFor : {Y Z : Type 0} → End → ℕ → Vec ℕ Y → Vec ℕ Z → Type 0
-LacksMemoryFor old key out screen =
-    LacksRoom out (length (spells (says_key old key)))
+abbrev pub LacksMemoryBy : {Y Z : Type 0} → End → ℕ → Item → Vec ℕ Y → Vec ℕ Z → Type 0
+LacksMemoryBy old key item out screen =
+    LacksRoom out (length (spells (says_typed old key item)))
     ⊎ (LacksRoom screen (length (shows_key old key))
     ⊎ (IsTrue (edits old.mode) × GivesText old.line (role_now old key)))
+
+abbrev pub LacksMemoryFor : {Y Z : Type 0} → End → ℕ → Vec ℕ Y → Vec ℕ Z → Type 0
+LacksMemoryFor old key out screen = LacksMemoryBy old key (Byte key) out screen
+
+abbrev pub LacksMemoryToEnter : {Y Z : Type 0} → End → Vec ℕ Y → Vec ℕ Z → Type 0
+LacksMemoryToEnter old out screen = LacksMemoryBy old lf Newline out screen
 
 -- the line where the mask changes: EDIT ends with nothing held, and begins with so many bytes ahead
 abbrev pub line_left : Bool → Bool → ℕ → HalfLine → HalfLine
@@ -170,6 +184,7 @@ says_resize old width height = resize_items (tells_size old.options) (old.width,
 -- ANY EVENT: the end after it, what it says and what it shows
 abbrev pub end_after : End → Event → End
 end_after old (typed key) = end_after_key old key
+end_after old entered = end_after_key old lf
 end_after old (got item) = end_after_item old item
 end_after old (resized width height) = end_after_resize old width height
 end_after old (proposed func value) = old
@@ -177,6 +192,7 @@ end_after old (sent command) = old
 
 abbrev pub says : End → Event → List Item
 says old (typed key) = says_key old key
+says old entered = says_new_line old
 says old (got item) = says_got old item
 says old (resized width height) = says_resize old width height
 says old (proposed func value) = list_items (triple_of func value ∷ [])
@@ -184,6 +200,7 @@ says old (sent command) = Cmd (command_sent command) ∷ []
 
 abbrev pub displays : End → Event → List ℕ
 displays old (typed key) = shows_key old key
+displays old entered = shows_key old lf
 displays old (got item) = item_shown item
 displays old e = []
 

@@ -4,16 +4,17 @@ ghost use Rattle.std.specs.Prelude.{◌≡◌, ◌≢◌, ◌++◌, ◌∷◌, �
 ghost use Rattle.std.specs.Prelude.{length, take, IfOk};
 ghost use Rattle.std.specs.Prelude.{IfErr, IsOk, OnOk, OnErr, IsErrOf};
 ghost use Rattle.tn_nvt.specs.Room.{LacksRoom};
-ghost use Rattle.tn_nvt.specs.Spelling.{spells};
+ghost use Rattle.tn_nvt.specs.Spelling.{spells, lf};
 ghost use Rattle.tn_nvt.specs.Feeding as nvt;
 ghost use Rattle.tn_option.specs.Options.{state_of};
 ghost use Rattle.tn_client.specs.Events.{History, begun, resized, proposed, sent};
 ghost use Rattle.tn_client.specs.Terms.{options, mode, chars};
 ghost use Rattle.tn_client.specs.Lines.{held_bytes, ahead, count_under};
-ghost use Rattle.tn_client.specs.Replies.{size_items};
+ghost use Rattle.tn_client.specs.Replies.{size_items, sent_as};
 ghost use Rattle.tn_client.specs.Answering.{AnswersBy, Feeds, StopsWithin, SaysNothing, Untouched};
 ghost use Rattle.tn_client.specs.Calls.{LeadsTo, call_fault, propose_fault};
-ghost use Rattle.tn_client.specs.Steps.{end_after_key, says_key, shows_key, LacksMemoryFor};
+ghost use Rattle.tn_client.specs.Steps.{end_after_key, says_key, says_new_line, says_typed, shows_key};
+ghost use Rattle.tn_client.specs.Steps.{LacksMemoryFor, LacksMemoryToEnter, LacksMemoryBy};
 ghost use Rattle.tn_client.specs.Steps.{end_after_resize, says_resize, says, LacksRoomFor};
 
 use crate::commands::UserCommand;
@@ -148,6 +149,49 @@ impl ClientEnd {
         ensures err { OnErr result (Untouched self.old
             out.old.items out.new.items screen.old.items screen.new.items self.new) }
     {
+        self.type_as(key, false, out, screen)
+    }
+
+    /// Enters a new line: types the key LF, which goes to the server as CR LF, also if keys go one at a time
+    /// (RFC 1123, section 3.3.1). It shows and refuses what `key` does.
+    pub fn new_line(
+        &mut self,
+        out: &mut Vec<u8>,
+        screen: &mut Vec<u8>,
+    ) -> Result<(), ClientFault>
+        ensures step { OnOk result (self.new ≡ end_after_key self.old lf) }
+        ensures out { OnOk result
+            (out.new.items ≡ out.old.items ++ spells (says_new_line self.old)) }
+        ensures screen { OnOk result
+            (screen.new.items ≡ screen.old.items ++ shows_key self.old lf) }
+        ensures failed { AnswersBy (call_fault self.old) result }
+        ensures memory { IsErrOf result ClientFault.Memory →
+            LacksMemoryToEnter self.old out.old screen.old }
+        ensures err { OnErr result (Untouched self.old
+            out.old.items out.new.items screen.old.items screen.new.items self.new) }
+    {
+        self.type_as(b'\n', true, out, screen)
+    }
+
+    // Types a key, which is a new line or its byte if it is sent at once.
+    fn type_as(
+        &mut self,
+        key: u8,
+        is_line: bool,
+        out: &mut Vec<u8>,
+        screen: &mut Vec<u8>,
+    ) -> Result<(), ClientFault>
+        ensures step { OnOk result (self.new ≡ end_after_key self.old key) }
+        ensures out { OnOk result
+            (out.new.items ≡ out.old.items ++ spells (says_typed self.old key (sent_as is_line key))) }
+        ensures screen { OnOk result
+            (screen.new.items ≡ screen.old.items ++ shows_key self.old key) }
+        ensures failed { AnswersBy (call_fault self.old) result }
+        ensures memory { IsErrOf result ClientFault.Memory →
+            LacksMemoryBy self.old key (sent_as is_line key) out.old screen.old }
+        ensures err { OnErr result (Untouched self.old
+            out.old.items out.new.items screen.old.items screen.new.items self.new) }
+    {
         if self.failed {
             return Err(ClientFault::Failed);
         }
@@ -155,7 +199,7 @@ impl ClientEnd {
         if self.mode.current().edit() {
             return or_memory(self.edit(key, out, screen), sent, out);
         }
-        or_memory(self.pass(key, out, screen), sent, out)
+        or_memory(self.pass(key, is_line, out, screen), sent, out)
     }
 
     /// Takes bytes that came from the server, cut anywhere. After `Memory`, for what is said or shown, a list

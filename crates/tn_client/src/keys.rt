@@ -7,7 +7,7 @@ ghost use Rattle.tn_nvt.specs.Room.{LacksRoom};
 ghost use Rattle.tn_nvt.specs.Spelling.{spells};
 ghost use Rattle.tn_client.specs.Lines.{settings_by, key_settings};
 ghost use Rattle.tn_client.specs.Terms.{is_echoed};
-ghost use Rattle.tn_client.specs.Replies.{byte_items, raw_key_items, edit_items, key_items};
+ghost use Rattle.tn_client.specs.Replies.{byte_items, raw_items, sent_as, edit_items};
 ghost use Rattle.tn_client.specs.Screen.{passed_shown, edited_shown, echoed_edited};
 ghost use Rattle.tn_discipline.specs.Characters.{Characters};
 ghost use Rattle.tn_discipline.specs.HalfLine.{line_released, effect_of, GivesText};
@@ -92,27 +92,30 @@ impl ClientEnd {
         shown_len(role, &self.line)
     }
 
-    /// Types a key that is sent at once. After a refusal what was sent begins as it did.
+    /// Types a key that is sent at once, as CR LF if it is a new line. After a refusal what was sent begins as
+    /// it did.
     pub(crate) fn pass(
         &mut self,
         key: u8,
+        is_line: bool,
         out: &mut Vec<u8>,
         screen: &mut Vec<u8>,
     ) -> Result<(), AllocError>
         ensures ok { OnOk result (self.new ≡ end_after_count self.old key) }
         ensures out { OnOk result
-            (out.new.items ≡ out.old.items ++ spells (raw_key_items (role_now self.old key) key)) }
+            (out.new.items ≡
+            out.old.items ++ spells (raw_items (role_now self.old key) (sent_as is_line key))) }
         ensures screen { OnOk result
             (screen.new.items ≡ screen.old.items ++ passed_shown (is_echoed self.old.options) key) }
         ensures err { OnErr result (self.new ≡ self.old) }
         ensures err_out { OnErr result (Begins out.old.items out.new.items) }
         ensures err_screen { OnErr result (screen.new.items ≡ screen.old.items) }
-        ensures full { let said = raw_key_items (role_now self.old key) key in
+        ensures full { let said = raw_items (role_now self.old key) (sent_as is_line key) in
             let text = passed_shown (is_echoed self.old.options) key in
             OnErr result (LacksRoom out.old (length (spells said)) ⊎ LacksRoom screen.old (length text)) }
     {
         let (trapping, plain) = self.roles(key);
-        put_raw(self.role_among(trapping, plain), key, out)?;
+        put_raw(self.role_among(trapping, plain), key, is_line, out)?;
         self.echo_passed(key, screen)?;
         self.count(trapping, plain);
         Ok(())
@@ -178,7 +181,7 @@ impl ClientEnd {
             OnOk result (self.new ≡ record self.old { line = line }) }
         ensures out { let role = role_now self.old key in
             OnOk result (out.new.items ≡
-            out.old.items ++ spells (key_items true self.old.forward role self.old.line key)) }
+            out.old.items ++ spells (edit_items self.old.forward role self.old.line)) }
         ensures screen { let terminal = key_settings self.old.mode self.old.table in
             let role = role_now self.old key in
             let text = edited_shown (is_echoed self.old.options) terminal role self.old.line in
@@ -188,7 +191,7 @@ impl ClientEnd {
         ensures err_screen { OnErr result (screen.new.items ≡ screen.old.items) }
         ensures full { let terminal = key_settings self.old.mode self.old.table in
             let role = role_now self.old key in
-            let said = key_items true self.old.forward role self.old.line key in
+            let said = edit_items self.old.forward role self.old.line in
             let text = edited_shown (is_echoed self.old.options) terminal role self.old.line in
             OnErr result (LacksRoom out.old (length (spells said))
             ⊎ (LacksRoom screen.old (length text) ⊎ GivesText self.old.line role)) }

@@ -6,7 +6,7 @@ ghost use Rattle.tn_nvt.specs.Room.{LacksRoom};
 ghost use Rattle.tn_nvt.specs.Spelling.{spells, spelling};
 ghost use Rattle.tn_nvt.specs.declared.items.Item.TheVariants as item;
 ghost use Rattle.tn_client.specs.Replies.{byte_items, func_of, command_for, command_of, command_items};
-ghost use Rattle.tn_client.specs.Replies.{raw_key_items, edited_key_items};
+ghost use Rattle.tn_client.specs.Replies.{raw_items, sent_as, edited_key_items};
 ghost use Rattle.tn_client.specs.Steps.{Begins};
 
 use std::alloc::AllocError;
@@ -66,14 +66,24 @@ fn put_command(role: Role, out: &mut Vec<u8>) -> Result<(), AllocError>
     }
 }
 
-/// Appends a key that is sent at once.
-pub(crate) fn put_raw(role: Role, key: u8, out: &mut Vec<u8>) -> Result<(), AllocError>
-    ensures ok { OnOk result (out.new.items ≡ out.old.items ++ spells (raw_key_items role key)) }
+/// Appends a key that is sent at once, as CR LF if it is a new line.
+pub(crate) fn put_raw(
+    role: Role,
+    key: u8,
+    is_line: bool,
+    out: &mut Vec<u8>,
+) -> Result<(), AllocError>
+    ensures ok { OnOk result
+        (out.new.items ≡ out.old.items ++ spells (raw_items role (sent_as is_line key))) }
     ensures err { OnErr result (out.new.items ≡ out.old.items) }
-    ensures full { OnErr result (LacksRoom out.old (length (spells (raw_key_items role key)))) }
+    ensures full { OnErr result
+        (LacksRoom out.old (length (spells (raw_items role (sent_as is_line key))))) }
 {
     if matches!(role, Role::Signal(_)) {
         return put_command(role, out);
+    }
+    if is_line {
+        return put_newline(out);
     }
     put_byte(key, out)
 }

@@ -63,6 +63,7 @@ module _ {J : Type 0} (facts : JobFacts J) (headline : Headline facts) (p : Prog
   has_key (command_sent user.Ip) = refl
   has_key (command_sent user.Ayt) = tt
   has_key (command_sent user.Nop) = tt
+  has_key line_entered = tt
 
   all_typeable : (inputs : List Input) → All (λ input. HasKey (terminal_of p.options).canon.settings input) inputs
   all_typeable [] = All-nil (λ input. HasKey (terminal_of p.options).canon.settings input)

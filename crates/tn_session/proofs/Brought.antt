@@ -5,7 +5,8 @@ use Rattle.std.proofs.lemmas.List.{map-append}
 use Rattle.std.proofs.lemmas.Grind.{flat_map-append}
 use Rattle.std.specs.Io.KnownBytes.{Consumes}
 use Rattle.std.specs.List.{concat}
-use Rattle.tn_machines.specs.client.Bringing.{key_typed, command_in, commands_in, inputs_in, inputs_brought, brought_from, brought}
+use Rattle.tn_client.specs.declared.commands.UserCommand.{UserCommand}
+use Rattle.tn_machines.specs.client.Bringing.{Input, key_typed, asked_in, all_asked, input_by, input_of, inputs_in, inputs_brought, brought_from, brought}
 use Rattle.tn_machines.specs.client.Commands.{command_of}
 use Rattle.tn_machines.specs.declared.client.messages.Origin.TheVariants as origin
 use Rattle.tn_session.proofs.Mailbox.{sender_share}
@@ -151,44 +152,48 @@ net_brought reader v handled mails sent e is desk back =
     let P : List ℕ → Type 0 = λ bs. Consumes reader.bytes r.0 bs in
     (r.0, subst P (sym (net_all handled desk back ∙ ap bytes_sent is)) r.1)
 
--- THE COMMANDS
-abbrev asked_in : Message → List Control
-asked_in (Asked control) = control ∷ []
-asked_in _ = []
+-- WHAT IS ASKED FOR between keys
+abbrev control_in : Message → List Control
+control_in (Asked control) = control ∷ []
+control_in _ = []
 
 abbrev asked_sent : List Mail → List Control
 asked_sent [] = []
-asked_sent (x ∷ xs) = asked_in x.message ++ asked_sent xs
+asked_sent (x ∷ xs) = control_in x.message ++ asked_sent xs
 
-no_command : (piece : List ℕ) → commands_in (map key_typed piece) ≡ []
-no_command [] = refl
-no_command (key ∷ keys) = no_command keys
+no_request : (piece : List ℕ) → all_asked (map key_typed piece) ≡ []
+no_request [] = refl
+no_request (key ∷ keys) = no_request keys
 
-command_asked : (m : Message) → commands_in (inputs_in m) ≡ map command_of (asked_in m)
-command_asked (Piece piece) = no_command piece
-command_asked (Asked control) = refl
-command_asked HangUp = refl
-command_asked ReadFailed = refl
-command_asked Take = refl
-command_asked (Said job text after) = refl
-command_asked Refused = refl
-command_asked Left = refl
-command_asked (Resized size) = refl
+request_asked : (m : Message) → all_asked (inputs_in m) ≡ map input_of (control_in m)
+request_asked (Piece piece) = no_request piece
+request_asked (Asked control) = by_command (command_of control)
+  where
+    by_command : (command : Option UserCommand) → all_asked (input_by command ∷ []) ≡ input_by command ∷ []
+    by_command (Some command) = refl
+    by_command None = refl
+request_asked HangUp = refl
+request_asked ReadFailed = refl
+request_asked Take = refl
+request_asked (Said job text after) = refl
+request_asked Refused = refl
+request_asked Left = refl
+request_asked (Resized size) = refl
 
 -- they are those that Keys told
-commands_more : (s : Sender) (m : Message) (xs : List Mail) → commands_in (inputs_brought (all_told xs)) ≡ map command_of (asked_sent (from Keys xs))
-    → commands_in (inputs_brought (all_told (mail s m ∷ xs))) ≡ map command_of (asked_sent (from Keys (mail s m ∷ xs)))
-commands_more Keys m xs ih =
-    flat_map-append command_in (inputs_in m) (inputs_brought (all_told xs))
-    ∙ (λ i. command_asked m i ++ ih i)
-    ∙ sym (map-append command_of (asked_in m) (asked_sent (from Keys xs)))
-commands_more Net m xs ih = ih
-commands_more Desk m xs ih = ih
-commands_more Back m xs ih = ih
+requests_more : (s : Sender) (m : Message) (xs : List Mail) → all_asked (inputs_brought (all_told xs)) ≡ map input_of (asked_sent (from Keys xs))
+    → all_asked (inputs_brought (all_told (mail s m ∷ xs))) ≡ map input_of (asked_sent (from Keys (mail s m ∷ xs)))
+requests_more Keys m xs ih =
+    flat_map-append asked_in (inputs_in m) (inputs_brought (all_told xs))
+    ∙ (λ i. request_asked m i ++ ih i)
+    ∙ sym (map-append input_of (control_in m) (asked_sent (from Keys xs)))
+requests_more Net m xs ih = ih
+requests_more Desk m xs ih = ih
+requests_more Back m xs ih = ih
 
-commands_all : (xs : List Mail) → commands_in (inputs_brought (all_told xs)) ≡ map command_of (asked_sent (from Keys xs))
-commands_all [] = refl
-commands_all (x ∷ xs) = commands_more x.from x.message xs (commands_all xs)
+requests_all : (xs : List Mail) → all_asked (inputs_brought (all_told xs)) ≡ map input_of (asked_sent (from Keys xs))
+requests_all [] = refl
+requests_all (x ∷ xs) = requests_more x.from x.message xs (requests_all xs)
 
 told_asked : (s : Sender) (told : List Telling) (close : List Message)
     → asked_sent (map (mail s) (told_messages told ++ close)) ≡ controls_in told ++ asked_sent (map (mail s) close)
@@ -197,7 +202,7 @@ told_asked s (piece_told p ∷ told) close = told_asked s told close
 told_asked s (size_told z ∷ told) close = told_asked s told close
 told_asked s (control_told c ∷ told) close = ap (λ (cs : List Control). c ∷ cs) (told_asked s told close)
 
-ending_asks : (m : Message) (left : Option (List ℕ)) → IsEnding m left → asked_in m ≡ []
+ending_asks : (m : Message) (left : Option (List ℕ)) → IsEnding m left → control_in m ≡ []
 ending_asks (Piece piece) left e = absurd e
 ending_asks HangUp left e = refl
 ending_asks ReadFailed left e = refl
@@ -217,12 +222,12 @@ close_asks s may_stop pieces left foretold close closes =
     (λ x. ap A x.2)
     closes
 
-pub commands_brought : (stopped : Bool) (reader : KnownReader) (v : View) (handled mails : List Mail) (sent : ReaderSends Keys None stopped reader v)
-    → v ≡ sender Keys mails → from Keys handled ≡ mails → commands_in (inputs_brought (all_told handled)) ≡ map command_of (controls_in sent.0)
-commands_brought stopped reader v handled mails (told, left, close, consumed, closes, is, small, sizes) e of =
+pub requests_brought : (stopped : Bool) (reader : KnownReader) (v : View) (handled mails : List Mail) (sent : ReaderSends Keys None stopped reader v)
+    → v ≡ sender Keys mails → from Keys handled ≡ mails → all_asked (inputs_brought (all_told handled)) ≡ map input_of (controls_in sent.0)
+requests_brought stopped reader v handled mails (told, left, close, consumed, closes, is, small, sizes) e of =
     let asked : asked_sent mails ≡ controls_in told =
     ap asked_sent (one_list Keys mails (map (mail Keys) (told_messages told ++ close)) v e is) ∙ told_asked Keys told close
     ∙ ap (λ (cs : List Control). controls_in told ++ cs) (close_asks Keys stopped (pieces_in told) left reader.failures close
     (plainly stopped reader (pieces_in told) left close closes))
     ∙ append-nil (controls_in told) in
-    commands_all handled ∙ ap (λ (ms : List Mail). map command_of (asked_sent ms)) of ∙ ap (map command_of) asked
+    requests_all handled ∙ ap (λ (ms : List Mail). map input_of (asked_sent ms)) of ∙ ap (map input_of) asked

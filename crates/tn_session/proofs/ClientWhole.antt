@@ -11,7 +11,7 @@ use Rattle.tn_machines.specs.declared.client.messages.ClientMark.{ClientMark}
 use Rattle.tn_machines.specs.declared.client.messages.Origin.TheVariants as origin
 use Rattle.tn_machines.specs.declared.client.messages.Told.{Told}
 use Rattle.tn_machines.specs.declared.client.progress.ClientProgress.{ClientProgress}
-use Rattle.tn_session.proofs.Brought.{keys_brought, commands_brought, net_all, net_brought}
+use Rattle.tn_session.proofs.Brought.{keys_brought, requests_brought, net_all, net_brought}
 use Rattle.tn_session.proofs.ClientCauses.{read_cause, write_cause}
 use Rattle.tn_session.proofs.CoreGoing.{unwritten}
 use Rattle.tn_session.proofs.Going.{false_true}
@@ -171,7 +171,7 @@ client_ran core last stopped keys_reader net_reader writer screen passâ‚€ passâ‚
       inputs = inputs_brought (all_told acted.handled);
       inputs_are = refl;
       keys_among = keys-brought (all_told acted.handled);
-      commands_among = commands_brought stopped keys_reader.reader result.keys acted.handled ks.mails typed s.1 (woven Keys);
+      asked_among = requests_brought stopped keys_reader.reader result.keys acted.handled ks.mails typed s.1 (woven Keys);
       were_asked = typing.1;
       shown = acted.goes.text;
       unshown = g.4.0;

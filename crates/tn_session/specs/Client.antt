@@ -6,9 +6,8 @@ use Rattle.crossbeam_channel.specs.Claims.{Pass, view, IsSeatAt}
 use Rattle.crossbeam_channel.specs.Ends.{sends_on, receives_on, ruled_capacity}
 use Rattle.tn_client.specs.Replies.{items_said}
 use Rattle.tn_client.specs.Screen.{text_shown}
-use Rattle.tn_machines.specs.client.Bringing.{Input, inputs_brought, keys_in, commands_in, brought_from}
+use Rattle.tn_machines.specs.client.Bringing.{Input, inputs_brought, keys_in, input_of, all_asked, brought_from}
 use Rattle.tn_machines.specs.client.Bringing.{brought, TakesInOrder}
-use Rattle.tn_machines.specs.client.Commands.{command_of}
 use Rattle.tn_machines.specs.client.Ending.{IsEndedAt}
 use Rattle.tn_machines.specs.client.Marks.{Turns, Runs, no_write_failed, no_show_failed, all_by, all_written}
 use Rattle.tn_machines.specs.client.Marks.{all_whole}
@@ -160,12 +159,11 @@ pub record RunningClient (window : Window) (keys : KnownTyping) (net : KnownRead
   pub keys_read : List ℕ
   pub keys_were_read : ReadsPrefix keys.reader.bytes keys_read
   pub keys_are : keys_read ≡ brought origin.Keys (all_told handled)
-  -- with the commands between them: those of the control functions that stand among the pieces, the first of
-  -- those that the reader tells
+  -- with what is asked for between them: what stands among the pieces, the first of what the reader tells
   pub inputs : List Input
   pub inputs_are : inputs ≡ inputs_brought (all_told handled)
   pub keys_among : keys_in inputs ≡ keys_read
-  pub commands_among : commands_in inputs ≡ map command_of (controls_in typed.0)
+  pub asked_among : all_asked inputs ≡ map input_of (controls_in typed.0)
   pub were_asked : TellsFirst keys.controls (controls_in typed.0)
   -- and what was shown of what it shows
   pub shown : List ℕ

@@ -7,7 +7,7 @@ use Rattle.tn_discipline.specs.Characters.{is_reserved}
 use Rattle.tn_sockets.specs.Mapping.{mapped, none_own}
 use Rattle.tn_sockets.specs.Prompting.{closed, edit_of}
 use Rattle.tn_sockets.specs.Typing.{AreTaken, Obeys, command, command_in, commands, input_in, inputs, inputs_in, is_escape, is_one, mapped_input, of_bytes}
-use Rattle.tn_sockets.specs.Typing.{prompt_after, prompt_behind, prompt_when, typed_after, typed_again, typed_by, typed_when, unmapped}
+use Rattle.tn_sockets.specs.Typing.{returned, typed_as, prompt_after, prompt_behind, prompt_when, typed_after, typed_again, typed_by, typed_when, unmapped}
 use Rattle.tn_sockets.specs.declared.escaping.EscapeCommand.{EscapeCommand}
 use Rattle.tn_sockets.specs.declared.escaping.Escaping.{Escaping}
 use Rattle.tn_sockets.specs.declared.escaping.SessionInput.{SessionInput}
@@ -33,21 +33,31 @@ every (byte ∷ bytes) = λ i. input.Key (none_mapped byte i) ∷ every bytes i
 
 -- the user's own characters change keys alone
 module _ (keyboard : Keyboard) where
-  plain : (b : Bool) (x y : ℕ) → b ≡ false → y ≡ (if b then x else y)
+  given_as : (x : SessionInput) → input_in (typed_as x) ≡ x ∷ []
+  given_as (input.Key key) = refl
+  given_as (input.Control control) = refl
+
+  no_command : (x : SessionInput) → command_in (typed_as x) ≡ []
+  no_command (input.Key key) = refl
+  no_command (input.Control control) = refl
+
+  plain : (b : Bool) (x y : SessionInput) → b ≡ false → y ≡ (if b then x else y)
   plain false x y e = refl
   plain true x y e = cc
 
-  held : (b : Bool) (x y : ℕ) → b ≡ true → x ≡ (if b then x else y)
+  held : (b : Bool) (x y : SessionInput) → b ≡ true → x ≡ (if b then x else y)
   held true x y e = refl
   held false x y e = cc
 
   from_key : (b : Bool) (byte : ℕ) → is_escape keyboard.escape byte ≡ b
-      → input_in (if b then typed.Nothing else typed.Key (mapped keyboard.own byte))
+      → input_in (if b then typed.Nothing else typed_as (returned keyboard.returns (mapped keyboard.own byte)))
       ≡ map (mapped_input keyboard) (input_in (if b then typed.Nothing else typed.Key (mapped none_own byte)))
   from_key true byte is = refl
   from_key false byte is =
-      ap (λ (n : ℕ). input.Key n ∷ []) (plain (is_escape keyboard.escape byte) byte (mapped keyboard.own byte) is
-      ∙ ap (λ (n : ℕ). if is_escape keyboard.escape n then n else mapped keyboard.own n) (sym (none_mapped byte)))
+      given_as (returned keyboard.returns (mapped keyboard.own byte))
+      ∙ ap (λ (x : SessionInput). x ∷ [])
+      (plain (is_escape keyboard.escape byte) (input.Key byte) (returned keyboard.returns (mapped keyboard.own byte)) is
+      ∙ ap (λ (n : ℕ). mapped_input keyboard (input.Key n)) (sym (none_mapped byte)))
 
   -- what a line means is no key
   no_key : (b c d e : Bool) (command : EscapeCommand) → input_in (if b then typed.Nothing else if c then typed.Control Brk else if d then typed.Control Ip
@@ -72,7 +82,8 @@ module _ (keyboard : Keyboard) where
 
   again : (b : Bool) (byte : ℕ) → is_escape keyboard.escape byte ≡ true
       → input_in (if b then typed.Key byte else typed.Nothing) ≡ map (mapped_input keyboard) (input_in (if b then typed.Key byte else typed.Nothing))
-  again true byte is = ap (λ (n : ℕ). input.Key n ∷ []) (held (is_escape keyboard.escape byte) byte (mapped keyboard.own byte) is)
+  again true byte is = ap (λ (x : SessionInput). x ∷ [])
+      (held (is_escape keyboard.escape byte) (input.Key byte) (returned keyboard.returns (mapped keyboard.own byte)) is)
   again false byte is = refl
 
   from_line : (b : Bool) (edit : Edit) (line : List ℕ) (byte : ℕ) → is_escape keyboard.escape byte ≡ b
@@ -95,10 +106,10 @@ module _ (keyboard : Keyboard) where
   same_command : (opens : Bool) (prompt : Prompt) (byte : ℕ) → command_in (typed_when opens keyboard prompt byte)
       ≡ command_in (typed_when opens (unmapped keyboard) prompt byte)
   same_command false prompt byte = from (is_escape keyboard.escape byte) where
-    from : (b : Bool) → command_in (if b then typed.Nothing else typed.Key (mapped keyboard.own byte))
+    from : (b : Bool) → command_in (if b then typed.Nothing else typed_as (returned keyboard.returns (mapped keyboard.own byte)))
         ≡ command_in (if b then typed.Nothing else typed.Key (mapped none_own byte))
     from true = refl
-    from false = refl
+    from false = no_command (returned keyboard.returns (mapped keyboard.own byte))
   same_command true prompt byte = refl
 
 pub all_mapped : (keyboard : Keyboard) (prompt : Prompt) (bytes : List ℕ)

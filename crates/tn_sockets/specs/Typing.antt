@@ -12,16 +12,18 @@ use Rattle.tn_sockets.specs.declared.escaping.Escaping.{Escaping}
 use Rattle.tn_sockets.specs.declared.escaping.SessionInput.{SessionInput}
 use Rattle.tn_sockets.specs.declared.escaping.SessionInput.TheVariants as input
 use Rattle.tn_sockets.specs.declared.escaping.Keyboard.{Keyboard}
+use Rattle.tn_sockets.specs.declared.escaping.ReturnKey.{ReturnKey}
+use Rattle.tn_sockets.specs.declared.escaping.ReturnKey.TheVariants.{CrNul, CrLf, Lf}
 use Rattle.tn_sockets.specs.declared.escaping.Typed.{Typed}
 use Rattle.tn_sockets.specs.declared.escaping.Typed.TheVariants as typed
 use Rattle.tn_sockets.specs.declared.prompt.Edit.{Edit}
 use Rattle.tn_sockets.specs.declared.prompt.Edit.TheVariants.{Enter}
 use Rattle.tn_sockets.specs.declared.prompt.Prompt.{Prompt}
-use Rattle.tn_streams.specs.declared.control.Control.TheVariants.{Brk, Ip, Ayt}
+use Rattle.tn_streams.specs.declared.control.Control.TheVariants.{Brk, Ip, Ayt, NewLine}
 
 -- every byte is a key, and stands for itself
 abbrev pub of_bytes : Keyboard
-of_bytes = record { escape = None; own = none_own; editing = none_own }
+of_bytes = record { escape = None; own = none_own; editing = none_own; returns = CrNul }
 
 abbrev pub is_escape : Option ℕ → ℕ → Bool
 is_escape None byte = false
@@ -56,11 +58,22 @@ typed_by _ line = typed.Nothing
 abbrev pub typed_again : List ℕ → ℕ → Typed
 typed_again line byte = if length line == 0 then typed.Key byte else typed.Nothing
 
+-- RFC 1123, section 3.3.1: the key RETURN, which is CR, as the user wants it to be sent
+abbrev pub returned : ReturnKey → ℕ → SessionInput
+returned CrNul key = input.Key key
+returned CrLf key = if key == 13 then input.Control NewLine else input.Key key
+returned Lf key = if key == 13 then input.Key 10 else input.Key key
+
+abbrev pub typed_as : SessionInput → Typed
+typed_as (input.Key key) = typed.Key key
+typed_as (input.Control control) = typed.Control control
+
 -- What one byte is while a line is typed to the client itself, and at other times: a key of the user's own
--- characters is the standard one, unless it is the escape character.
+-- characters is the standard one, unless it is the escape character, and RETURN is what it is to send.
 abbrev pub typed_when : Bool → Keyboard → Prompt → ℕ → Typed
 typed_when false keyboard prompt byte =
-    if is_escape keyboard.escape byte then typed.Nothing else typed.Key (mapped keyboard.own byte)
+    if is_escape keyboard.escape byte then typed.Nothing
+    else typed_as (returned keyboard.returns (mapped keyboard.own byte))
 typed_when true keyboard prompt byte =
     if is_escape keyboard.escape byte then typed_again prompt.line byte
     else typed_by (edit_of keyboard.editing prompt.sequence byte) prompt.line
@@ -141,13 +154,14 @@ IsTakenUpTo count keyboard prompt bytes =
     (count ≤ length bytes)
     × ((count ≡ length bytes) ⊎ AskToClose (commands keyboard prompt (take count bytes)))
 
--- the same keyboard, whose keys are those of no characters of the user's own
+-- the same keyboard, whose keys are those of no characters of the user's own, and with RETURN as CR
 abbrev pub unmapped : Keyboard → Keyboard
-unmapped keyboard = record keyboard { own = none_own }
+unmapped keyboard = record keyboard { own = none_own; returns = CrNul }
 
--- what the user's own characters make of what a session gets without them; a key that is the escape character
+-- what the user's own characters and RETURN make of what a session gets without them; a key that is the escape character
 -- was typed behind another one
 abbrev pub mapped_input : Keyboard → SessionInput → SessionInput
 mapped_input keyboard (input.Key byte) =
-    input.Key (if is_escape keyboard.escape byte then byte else mapped keyboard.own byte)
+    if is_escape keyboard.escape byte then input.Key byte
+    else returned keyboard.returns (mapped keyboard.own byte)
 mapped_input keyboard (input.Control control) = input.Control control

@@ -5,6 +5,7 @@ ghost use Rattle.std.specs.Str.{bytes_eq};
 ghost use Rattle.std.specs.VecDeque.{deque_capacity, deque_len};
 ghost use Rattle.tn_sockets.specs.Prompting.{closed, edit_of};
 ghost use Rattle.tn_sockets.specs.Typing.{IsTakenUpTo, Obeys, command, commands, inputs, is_escape, is_one, meant};
+ghost use Rattle.tn_sockets.specs.Typing.{returned, typed_as};
 ghost use Rattle.tn_sockets.specs.Typing.{of_bytes, prompt_after, prompt_behind, reading, typed_again};
 
 use crate::own_characters::OwnCharacters;
@@ -78,6 +79,27 @@ pub trait Obey {
         ensures { Obeys (obeyed self.old) [] (obeyed self.new) };
 }
 
+/// What the key RETURN sends if keys go one at a time (RFC 1123, section 3.3.1).
+#[derive(Clone, Copy, PartialEq, Eq)]
+pub enum ReturnKey {
+    CrNul,
+    CrLf,
+    Lf,
+}
+
+impl ReturnKey {
+    // A key as it is given to a session: CR, which goes as CR NUL, is RETURN.
+    fn given(self, key: u8) -> Typed
+        ensures { result ≡ typed_as (returned self key) }
+    {
+        match self {
+            ReturnKey::CrLf if key == b'\r' => Typed::Control(Control::NewLine),
+            ReturnKey::Lf if key == b'\r' => Typed::Key(b'\n'),
+            _ => Typed::Key(key),
+        }
+    }
+}
+
 /// What the bytes that are typed stand for.
 #[derive(Clone, Copy, PartialEq, Eq)]
 pub struct Keyboard {
@@ -87,6 +109,7 @@ pub struct Keyboard {
     pub own: OwnCharacters,
     /// The characters that edit a line which is typed to the client itself.
     pub editing: OwnCharacters,
+    pub returns: ReturnKey,
 }
 
 impl Keyboard {
@@ -98,6 +121,7 @@ impl Keyboard {
             escape: None,
             own: OwnCharacters::none(),
             editing: OwnCharacters::none(),
+            returns: ReturnKey::CrNul,
         }
     }
 }
@@ -150,7 +174,7 @@ impl Escaping {
         if escape {
             return Typed::Nothing;
         }
-        Typed::Key(self.keyboard.own.mapped(byte))
+        self.keyboard.returns.given(self.keyboard.own.mapped(byte))
     }
 
     // The line behind this byte.

@@ -47,7 +47,8 @@ pub fn standard_characters_change_nothing()
     ensures { (byte : ℕ) → mapped standard_own byte ≡ byte }
 {}
 
-/// The user's own characters change which keys a session gets, each by itself, and nothing else.
+/// The user's own characters, and what RETURN is to send, change which keys a session gets, each by itself,
+/// and nothing else.
 pub fn only_keys_are_mapped()
     ensures inputs { (keyboard : Keyboard) (prompt : Prompt) (bytes : List ℕ) →
         inputs keyboard prompt bytes ≡ map (mapped_input keyboard) (inputs (unmapped keyboard) prompt bytes) }

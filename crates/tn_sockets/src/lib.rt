@@ -25,7 +25,7 @@
 pub use attended::{Attended, Standing};
 pub use connection::{Closing, Connection};
 pub use console::Console;
-pub use escaping::{Echo, EscapeCommand, Escaping, Keyboard, Obey, SessionInput, Typed};
+pub use escaping::{Echo, EscapeCommand, Escaping, Keyboard, Obey, ReturnKey, SessionInput, Typed};
 pub use hook::Hook;
 pub use host::Host;
 pub use incoming::Incoming;

@@ -1,6 +1,7 @@
 //! What a user asks for between the keys.
 
-/// A control function that a user asks for (RFC 854, "Standard representation of control functions").
+/// What a user asks for between keys: a control function (RFC 854, "Standard representation of control
+/// functions"), or a new line.
 #[derive(Clone, Copy, Debug, PartialEq, Eq)]
 pub enum Control {
     /// The key BREAK.
@@ -9,4 +10,6 @@ pub enum Control {
     Ip,
     /// Asks whether the server is there.
     Ayt,
+    /// Enters a new line, which goes as CR LF (RFC 1123, section 3.3.1).
+    NewLine,
 }

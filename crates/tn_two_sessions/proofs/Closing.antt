@@ -4,7 +4,7 @@ use Rattle.tn_client.specs.Events.{History, next, resized, gets}
 use Rattle.tn_client.specs.Events as client
 use Rattle.tn_machines.proofs.lemmas.client.Bringing.{inputs-gets}
 use Rattle.tn_machines.specs.client.Bringing.{inputs}
-use Rattle.tn_machines.specs.client.Commands.{command_of}
+use Rattle.tn_machines.specs.client.Commands.{event_of}
 use Rattle.tn_machines.specs.client.Counting.{after_message}
 use Rattle.tn_machines.specs.client.Marks.{Turns, Runs}
 use Rattle.tn_machines.specs.client.Run.{Run, Acts, ActsUnless, types, sent_after, start}
@@ -102,7 +102,7 @@ acts c new from (Resized size) a may t =
       same = ap inputs e ∙ same_sent c.progress.closed c.sent c.history later t.same refl ∙ sym (ap inputs f);
     }
 acts c new Keys (Asked control) a may t =
-    let e = ap (λ (r : Run). r.sent) a ∙ sent_latest c.progress.closed c.sent (next c.history (client.sent (command_of control))) may
+    let e = ap (λ (r : Run). r.sent) a ∙ sent_latest c.progress.closed c.sent (next c.history (event_of control)) may
     ∙ sym (ap (λ (r : Run). r.history) a) in
     record { latest = λ o. e; same = ap inputs e }
 acts c new Net (Asked control) a may t = stood c new (ap (λ (r : Run). r.sent) a) (ap (λ (r : Run). r.history) a)

@@ -544,7 +544,7 @@ module _ (width height : ℕ) where
         inputs = typed_inputs;
         inputs_are = refl;
         keys_among = refl;
-        commands_among = refl;
+        asked_among = refl;
         were_asked = (Some [], ([], refl, refl));
         shown = text_shown c5.history;
         unshown = [];

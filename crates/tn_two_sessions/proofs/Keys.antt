@@ -8,8 +8,8 @@ use Rattle.tn_client.specs.Events.{History, begun, next, got, resized, proposed}
 use Rattle.tn_client.specs.Events as client
 use Rattle.tn_client.specs.declared.commands.UserCommand.{UserCommand}
 use Rattle.tn_client.specs.declared.commands.UserCommand.TheVariants as user
-use Rattle.tn_machines.specs.client.Bringing.{Input, key_typed, command_sent, keys_in, commands_in, inputs}
-use Rattle.tn_machines.specs.client.Commands.{command_of}
+use Rattle.tn_machines.specs.client.Bringing.{Input, key_typed, command_sent, line_entered, keys_in, all_asked, input_of, inputs}
+use Rattle.tn_nvt.specs.Spelling.{lf}
 use Rattle.tn_discipline.proofs.lemmas.Histories.{entries-all}
 use Rattle.tn_discipline.proofs.lemmas.KeyRoles.{roles_of-append}
 use Rattle.tn_discipline.specs.Canon.{Canon, typed_entries}
@@ -100,6 +100,8 @@ module _ (s : Settings) (standard : s.chars ≡ standard_characters) where
       ap (λ (ks : List ℕ). keys_typed s k ++ ks) (key_as s command standard both.1 ∙ sym (append-nil one))
       ∙ ap (λ (ks : List ℕ). ks ++ (one ++ [])) (typed_as k both.0)
       ∙ sym (keys_of-append s (inputs k) (command_sent command ∷ []))
+  typed_as (next k client.entered) all =
+      ap (λ (ks : List ℕ). ks ++ lf ∷ []) (typed_as k (last_of (inputs k) line_entered all).0) ∙ sym (keys_of-append s (inputs k) (line_entered ∷ []))
   typed_as (next k (got item)) all = typed_as k all
   typed_as (next k (resized width height)) all = typed_as k all
   typed_as (next k (proposed func value)) all = typed_as k all
@@ -111,6 +113,7 @@ module _ (s : Settings) (standard : s.chars ≡ standard_characters) where
   typeable (next k (client.sent command)) all =
       let both = last_of (inputs k) (command_sent command) all in
       (typeable k both.0, has_typeable s command standard both.1)
+  typeable (next k client.entered) all = typeable k (last_of (inputs k) line_entered all).0
   typeable (next k (got item)) all = typeable k all
   typeable (next k (resized width height)) all = typeable k all
   typeable (next k (proposed func value)) all = typeable k all
@@ -119,19 +122,20 @@ pub first_of_all : {X : Type 0} (P : X → Type 0) (xs ys : List X) → All P (x
 first_of_all P [] ys all = All-nil P
 first_of_all P (x ∷ xs) ys all = All-cons P x xs (All-head P x (xs ++ ys) all) (first_of_all P xs ys (All-tail P x (xs ++ ys) all))
 
--- where no command is asked for, keys are keys
-no_more : (x : UserCommand) (xs : List UserCommand) → x ∷ xs ≡ [] → ⊥
+-- if nothing is asked for between keys, keys are keys
+no_more : (x : Input) (xs : List Input) → x ∷ xs ≡ [] → ⊥
 no_more x xs e = cc
 
-pub only_keys : (s : Settings) (xs : List Input) → commands_in xs ≡ [] → keys_of s xs ≡ keys_in xs
+pub only_keys : (s : Settings) (xs : List Input) → all_asked xs ≡ [] → keys_of s xs ≡ keys_in xs
 only_keys s [] none = refl
 only_keys s (key_typed key ∷ xs) none = ap (λ (ks : List ℕ). key ∷ ks) (only_keys s xs none)
-only_keys s (command_sent command ∷ xs) none = absurd (no_more command (commands_in xs) none)
+only_keys s (command_sent command ∷ xs) none = absurd (no_more (command_sent command) (all_asked xs) none)
+only_keys s (line_entered ∷ xs) none = absurd (no_more line_entered (all_asked xs) none)
 
-pub none_told : (all : Option (List Control)) (told : List Control) → all ≡ Some [] → TellsFirst all told → map command_of told ≡ []
+pub none_told : (all : Option (List Control)) (told : List Control) → all ≡ Some [] → TellsFirst all told → map input_of told ≡ []
 none_told all told is first =
     let tells = subst (λ (o : Option (List Control)). TellsFirst o told) is first in
-    ap (map command_of) (nothing told tells.1.0 (sym tells.1.1))
+    ap (map input_of) (nothing told tells.1.0 (sym tells.1.1))
   where
     nothing : (xs ys : List Control) → xs ++ ys ≡ [] → xs ≡ []
     nothing [] ys e = refl

@@ -106,7 +106,7 @@ module _ {J : Type 0} (facts : JobFacts J) (canon : Canon) (s : Served facts can
 
   -- without commands the keys are those that were read
   keys_alone : c.keys.controls ≡ Some [] → keys_at canon c ≡ c.ran.keys_read
-  keys_alone none = only_keys canon.settings c.ran.inputs (c.ran.commands_among ∙ none_told c.keys.controls _ none c.ran.were_asked) ∙ c.ran.keys_among
+  keys_alone none = only_keys canon.settings c.ran.inputs (c.ran.asked_among ∙ none_told c.keys.controls _ none c.ran.were_asked) ∙ c.ran.keys_among
 
   taken_of : (given : List ℕ) → c.keys.reader.bytes ≡ Some given → c.keys.controls ≡ Some [] → IsPrefixOf s.ran.entries_taken (typed_entries canon given)
   taken_of given known none =

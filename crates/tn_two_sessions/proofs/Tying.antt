@@ -24,6 +24,7 @@ ties canon editing width height standard = record {
   pulls = λ h k n t ok. histories.called canon h k (server.pulled n) tt (t ok);
   types_on = λ h k key t ok. histories.types canon h k key (t ok);
   resizes = λ h k width height t ok. histories.resizes canon h k width height (t ok);
+  enters = λ h k t ok. histories.enters canon h k (t ok);
   sends = λ h k command t ok. histories.sends canon h k command ok.1 (t ok.0);
   returns = λ h k x p t ok. histories.returns canon h k x p (t ok);
 }

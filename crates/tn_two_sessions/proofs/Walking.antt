@@ -40,6 +40,7 @@ pub record Ties (canon : Canon) (editing : Editing) (width height : ℕ) (Tied :
   pub pulls : (h : server.History) (k : client.History) (n : ℕ) → Tied h k → Tied (server.next h (server.pulled n)) k
   pub types_on : (h : server.History) (k : client.History) (key : ℕ) → Tied h k → Tied h (client.next k (client.typed key))
   pub resizes : (h : server.History) (k : client.History) (w t : ℕ) → Tied h k → Tied h (client.next k (client.resized w t))
+  pub enters : (h : server.History) (k : client.History) → Tied h k → Tied h (client.next k client.entered)
   pub sends : (h : server.History) (k : client.History) (command : UserCommand) → Tied h k → Tied h (client.next k (client.sent command))
   pub returns : (h : server.History) (k : client.History) (x : Item) → IsPrefixOf (client.items k ++ x ∷ []) (server_says.items_said h) → Tied h k
       → Tied h (client.next k (client.got x))
@@ -91,6 +92,7 @@ module _ (canon : Canon) (editing : Editing) (width height : ℕ) (opens : Bool)
       client_turns (λ c. Tied h c) (server_says.items_said h) (record {
         types_on = λ c key tie. ties.types_on h c key tie;
         resizes = λ c w t tie. ties.resizes h c w t tie;
+        enters = λ c tie. ties.enters h c tie;
         sends = λ c command tie. ties.sends h c command tie;
         comes = λ c y p tie. ties.returns h c y p tie;
       }) now.client mid x k t (client_heard (done ++ told (x, k) ∷ []) (record { server = now.server; client = mid }) r i) at

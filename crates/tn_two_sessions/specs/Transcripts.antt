@@ -4,7 +4,8 @@
 use Rattle.std.specs.Prelude.{◌≡◌, ℕ, IsTrue, ⊤, All, Option, Some, List, [], ◌∷◌, ◌++◌, flat_map}
 use Rattle.std.specs.Prelude.{option_to_list}
 use Rattle.tn_client.specs.declared.commands.UserCommand.TheVariants.{Brk, Ip}
-use Rattle.tn_machines.specs.client.Bringing.{Input, key_typed, command_sent}
+use Rattle.tn_machines.specs.client.Bringing.{Input, key_typed, command_sent, line_entered}
+use Rattle.tn_nvt.specs.Spelling.{lf}
 use Rattle.tn_discipline.specs.Canon.{Canon, typed_entries}
 use Rattle.tn_discipline.specs.Characters.{standard_characters}
 use Rattle.tn_discipline.specs.declared.termios.Settings.{Settings}
@@ -40,11 +41,12 @@ pub record Connected (limit : ℕ) : Type 0 where
       result
 
 -- WHAT A USER TYPES, as keys of a terminal with these settings: BRK and IP count as the key INTR, AYT and NOP
--- as nothing
+-- as nothing, and a new line as the key LF
 abbrev pub key_of : Settings → Input → List ℕ
 key_of s (key_typed key) = key ∷ []
 key_of s (command_sent Brk) = option_to_list s.chars.intr
 key_of s (command_sent Ip) = option_to_list s.chars.intr
+key_of s line_entered = lf ∷ []
 key_of s _ = []
 
 abbrev pub keys_of : Settings → List Input → List ℕ
@@ -98,13 +100,13 @@ abbrev pub keys_at : (canon : Canon) → Connected canon.limit → List ℕ
 keys_at canon c = keys_of canon.settings c.ran.inputs
 
 -- WHAT YOU TYPE IS WHAT THE JOB READS: what the foreground job took is a prefix of the entries that the keys
--- which the client read give at one local terminal, with the commands between them, and is all of them where
--- both ran to the end.
+-- which the client read give at one local terminal, with the commands and new lines between them, and is all of
+-- them where both ran to the end.
 pub record ReadsWhatIsTyped {J : Type 0} {facts : JobFacts J} {canon : Canon} (s : Served facts canon)
     (c : Connected canon.limit) : Type 0 where
   pub prefix : IsPrefixOf s.ran.entries_taken (typed_entries canon (keys_at canon c))
   pub all : RanToTheEnd s c → s.ran.entries_taken ≡ typed_entries canon (keys_at canon c)
-  -- and so of all keys that the user's reader gives, where they are known, and no command is asked for
+  -- and so of all keys that the user's reader gives, where they are known, and nothing is asked for between them
   pub of_given : (given : List ℕ) → c.keys.reader.bytes ≡ Some given → c.keys.controls ≡ Some []
       → IsPrefixOf s.ran.entries_taken (typed_entries canon given)
 

@@ -32,8 +32,8 @@ use Rattle.tn_client.specs.declared.faults.ClientFault.TheVariants as client_fau
 use Rattle.tn_world.specs.Past.{HasPast, opening_pair, WishesNothing}
 use Rattle.tn_world.specs.Flight.{InFlight}
 use Rattle.tn_world.specs.Opened.{IsOpened}
-use Rattle.tn_world.specs.Worlds.{World, server_fault, client_fault, ServerRefusesCall, ClientRefusesEvent}
-use Rattle.tn_world.specs.declared.events.Event.TheVariants.{Key, Resize}
+use Rattle.tn_world.specs.Worlds.{World, server_fault, client_fault, ServerRefusesCall, ClientRefusesCall, ClientRefusesEvent}
+use Rattle.tn_world.specs.declared.events.Event.TheVariants.{Resize}
 use Rattle.tn_world.proofs.Cut.{said_behind, start}
 use Rattle.tn_world.proofs.Soundness.{Lead, made, asked_sound, told_sound, sound_as, sound_reaches, sound_returns, propose_goes_on, breaks_sound, again_sound}
 
@@ -46,12 +46,12 @@ tells_sound old end e later call accepted step said s =
     (subst (λ x. HasPast (record old { client = end_after old.client e; to_server = x })) (sym said)
     (told_sound old e call (propose_goes_on old.client e accepted) s))
 
-pub key_sound : (old : World) (end : client.End) (key : ℕ) (later seen keys : List ℕ) → client_fault old.client (client_calls.typed key) ≡ None
-    → end ≡ end_after old.client (client_calls.typed key) → later ≡ old.to_server ++ spells (says old.client (client_calls.typed key)) → HasPast old
+pub key_sound : (old : World) (end : client.End) (e : client_calls.Event) (later seen keys : List ℕ) → client_courses.IsCall e
+    → client_fault old.client e ≡ None → end ≡ end_after old.client e → later ≡ old.to_server ++ spells (says old.client e) → HasPast old
     → HasPast (record old { client = end; to_server = later; echoed = seen; typed = keys })
-key_sound old end key later seen keys accepted step said s =
+key_sound old end e later seen keys call accepted step said s =
     sound_as (record old { client = end; to_server = later }) (record old { client = end; to_server = later; echoed = seen; typed = keys }) refl refl refl refl
-    (tells_sound old end (client_calls.typed key) later tt accepted step said s)
+    (tells_sound old end e later call accepted step said s)
 
 pub send_sound : (old : World) (end : client.End) (command : UserCommand) (later keys : List ℕ) → client_fault old.client (client_calls.sent command) ≡ None
     → end ≡ old.client → later ≡ old.to_server ++ spells (says old.client (client_calls.sent command)) → HasPast old
@@ -111,12 +111,13 @@ breaks_or_again old end piece left later seen fault cause breaks again failed s 
     by_test false is f = breaks_sound old end piece left later seen is (breaks f) failed s
 
 -- a call of the client that is refused
-pub key_refused : (old : World) (end : client.End) (key : ℕ) (later seen keys : List ℕ) (fault : ClientFault) → old.client_stopped ≡ false
-    → client.IsFault (client.call_fault old.client) fault → (fault ≡ client_faults.Memory → SaysOrShows old.client (client_calls.typed key)) → answers.Untouched old.client old.to_server later old.echoed seen end → keys ≡ old.typed
-    → (w : World) → old ≡ w → ClientRefusesEvent w (Key key) fault × (record old { client = end; to_server = later; echoed = seen; typed = keys } ≡ w)
-key_refused old end key later seen keys fault goes cause grows same kept w is =
-    subst (λ w. ClientRefusesEvent w (Key key) fault × (record old { client = end; to_server = later; echoed = seen; typed = keys } ≡ w)) is
-    ((goes, record { cause = cause; grows = grows }), rw (same.end, same.out, same.screen, kept) refl)
+pub key_refused : (old : World) (end : client.End) (e : client_calls.Event) (later seen keys : List ℕ) (fault : ClientFault) → old.client_stopped ≡ false
+    → client.IsFault (client_fault old.client e) fault → (fault ≡ client_faults.Memory → SaysOrShows old.client e)
+    → answers.Untouched old.client old.to_server later old.echoed seen end → keys ≡ old.typed → (w : World) → old ≡ w
+    → ((w.client_stopped ≡ false) × ClientRefusesCall w.client e fault) × (record old { client = end; to_server = later; echoed = seen; typed = keys } ≡ w)
+key_refused old end e later seen keys fault goes cause grows same kept w is =
+    let P : World → Type 0 = λ u. (u.client_stopped ≡ false) × ClientRefusesCall u.client e fault in
+    (subst P is (goes, record { cause = cause; grows = grows }), rw (same.end, same.out, same.screen, kept) is)
 
 pub resize_refused : (old : World) (end : client.End) (width height : ℕ) (later : List ℕ) (fault : ClientFault) → old.client_stopped ≡ false
     → client.IsFault (client.call_fault old.client) fault → (fault ≡ client_faults.Memory → says old.client (client_calls.resized width height) ≢ []) → answers.SaysNothing old.client old.to_server later end → (w : World) → old ≡ w

@@ -6,7 +6,7 @@ use Rattle.std.proofs.lemmas.List.{take-append-drop}
 use Rattle.std.proofs.lemmas.List.Elements.{All-nil}
 use Rattle.tn_discipline.specs.declared.echo.Symbol.{Symbol}
 use Rattle.tn_discipline.specs.declared.echo.Symbol.TheVariants as symbol
-use Rattle.tn_nvt.specs.Spelling.{spells, Fits}
+use Rattle.tn_nvt.specs.Spelling.{lf, spells, Fits}
 use Rattle.tn_nvt.specs.Feeding.{DecoderState, LeadsTo}
 use Rattle.tn_nvt.specs.declared.items.Item.{Item}
 use Rattle.tn_server.specs.Events as server_calls
@@ -26,11 +26,11 @@ use Rattle.tn_world.specs.Past.{HasPast}
 use Rattle.tn_streams.specs.Prefixes.{IsPrefixOf}
 use Rattle.tn_world.specs.Flight.{InFlight}
 use Rattle.tn_world.specs.Output.{screen, text_of, IsOutput, Queues, IsNoneAt, OutputGrows, OutputGrowsTo, OutputGrowsAll, OutputGrowsBefore}
-use Rattle.tn_world.specs.Worlds.{World, UnlessStopped, TypesKey, SendsCommand, CallsClient, DeliversToServer, DeliversToClient, CallsServer, Pulls, TakesEntry}
+use Rattle.tn_world.specs.Worlds.{World, UnlessStopped, Types, TypesKey, EntersLine, SendsCommand, CallsClient, DeliversToServer, DeliversToClient, CallsServer, Pulls, TakesEntry}
 use Rattle.tn_world.specs.Worlds.{RunsEvent, Runs, StopsWithin, ServerRefusesDelivery}
 use Rattle.tn_client.specs.declared.commands.UserCommand.{UserCommand}
 use Rattle.tn_world.specs.declared.events.Event.{Event}
-use Rattle.tn_world.specs.declared.events.Event.TheVariants.{Key, Send, ToServer, ToClient, Write, Pull, Take, Wish, Resize, SetChar, Propose, Echo, Mask}
+use Rattle.tn_world.specs.declared.events.Event.TheVariants.{Key, NewLine, Send, ToServer, ToClient, Write, Pull, Take, Wish, Resize, SetChar, Propose, Echo, Mask}
 use Rattle.tn_world.specs.declared.events.Event.TheVariants.{ServerStops, ClientStops}
 use Rattle.tn_world.specs.declared.faults.Cause.{Cause}
 use Rattle.tn_world.proofs.Cut.{start, said_behind, cut_at}
@@ -91,9 +91,10 @@ same_grows old new e text is o =
     still_grows old new e text (ap (λ (w : World). w.client.decoder) is) (ap (λ (w : World). w.shown) is) (ap (λ (w : World). w.to_client) is)
     (ap (λ (w : World). w.server.terminal.queue) is) o
 
-types_grows : (old new : World) (key : ℕ) (text : List ℕ) → TypesKey old key new → IsOutput old text → OutputGrows old (Key key) new text
-types_grows old new key text t o =
-    still_grows old new (Key key) text (ap (λ (w : World). w.client.decoder) t.step) (ap (λ (w : World). w.shown) t.step) (ap (λ (w : World). w.to_client) t.step)
+types_grows : (old new : World) (call : client_calls.Event) (key : ℕ) (e : Event) (text : List ℕ) → Types old call key new → IsOutput old text
+    → OutputGrows old e new text
+types_grows old new call key e text t o =
+    still_grows old new e text (ap (λ (w : World). w.client.decoder) t.step ∙ call_decoder old.client call) (ap (λ (w : World). w.shown) t.step) (ap (λ (w : World). w.to_client) t.step)
     (ap (λ (w : World). w.server.terminal.queue) t.step) o
 
 sends_grows : (old new : World) (command : UserCommand) (text : List ℕ) → SendsCommand old command new → IsOutput old text
@@ -226,7 +227,9 @@ unless false old new e text happens done o is = done is
 pub output_grows : (old new : World) (e : Event) (text : List ℕ) → HasPast old → old.client.failed ≡ false → RunsEvent old e new → IsOutput old text
     → OutputGrows old e new text
 output_grows old new (Key key) text s runs d o = unless old.client_stopped old new (Key key) text (TypesKey old key new)
-    (λ t. types_grows old new key text t o) o d
+    (λ t. types_grows old new (client_calls.typed key) key (Key key) text t o) o d
+output_grows old new NewLine text s runs d o = unless old.client_stopped old new NewLine text (EntersLine old new)
+    (λ t. types_grows old new client_calls.entered lf NewLine text t o) o d
 output_grows old new (Send command) text s runs d o = unless old.client_stopped old new (Send command) text (SendsCommand old command new)
     (λ t. sends_grows old new command text t o) o d
 output_grows old new (ToServer n) text s runs d o =
@@ -282,6 +285,7 @@ asks_on old new e a = ap (λ (w : World). w.client.failed) a.step
 
 pub goes_on : (old new : World) (e : Event) → RunsEvent old e new → KeepsOn old new
 goes_on old new (Key key) d = on_unless old.client_stopped old new (TypesKey old key new) (λ t. ap (λ (w : World). w.client.failed) t.step) d
+goes_on old new NewLine d = on_unless old.client_stopped old new (EntersLine old new) (λ t. ap (λ (w : World). w.client.failed) t.step) d
 goes_on old new (Send command) d = on_unless old.client_stopped old new (SendsCommand old command new) (λ t. ap (λ (w : World). w.client.failed) t.step) d
 goes_on old new (ToServer n) d = on_unless old.server_stopped old new (DeliversToServer old n new) (λ r. ap (λ (w : World). w.client.failed) r.rest) d
 goes_on old new (ToClient n) d = on_unless old.client_stopped old new (DeliversToClient old n new) (λ r. fed_failed old.client new.client _ _ _ _ _ r.feeds) d

@@ -3,7 +3,7 @@ use Rattle.std.proofs.Common.{◌≡◌, ℕ, Bool, true, false, Some, None, Lis
 use Rattle.std.specs.Prelude.{All}
 use Rattle.std.proofs.lemmas.List.Elements.{All-nil, All-append}
 use Rattle.tn_nvt.specs.declared.items.Item.{Item}
-use Rattle.tn_nvt.specs.Spelling.{spells, Fits}
+use Rattle.tn_nvt.specs.Spelling.{lf, spells, Fits}
 use Rattle.tn_nvt.specs.Feeding.{DecoderState, LeadsTo}
 use Rattle.tn_codes.specs.declared.codes.Verb.{Verb}
 use Rattle.tn_option.specs.EnginePair.{TalkTo}
@@ -42,11 +42,11 @@ use Rattle.tn_client.proofs.lemmas.Fitting as client_fits
 use Rattle.tn_client.proofs.lemmas.Words as client_words
 use Rattle.tn_world.specs.Past.{HasPast, engines, opening_pair, WishesNothing}
 use Rattle.tn_world.specs.Flight.{InFlight}
-use Rattle.tn_world.specs.Worlds.{World, UnlessStopped, TypesKey, SendsCommand, CallsClient, DeliversToServer, DeliversToClient, CallsServer, Pulls, TakesEntry}
+use Rattle.tn_world.specs.Worlds.{World, UnlessStopped, Types, TypesKey, EntersLine, SendsCommand, CallsClient, DeliversToServer, DeliversToClient, CallsServer, Pulls, TakesEntry}
 use Rattle.tn_world.specs.Worlds.{RunsEvent, ServerRefusesDelivery, ClientRefusesDelivery, Refuses, client_fault}
 use Rattle.tn_client.specs.declared.commands.UserCommand.{UserCommand}
 use Rattle.tn_world.specs.declared.events.Event.{Event}
-use Rattle.tn_world.specs.declared.events.Event.TheVariants.{Key, Send, ToServer, ToClient, Write, Pull, Take, Wish, Resize, SetChar, Propose, Echo, Mask}
+use Rattle.tn_world.specs.declared.events.Event.TheVariants.{Key, NewLine, Send, ToServer, ToClient, Write, Pull, Take, Wish, Resize, SetChar, Propose, Echo, Mask}
 use Rattle.tn_world.specs.declared.events.Event.TheVariants.{ServerStops, ClientStops}
 use Rattle.tn_world.specs.declared.faults.Cause.{Cause}
 use Rattle.tn_world.specs.declared.faults.Cause.TheVariants as cause
@@ -234,11 +234,10 @@ sound_as old new a b c d s =
     (subst (λ (e : client.End). Lead old.server.terms.options e.options ws vs) (sym b) (s.words p2 q2)))
     (λ p q. s.unwished (sym (ap (λ e. e.failed) a) ∙ p) (sym (ap (λ e. e.failed) b) ∙ q))
 
-pub sound_types : (old new : World) (key : ℕ) → TypesKey old key new → HasPast old → HasPast new
-sound_types old new key t s =
+pub sound_types : (old new : World) (e : client_calls.Event) (key : ℕ) → client_courses.IsCall e → Types old e key new → HasPast old → HasPast new
+sound_types old new e key call t s =
     subst (λ w. HasPast w) (sym t.step)
-    (sound_as (told old (client_calls.typed key)) _ refl refl refl refl
-    (told_sound old (client_calls.typed key) tt (propose_goes_on old.client (client_calls.typed key) t.accepted) s))
+    (sound_as (told old e) _ refl refl refl refl (told_sound old e call (propose_goes_on old.client e t.accepted) s))
 
 pub sound_sends : (old new : World) (command : UserCommand) → SendsCommand old command new → HasPast old → HasPast new
 sound_sends old new command t s =
@@ -375,7 +374,8 @@ unless true old new happens done is s = subst (λ w. HasPast w) (sym is) s
 unless false old new happens done is s = done is s
 
 pub sound_does : (old new : World) (e : Event) → RunsEvent old e new → HasPast old → HasPast new
-sound_does old new (Key key) d s = unless old.client_stopped old new (TypesKey old key new) (sound_types old new key) d s
+sound_does old new (Key key) d s = unless old.client_stopped old new (TypesKey old key new) (sound_types old new (client_calls.typed key) key tt) d s
+sound_does old new NewLine d s = unless old.client_stopped old new (EntersLine old new) (sound_types old new client_calls.entered lf tt) d s
 sound_does old new (Send command) d s = unless old.client_stopped old new (SendsCommand old command new) (sound_sends old new command) d s
 sound_does old new (ToServer n) d s = unless old.server_stopped old new (DeliversToServer old n new) (sound_reaches old new n) d s
 sound_does old new (ToClient n) d s = unless old.client_stopped old new (DeliversToClient old n new) (sound_returns old new n) d s
@@ -484,6 +484,7 @@ refusal_of old new e cause.Memory r = unchanged r.1
 refusal_of old new (ToServer n) (cause.Server fault) r = by_server n fault refl r
 refusal_of old new (ToClient n) (cause.Client fault) r = by_client n fault refl r
 refusal_of old new (Key key) (cause.Server fault) r = unchanged r.1
+refusal_of old new NewLine (cause.Server fault) r = unchanged r.1
 refusal_of old new (Send command) (cause.Server fault) r = unchanged r.1
 refusal_of old new (ToClient n) (cause.Server fault) r = unchanged r.1
 refusal_of old new (Write bytes) (cause.Server fault) r = unchanged r.1
@@ -498,6 +499,7 @@ refusal_of old new (Mask mask) (cause.Server fault) r = unchanged r.1
 refusal_of old new ServerStops (cause.Server fault) r = unchanged r.1
 refusal_of old new ClientStops (cause.Server fault) r = unchanged r.1
 refusal_of old new (Key key) (cause.Client fault) r = unchanged r.1
+refusal_of old new NewLine (cause.Client fault) r = unchanged r.1
 refusal_of old new (Send command) (cause.Client fault) r = unchanged r.1
 refusal_of old new (ToServer n) (cause.Client fault) r = unchanged r.1
 refusal_of old new (Write bytes) (cause.Client fault) r = unchanged r.1

@@ -17,7 +17,7 @@ use Rattle.tn_server.proofs.lemmas.Stopping.{has_read, many_by}
 use Rattle.tn_world.specs.Past.{HasPast}
 use Rattle.tn_world.specs.Worlds.{World, ServerRefusesDelivery, Refuses, StopsWithin, ShowsCause}
 use Rattle.tn_world.specs.declared.events.Event.{Event}
-use Rattle.tn_world.specs.declared.events.Event.TheVariants.{Key, Send, ToServer, ToClient, Write, Pull, Take, Wish, Resize, SetChar, Propose, Echo, Mask}
+use Rattle.tn_world.specs.declared.events.Event.TheVariants.{Key, NewLine, Send, ToServer, ToClient, Write, Pull, Take, Wish, Resize, SetChar, Propose, Echo, Mask}
 use Rattle.tn_world.specs.declared.events.Event.TheVariants.{ServerStops, ClientStops}
 use Rattle.tn_world.specs.declared.faults.Cause.{Cause}
 use Rattle.tn_world.specs.declared.faults.Cause.TheVariants as cause
@@ -65,6 +65,7 @@ far_behind old new n s r = go (by_test old.server.failed refl)
 far_at : (old new : World) (e : Event) → HasPast old → Refuses old e (cause.Server far) new → length new.server.terminal.entries ≡ max_waiting
 far_at old new (ToServer n) s r = far_behind old new n s r
 far_at old new (Key key) s r = absurd r.0
+far_at old new NewLine s r = absurd r.0
 far_at old new (Send command) s r = absurd r.0
 far_at old new (ToClient n) s r = absurd r.0
 far_at old new (Write bytes) s r = absurd r.0
@@ -110,6 +111,7 @@ shut_mask false f = cc
 shut_at : (old new : World) (e : Event) → HasPast old → Refuses old e (cause.Server (Pty pty.Closed)) new → ⊥
 shut_at old new (ToServer n) s r = never_shut old new n s r
 shut_at old new (Key key) s r = r.0
+shut_at old new NewLine s r = r.0
 shut_at old new (Send command) s r = r.0
 shut_at old new (ToClient n) s r = r.0
 shut_at old new (Write bytes) s r = r.0

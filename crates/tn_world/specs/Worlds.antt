@@ -6,7 +6,7 @@ use Rattle.tn_discipline.specs.Canon.{Canon}
 use Rattle.tn_discipline.specs.declared.reads.Entry.{Entry}
 use Rattle.tn_pty.specs.Terminal.{max_waiting}
 use Rattle.tn_pty.specs.declared.pty.PtyFault.TheVariants.{Closed, TooFarAhead}
-use Rattle.tn_nvt.specs.Spelling.{spells}
+use Rattle.tn_nvt.specs.Spelling.{spells, lf}
 use Rattle.tn_server.specs.Events as server_calls
 use Rattle.tn_server.specs.Faults as faults
 use Rattle.tn_server.specs.Faults.{IsOfItem, IsOfPiece}
@@ -18,13 +18,13 @@ use Rattle.tn_server.specs.declared.faults.ServerFault.TheVariants as server_fau
 use Rattle.tn_client.specs.Events as client_calls
 use Rattle.tn_client.specs.Answering as client_answers
 use Rattle.tn_client.specs.Calls as client
-use Rattle.tn_client.specs.Steps.{end_after_key, says_key, shows_key, end_after, says, SaysOrShows}
+use Rattle.tn_client.specs.Steps.{end_after, says, displays, SaysOrShows}
 use Rattle.tn_client.specs.declared.commands.UserCommand.{UserCommand}
 use Rattle.tn_client.specs.declared.faults.ClientFault.{ClientFault}
 use Rattle.tn_client.specs.declared.faults.ClientFault.TheVariants as client_faults
 use Rattle.tn_world.specs.Commands.{key_for}
 use Rattle.tn_world.specs.declared.events.Event.{Event}
-use Rattle.tn_world.specs.declared.events.Event.TheVariants.{Key, Send, ToServer, ToClient, Write, Pull, Take}
+use Rattle.tn_world.specs.declared.events.Event.TheVariants.{Key, NewLine, Send, ToServer, ToClient, Write, Pull, Take}
 use Rattle.tn_world.specs.declared.events.Event.TheVariants.{Wish, Resize, SetChar, Propose, Echo, Mask}
 use Rattle.tn_world.specs.declared.events.Event.TheVariants.{ServerStops, ClientStops}
 use Rattle.tn_world.specs.declared.faults.Cause.{Cause}
@@ -66,16 +66,23 @@ abbrev pub UnlessStopped : Bool → World → World → Type 0 → Type 0
 UnlessStopped true old new happens = new ≡ old
 UnlessStopped false old new happens = happens
 
--- A key is typed: the client goes one step, and what it says joins the flight.
-pub record TypesKey (old : World) (key : ℕ) (new : World) : Type 0 where
-  pub accepted : client_fault old.client (client_calls.typed key) ≡ None
+-- Something is typed that counts as this key: the client goes one step, and what it says joins the flight.
+pub record Types (old : World) (e : client_calls.Event) (key : ℕ) (new : World) : Type 0 where
+  pub accepted : client_fault old.client e ≡ None
   pub step : new
       ≡ record old {
-        client = end_after_key old.client key;
-        to_server = old.to_server ++ spells (says_key old.client key);
-        echoed = old.echoed ++ shows_key old.client key;
+        client = end_after old.client e;
+        to_server = old.to_server ++ spells (says old.client e);
+        echoed = old.echoed ++ displays old.client e;
         typed = old.typed ++ key ∷ [];
       }
+
+abbrev pub TypesKey : World → ℕ → World → Type 0
+TypesKey old key new = Types old (client_calls.typed key) key new
+
+-- a new line counts as the key LF
+abbrev pub EntersLine : World → World → Type 0
+EntersLine old new = Types old client_calls.entered lf new
 
 -- the key that a command stands for at the server's terminal now
 abbrev pub key_sent : World → UserCommand → Option ℕ
@@ -145,6 +152,7 @@ TakesEntry old new =
 -- the event is done
 abbrev pub RunsEvent : World → Event → World → Type 0
 RunsEvent old (Key key) new = UnlessStopped old.client_stopped old new (TypesKey old key new)
+RunsEvent old NewLine new = UnlessStopped old.client_stopped old new (EntersLine old new)
 RunsEvent old (Send command) new =
     UnlessStopped old.client_stopped old new (SendsCommand old command new)
 RunsEvent old (ToServer n) new = UnlessStopped old.server_stopped old new (DeliversToServer old n new)
@@ -229,6 +237,8 @@ ServerRefusesEvent w e fault = ⊥
 abbrev pub ClientRefusesEvent : World → Event → ClientFault → Type 0
 ClientRefusesEvent w (Key key) fault =
     IsFalse w.client_stopped × ClientRefusesCall w.client (client_calls.typed key) fault
+ClientRefusesEvent w NewLine fault =
+    IsFalse w.client_stopped × ClientRefusesCall w.client client_calls.entered fault
 ClientRefusesEvent w (Send command) fault =
     IsFalse w.client_stopped × ClientRefusesCall w.client (client_calls.sent command) fault
 ClientRefusesEvent w (Resize width height) fault =
@@ -241,6 +251,7 @@ ClientRefusesEvent w e fault = ⊥
 -- is cut, for an entry that waits to be taken
 abbrev pub WantsMemory : World → Event → Type 0
 WantsMemory w (Key key) = IsFalse w.client_stopped
+WantsMemory w NewLine = IsFalse w.client_stopped
 WantsMemory w (Send command) = IsFalse w.client_stopped × (key_sent w command ≢ None)
 WantsMemory w (ToServer n) = IsFalse w.server_stopped × (n < length w.to_server)
 WantsMemory w (ToClient n) = IsFalse w.client_stopped × (n < length w.to_client)

@@ -10,6 +10,8 @@ use tn_server::Editing;
 pub enum Event {
     /// The user types this key at the client.
     Key(u8),
+    /// The user enters a new line at the client, which counts as the key LF.
+    NewLine,
     /// The user sends this command, which counts as the key that it stands for at the server's terminal.
     Send(UserCommand),
     /// The first bytes in flight to the server arrive, or all where there are fewer.

@@ -54,6 +54,7 @@ impl World {
     {
         match event {
             Event::Key(key) => self.key(*key),
+            Event::NewLine => self.new_line(),
             Event::Send(command) => self.send(*command),
             Event::ToServer(count) => self.reach_server(*count),
             Event::ToClient(count) => self.reach_client(*count),
@@ -90,6 +91,20 @@ impl World {
         self.typed.reserve(1)?;
         self.client.key(key, &mut self.to_server, &mut self.echoed)?;
         self.typed.push_reserved(key);
+        Ok(())
+    }
+
+    fn new_line(&mut self) -> Result<(), Cause>
+        ensures ok { OnOk result (RunsEvent self.old event.NewLine self.new) }
+        ensures err { IfErr result (λ cause. Refuses self.old event.NewLine cause self.new) }
+    {
+        if self.client_stopped {
+            return Ok(());
+        }
+        self.typed.reserve(1)?;
+        self.client
+            .new_line(&mut self.to_server, &mut self.echoed)?;
+        self.typed.push_reserved(b'\n');
         Ok(())
     }
 

@@ -7,7 +7,7 @@ use Rattle.tn_nvt.specs.Stream.{Reading}
 use Rattle.tn_nvt.specs.declared.items.Item.{Item}
 use Rattle.tn_nvt.proofs.lemmas.Reading.{one_standing, reads_none}
 use Rattle.tn_linemode.proofs.lemmas.Reading.{same_more, part_in_two}
-use Rattle.tn_client.specs.Events.{Event, typed, got, resized, proposed, sent, History, next, items, gets}
+use Rattle.tn_client.specs.Events.{Event, typed, got, resized, proposed, sent, History, next, items, gets, entered}
 use Rattle.tn_client.specs.Replies.{items_said}
 use Rattle.tn_client.specs.Screen.{text_shown}
 use Rattle.tn_client.specs.Answering.{Feeds, IsStopCause, StopsWithin}
@@ -22,6 +22,7 @@ use Rattle.tn_linemode.proofs.lemmas.Cutting.{cons_some, back_some}
 -- a call brings no item
 pub items-call : (h : History) (e : Event) → IsCall e → items (next h e) ≡ items h
 items-call h (typed key) call = refl
+items-call h entered call = refl
 items-call h (got item) call = absurd call
 items-call h (resized width height) call = refl
 items-call h (proposed func value) call = refl
@@ -80,6 +81,7 @@ fed_shown c old new piece before after seen now h k a f l m =
 -- one call more
 pub call_decoder : (old : End) (e : Event) → (end_after old e).decoder ≡ old.decoder
 call_decoder old (typed key) = refl
+call_decoder old entered = refl
 call_decoder old (got item) = refl
 call_decoder old (resized width height) = refl
 call_decoder old (proposed func value) = refl
@@ -87,6 +89,7 @@ call_decoder old (sent command) = refl
 
 pub call_failed : (old : End) (e : Event) → (end_after old e).failed ≡ old.failed
 call_failed old (typed key) = refl
+call_failed old entered = refl
 call_failed old (got item) = refl
 call_failed old (resized width height) = refl
 call_failed old (proposed func value) = refl

@@ -14,14 +14,14 @@ use Rattle.tn_discipline.specs.declared.keys.Role.TheVariants as role
 use Rattle.tn_linemode.specs.Modes.{edits, mode_answer}
 use Rattle.tn_linemode.specs.Exchange.{client_answers, client_next, client_answer}
 use Rattle.tn_linemode.specs.Triples.{triple_of}
-use Rattle.tn_nvt.specs.Spelling.{Fits}
+use Rattle.tn_nvt.specs.Spelling.{Fits, lf}
 use Rattle.tn_nvt.specs.declared.items.Item.{Item}
 use Rattle.tn_nvt.specs.declared.items.Item.TheVariants.{Byte, Newline, Cmd, Neg, Sub}
 use Rattle.tn_option.specs.Options.{Options, reply_to}
-use Rattle.tn_client.specs.Events.{History, Event, typed, got, resized, proposed, sent, begun, next}
+use Rattle.tn_client.specs.Events.{History, Event, typed, got, resized, proposed, sent, begun, next, entered}
 use Rattle.tn_client.specs.Terms.{options, mode, forward, chars, size, linemode, tells_size, options_after, payload_at, mode_at}
 use Rattle.tn_client.specs.Lines.{role_at, sends_ahead, line}
-use Rattle.tn_client.specs.Replies.{byte_items, command_of, command_items, raw_key_items, edited_key_items, sent_ahead_items, key_items, size_items}
+use Rattle.tn_client.specs.Replies.{byte_items, command_of, command_items, raw_items, edited_key_items, sent_ahead_items, typed_items, sent_as, size_items}
 use Rattle.tn_client.specs.Replies.{new_size_items, payload_answers, answer_items, end_of_edit_items, is_same_size, command_sent, replies, items_said}
 use Rattle.tn_linemode.specs.Words.{word_items}
 use Rattle.tn_linemode.proofs.lemmas.Answering.{length-answers_along}
@@ -36,16 +36,20 @@ command-fits : (c : Option Command) → Fit (command_items c)
 command-fits None = none
 command-fits (Some c) = one (Cmd c) tt
 
-raw-fits : (r : Role) (key : ℕ) → Fit (raw_key_items r key)
-raw-fits (role.Signal sig) key = command-fits (command_of (role.Signal sig))
-raw-fits role.Ignored key = one (Byte key) tt
-raw-fits role.Nl key = one (Byte key) tt
-raw-fits (role.Eol b) key = one (Byte key) tt
-raw-fits (role.Eol2 b) key = one (Byte key) tt
-raw-fits role.Eof key = one (Byte key) tt
-raw-fits role.Erase key = one (Byte key) tt
-raw-fits role.Kill key = one (Byte key) tt
-raw-fits (role.Ordinary b) key = one (Byte key) tt
+as-fits : (is_line : Bool) (key : ℕ) → Fit (sent_as is_line key ∷ [])
+as-fits true key = one Newline tt
+as-fits false key = one (Byte key) tt
+
+raw-fits : (r : Role) (is_line : Bool) (key : ℕ) → Fit (raw_items r (sent_as is_line key))
+raw-fits (role.Signal sig) is_line key = command-fits (command_of (role.Signal sig))
+raw-fits role.Ignored is_line key = as-fits is_line key
+raw-fits role.Nl is_line key = as-fits is_line key
+raw-fits (role.Eol b) is_line key = as-fits is_line key
+raw-fits (role.Eol2 b) is_line key = as-fits is_line key
+raw-fits role.Eof is_line key = as-fits is_line key
+raw-fits role.Erase is_line key = as-fits is_line key
+raw-fits role.Kill is_line key = as-fits is_line key
+raw-fits (role.Ordinary b) is_line key = as-fits is_line key
 
 edited-fits : (r : Role) (l : HalfLine) → Fit (edited_key_items r l)
 edited-fits role.Nl l = both (byte_items l.held) (Newline ∷ []) (bytes-fit l.held) (one Newline tt)
@@ -62,11 +66,12 @@ ahead-fits : (sends : Bool) (l : HalfLine) → Fit (sent_ahead_items sends l)
 ahead-fits true l = bytes-fit l.held
 ahead-fits false l = none
 
-key-fits : (edit : Bool) (forward : Option Mask) (r : Role) (l : HalfLine) (key : ℕ) → Fit (key_items edit forward r l key)
-key-fits true forward r l key =
+key-fits : (edit : Bool) (forward : Option Mask) (r : Role) (l : HalfLine) (is_line : Bool) (key : ℕ)
+    → Fit (typed_items edit forward r l (sent_as is_line key))
+key-fits true forward r l is_line key =
     let sends = sends_ahead forward l.limit (line_length l) r in
     both (edited_key_items r l) (sent_ahead_items sends (line_after l r)) (edited-fits r l) (ahead-fits sends (line_after l r))
-key-fits false forward r l key = raw-fits r key
+key-fits false forward r l is_line key = raw-fits r is_line key
 
 size-fits : (z : ℕ × ℕ) → Fit (size_items z)
 size-fits (width, height) = one (Sub 31 (parameters_of (payload.Naws width height))) (omega arith)
@@ -99,7 +104,8 @@ ending-fits false after bs = none
 
 -- What is said at an event fits.
 pub replies-fit : (h : History) (e : Event) → All Fits (replies h e)
-replies-fit h (typed key) = key-fits (edits (mode h)) (forward h) (role_at h key) (line h) key
+replies-fit h (typed key) = key-fits (edits (mode h)) (forward h) (role_at h key) (line h) false key
+replies-fit h entered = key-fits (edits (mode h)) (forward h) (role_at h lf) (line h) true lf
 replies-fit h (got item) =
     both (end_of_edit_items (edits (mode h)) (edits (mode_at (options h) (mode h) item)) (line h).held)
     (answer_items (options h) (mode h) (chars h) (size h) item)

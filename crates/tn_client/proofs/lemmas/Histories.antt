@@ -14,7 +14,8 @@ use Rattle.tn_linemode.specs.Modes.{edits, traps, mode_of, is_acknowledged}
 use Rattle.tn_nvt.specs.declared.items.Item.{Item}
 use Rattle.tn_nvt.specs.declared.items.Item.TheVariants.{Byte, Newline, Cmd, Neg, Sub}
 use Rattle.tn_option.specs.Options.{Options, options_after_word}
-use Rattle.tn_client.specs.Events.{History, begun, next, typed, got, resized, proposed, sent, items, keys, gets}
+use Rattle.tn_nvt.specs.Spelling.{lf}
+use Rattle.tn_client.specs.Events.{History, begun, next, typed, got, resized, proposed, sent, items, keys, gets, entered}
 use Rattle.tn_client.specs.Terms.{options, mode, forward, chars, linemode, payload_at, changes, mode_by, mode_at, forward_by}
 use Rattle.tn_linemode.specs.Words.{payload_under, differ}
 use Rattle.tn_client.specs.Lines.{settings_by, role_at, role_under, isig_told, roles_under, line_limit, edited_roles, half_line, is_sent_ahead, lengths_with}
@@ -48,6 +49,7 @@ kept_or_none false false n ns e = refl
 unsent : (h : History) → edits (mode h) ≡ false → lengths_since_sent h ≡ []
 unsent (begun width height limit) e = refl
 unsent (next h (typed key)) e = some_or_none (edits (mode h)) _ e
+unsent (next h entered) e = some_or_none (edits (mode h)) _ e
 unsent (next h (got item)) e = kept_or_none (edits (mode h)) (edits (mode (next h (got item)))) _ (lengths_since_sent h) e
 unsent (next h (resized width height)) e = unsent h e
 unsent (next h (proposed func value)) e = unsent h e
@@ -83,6 +85,9 @@ same_roles a b (begun width height limit) e = refl
 same_roles a b (next h (typed key)) e =
     ap (λ (rs : List Role). rs ++ roles_from (role_under a h key)) (same_roles a b h e)
     ∙ ap (λ (r : Role). roles_under b h ++ roles_from r) (role_same a h key e ∙ sym (role_same b h key e))
+same_roles a b (next h entered) e =
+    ap (λ (rs : List Role). rs ++ roles_from (role_under a h lf)) (same_roles a b h e)
+    ∙ ap (λ (r : Role). roles_under b h ++ roles_from r) (role_same a h lf e ∙ sym (role_same b h lf e))
 same_roles a b (next h (got item)) e = by_test (edits (mode h)) refl (λ f. same_roles a b h f)
   where
     by_test : (edit : Bool) → edits (mode h) ≡ edit → (edits (mode h) ≡ true → roles_under a h ≡ roles_under b h)
@@ -147,10 +152,9 @@ pub count-is : (isig : Bool) (h : History) → edits (mode h) ≡ false → coun
 count-is isig h e = ap (λ (b : Bool). if b then 0 else length (half_of (line_limit h) (roles_under isig h))) e
 
 -- HOW MUCH IS AHEAD
--- with EDIT the line has had a length since
-pub some_lengths : (h : History) → edits (mode h) ≡ true → (n : ℕ) × (ns : List ℕ) × (lengths_since_sent h ≡ n ∷ ns)
-some_lengths (begun width height limit) e = absurd (cc)
-some_lengths (next h (typed key)) e =
+-- after a key with EDIT the line has had a length since
+lengths_typed : (h : History) (key : ℕ) → edits (mode h) ≡ true → (m : ℕ) × (ms : List ℕ) × (lengths_since_sent (next h (typed key)) ≡ m ∷ ms)
+lengths_typed h key e =
     let n = length (half_line (next h (typed key))) in
     let is : lengths_since_sent (next h (typed key)) ≡ lengths_with (is_sent_ahead h key) n (lengths_since_sent h) =
     ap (λ (b : Bool). if b then lengths_with (is_sent_ahead h key) n (lengths_since_sent h) else []) e in
@@ -160,6 +164,11 @@ some_lengths (next h (typed key)) e =
         × (lengths_since_sent (next h (typed key)) ≡ m ∷ ms)
     by_test true n ns is = (n, [], is)
     by_test false n ns is = (n, ns, is)
+
+pub some_lengths : (h : History) → edits (mode h) ≡ true → (n : ℕ) × (ns : List ℕ) × (lengths_since_sent h ≡ n ∷ ns)
+some_lengths (begun width height limit) e = absurd (cc)
+some_lengths (next h (typed key)) e = lengths_typed h key e
+some_lengths (next h entered) e = lengths_typed h lf e
 some_lengths (next h (got item)) e = by_test (edits (mode h)) refl (length (half_line (next h (got item)))) (λ f. some_lengths h f)
   where
     by_test : (edit : Bool) → edits (mode h) ≡ edit → (n : ℕ) → (edits (mode h) ≡ true → (m : ℕ) × (ms : List ℕ) × (lengths_since_sent h ≡ m ∷ ms)) → (m : ℕ)
@@ -224,6 +233,7 @@ typed-within false b n ns = omega arith
 pub ahead-within : (h : History) → ahead h ≤ length (half_line h)
 ahead-within (begun width height limit) = omega arith
 ahead-within (next h (typed key)) = typed-within (edits (mode h)) (is_sent_ahead h key) (length (half_line (next h (typed key)))) (lengths_since_sent h)
+ahead-within (next h entered) = typed-within (edits (mode h)) (is_sent_ahead h lf) (length (half_line (next h entered))) (lengths_since_sent h)
 ahead-within (next h (got item)) = by_test (edits (mode h)) (edits (mode (next h (got item)))) refl refl (ahead-within h)
   where
     by_test : (edit after : Bool) → edits (mode h) ≡ edit → edits (mode (next h (got item))) ≡ after → ahead h ≤ length (half_line h)
@@ -261,6 +271,7 @@ changed_or_none false false m f e = f refl
 pub mode-off : (h : History) → linemode (options h) ≡ false → mode h ≡ 0
 mode-off (begun width height limit) e = refl
 mode-off (next h (typed key)) e = mode-off h e
+mode-off (next h entered) e = mode-off h e
 mode-off (next h (got (Byte byte))) e = mode-off h e
 mode-off (next h (got Newline)) e = mode-off h e
 mode-off (next h (got (Cmd command))) e = mode-off h e
@@ -281,6 +292,7 @@ changed_or_dropped false false f g e = g refl
 pub forward-off : (h : History) → linemode (options h) ≡ false → forward h ≡ None
 forward-off (begun width height limit) e = refl
 forward-off (next h (typed key)) e = forward-off h e
+forward-off (next h entered) e = forward-off h e
 forward-off (next h (got (Byte byte))) e = forward-off h e
 forward-off (next h (got Newline)) e = forward-off h e
 forward-off (next h (got (Cmd command))) e = forward-off h e
@@ -330,6 +342,7 @@ mode_at-small o m (Sub option params) h = mode_by-small m (payload_at o (Sub opt
 pub mode-small : (h : History) → mode h < 4
 mode-small (begun width height limit) = omega arith
 mode-small (next h (typed key)) = mode-small h
+mode-small (next h entered) = mode-small h
 mode-small (next h (got item)) = mode_at-small (options h) (mode h) item (mode-small h)
 mode-small (next h (resized width height)) = mode-small h
 mode-small (next h (proposed func value)) = mode-small h

@@ -7,9 +7,9 @@ use Rattle.tn_nvt.specs.Spelling.{spells}
 use Rattle.tn_nvt.specs.declared.items.Item.{Item}
 use Rattle.tn_client.specs.Calls.{End}
 use Rattle.tn_client.specs.Lines.{key_settings}
-use Rattle.tn_client.specs.Replies.{key_items}
+use Rattle.tn_client.specs.Replies.{typed_items}
 use Rattle.tn_client.specs.Screen.{key_shown}
-use Rattle.tn_client.specs.Steps.{role_now, line_typed, count_typed, end_after_key, says_key, shows_key, LacksMemoryFor}
+use Rattle.tn_client.specs.Steps.{role_now, line_typed, count_typed, end_after_key, says_typed, shows_key, LacksMemoryBy}
 use Rattle.tn_client.specs.Terms.{is_echoed}
 use Rattle.tn_client.specs.declared.faults.ClientFault.{ClientFault}
 use Rattle.tn_client.specs.declared.faults.ClientFault.TheVariants.{Memory}
@@ -23,8 +23,8 @@ end_by edit old key =
       plain = count_typed edit false old old.plain key;
     }
 
-abbrev pub says_by : Bool → End → ℕ → List Item
-says_by edit old key = key_items edit old.forward (role_now old key) old.line key
+abbrev pub says_by : Bool → End → ℕ → Item → List Item
+says_by edit old key item = typed_items edit old.forward (role_now old key) old.line item
 
 abbrev pub shows_by : Bool → End → ℕ → List ℕ
 shows_by edit old key = key_shown (is_echoed old.options) edit (key_settings old.mode old.table) (role_now old key) old.line key
@@ -41,10 +41,10 @@ module _ {A E T : Type 0} (edit : Bool) (typed : Result A E) (answer : Result T 
   pub key_step : (new : End) → OnOk typed (new ≡ end_by edit old key) → OnOk answer (new ≡ end_after_key old key)
   key_step new is = done typed answer none is (subst (λ (b : Bool). new ≡ end_by b old key) (sym by))
 
-  pub key_said : (before said after : List ℕ) → OnOk typed (after ≡ said) → OnOk typed (said ≡ before ++ spells (says_by edit old key))
-      → OnOk answer (after ≡ before ++ spells (says_key old key))
-  key_said before said after same is =
-      done typed answer none (both _ _ typed same is) (λ p. p.0 ∙ subst (λ (b : Bool). said ≡ before ++ spells (says_by b old key)) (sym by) p.1)
+  pub key_said : (item : Item) (before said after : List ℕ) → OnOk typed (after ≡ said) → OnOk typed (said ≡ before ++ spells (says_by edit old key item))
+      → OnOk answer (after ≡ before ++ spells (says_typed old key item))
+  key_said item before said after same is =
+      done typed answer none (both _ _ typed same is) (λ p. p.0 ∙ subst (λ (b : Bool). said ≡ before ++ spells (says_by b old key item)) (sym by) p.1)
     where
       both : (P Q : Type 0) (r : Result A E) → OnOk r P → OnOk r Q → OnOk r (P × Q)
       both P Q (Ok x) p q = (p, q)
@@ -54,18 +54,18 @@ module _ {A E T : Type 0} (edit : Bool) (typed : Result A E) (answer : Result T 
   key_shown_by seen now is = done typed answer none is (subst (λ (b : Bool). now ≡ seen ++ shows_by b old key) (sym by))
 
 -- what a key lacks that is edited here
-pub edited_lacks : {A E T Y Z : Type 0} (typed : Result A E) (answer : Result T ClientFault) (old : End) (key : ℕ) (out : Vec ℕ Y) (screen : Vec ℕ Z)
-    → edits old.mode ≡ true → OnOk typed (IsOk answer) → OnErr typed (LacksRoom out (length (spells (says_by true old key)))
+pub edited_lacks : {A E T Y Z : Type 0} (typed : Result A E) (answer : Result T ClientFault) (old : End) (key : ℕ) (item : Item) (out : Vec ℕ Y) (screen : Vec ℕ Z)
+    → edits old.mode ≡ true → OnOk typed (IsOk answer) → OnErr typed (LacksRoom out (length (spells (says_by true old key item)))
     ⊎ (LacksRoom screen (length (shows_by true old key)) ⊎ GivesText old.line (role_now old key))) → IsErrOf answer Memory
-    → LacksMemoryFor old key out screen
-edited_lacks (Ok x) answer old key out screen by done lacks is = cc
-edited_lacks (Err e) answer old key out screen by done lacks is = subst Lacks (sym by) (there lacks)
+    → LacksMemoryBy old key item out screen
+edited_lacks (Ok x) answer old key item out screen by done lacks is = cc
+edited_lacks (Err e) answer old key item out screen by done lacks is = subst Lacks (sym by) (there lacks)
   where
     Lacks : Bool → Type 0
-    Lacks edit = LacksRoom out (length (spells (says_by edit old key)))
+    Lacks edit = LacksRoom out (length (spells (says_by edit old key item)))
         ⊎ (LacksRoom screen (length (shows_by edit old key)) ⊎ ((edit ≡ true) × GivesText old.line (role_now old key)))
 
-    there : LacksRoom out (length (spells (says_by true old key)))
+    there : LacksRoom out (length (spells (says_by true old key item)))
         ⊎ (LacksRoom screen (length (shows_by true old key)) ⊎ GivesText old.line (role_now old key)) → Lacks true
     there (inl said) = inl said
     there (inr (inl shown)) = inr (inl shown)

@@ -12,18 +12,20 @@ use Rattle.tn_discipline.specs.declared.keys.Role.{Role}
 use Rattle.tn_discipline.proofs.lemmas.Lines.{advances, released_keeps, resumed_leads, after_least, length_at, count_at, count_more}
 use Rattle.tn_linemode.specs.Modes.{edits, traps}
 use Rattle.tn_nvt.specs.declared.items.Item.{Item}
+use Rattle.tn_nvt.specs.declared.items.Item.TheVariants.{Byte, Newline}
 use Rattle.tn_option.specs.Options.{Options}
 use Rattle.tn_nvt.specs.Feeding.{DecoderState}
 use Rattle.tn_client.specs.Answering.{Feeds}
-use Rattle.tn_client.specs.Events.{Event, typed, got, resized, proposed, sent, History, next, gets}
+use Rattle.tn_nvt.specs.Spelling.{lf}
+use Rattle.tn_client.specs.Events.{Event, typed, got, resized, proposed, sent, History, next, gets, entered}
 use Rattle.tn_client.specs.Terms.{options, mode, forward, chars, size, options_after, mode_at, forward_at, chars_by, payload_at, is_echoed, tells_size}
 use Rattle.tn_client.specs.Lines.{settings_by, key_settings, role_of_typed, role_at, roles_under, edited_roles, line_limit, half_line, sends_ahead}
 use Rattle.tn_client.specs.Lines.{is_sent_ahead, ahead, count_under, line}
-use Rattle.tn_client.specs.Replies.{replies, key_items, item_replies, resize_items, items_said}
+use Rattle.tn_client.specs.Replies.{replies, typed_items, item_replies, resize_items, items_said}
 use Rattle.tn_client.specs.Screen.{shows, key_shown, item_shown, text_shown}
 use Rattle.tn_linemode.proofs.lemmas.Folding as folding
 use Rattle.tn_client.specs.Calls.{End, LeadsTo}
-use Rattle.tn_client.specs.Steps.{role_now, is_sent_now, line_sent, line_typed, count_typed, end_after_key, says_key, shows_key, line_left}
+use Rattle.tn_client.specs.Steps.{role_now, is_sent_now, line_sent, line_typed, count_typed, end_after_key, says_typed, shows_key, line_left}
 use Rattle.tn_client.specs.Steps.{count_left, count_told, end_after_item, says_got, end_after, says, displays, end_after_items, says_items, items_shown}
 use Rattle.tn_client.proofs.lemmas.Histories.{unedited, unedited-ahead, edited-typed, edited-stays, edited-begins, under-typed, under-ends, under-stays}
 use Rattle.tn_client.proofs.lemmas.Histories.{count-none, count-is, ahead-typed, ahead-stays, ahead-begins}
@@ -132,12 +134,29 @@ stands_typed h old key s =
       size = s.size;
     }
 
-pub replies_typed : (h : History) (old : End) (key : ℕ) → LeadsTo h old → replies h (typed key) ≡ says_key old key
-replies_typed h old key s =
-    ap (λ (b : Bool). key_items b (forward h) (role_at h key) (line h) key) (sym (ap edits s.mode))
-    ∙ ap (λ (f : Option Mask). key_items (edits old.mode) f (role_at h key) (line h) key) (sym s.forward)
-    ∙ ap (λ (r : Role). key_items (edits old.mode) old.forward r (line h) key) (sym (role_is h old key s))
-    ∙ ap (λ (l : HalfLine). key_items (edits old.mode) old.forward (role_now old key) l key) (sym (line_is h old s))
+stands_entered : (h : History) (old : End) → LeadsTo h old → LeadsTo (next h entered) (end_after_key old lf)
+stands_entered h old s =
+    let after = stands_typed h old lf s in
+    record {
+      options = after.options;
+      mode = after.mode;
+      forward = after.forward;
+      table = after.table;
+      line = after.line;
+      ahead = after.ahead;
+      limit = after.limit;
+      trapped = after.trapped;
+      plain = after.plain;
+      size = after.size;
+    }
+
+pub replies_typed : (h : History) (old : End) (key : ℕ) (item : Item) → LeadsTo h old
+    → typed_items (edits (mode h)) (forward h) (role_at h key) (line h) item ≡ says_typed old key item
+replies_typed h old key item s =
+    ap (λ (b : Bool). typed_items b (forward h) (role_at h key) (line h) item) (sym (ap edits s.mode))
+    ∙ ap (λ (f : Option Mask). typed_items (edits old.mode) f (role_at h key) (line h) item) (sym s.forward)
+    ∙ ap (λ (r : Role). typed_items (edits old.mode) old.forward r (line h) item) (sym (role_is h old key s))
+    ∙ ap (λ (l : HalfLine). typed_items (edits old.mode) old.forward (role_now old key) l item) (sym (line_is h old s))
 
 pub shows_typed : (h : History) (old : End) (key : ℕ) → LeadsTo h old → shows h (typed key) ≡ shows_key old key
 shows_typed h old key s =
@@ -247,6 +266,7 @@ same_size h old width height s =
 
 pub stands : (h : History) (old : End) (e : Event) → LeadsTo h old → LeadsTo (next h e) (end_after old e)
 stands h old (typed key) s = stands_typed h old key s
+stands h old entered s = stands_entered h old s
 stands h old (got item) s = stands_got h old item s
 stands h old (resized width height) s =
     record {
@@ -289,7 +309,8 @@ stands h old (sent command) s =
     }
 
 pub says_as : (h : History) (old : End) (e : Event) → LeadsTo h old → replies h e ≡ says old e
-says_as h old (typed key) s = replies_typed h old key s
+says_as h old (typed key) s = replies_typed h old key (Byte key) s
+says_as h old entered s = replies_typed h old lf Newline s
 says_as h old (got item) s = replies_got h old item s
 says_as h old (resized width height) s = same_size h old width height s
 says_as h old (proposed func value) s = refl
@@ -297,6 +318,7 @@ says_as h old (sent command) s = refl
 
 pub displays_as : (h : History) (old : End) (e : Event) → LeadsTo h old → shows h e ≡ displays old e
 displays_as h old (typed key) s = shows_typed h old key s
+displays_as h old entered s = shows_typed h old lf s
 displays_as h old (got item) s = refl
 displays_as h old (resized width height) s = refl
 displays_as h old (proposed func value) s = refl

@@ -1,5 +1,5 @@
 -- What lacks memory says or shows something.
-use Rattle.std.proofs.Common.{◌≡◌, ◌≢◌, inl, inr, ℕ, Bool, true, false, Option, List, [], ◌∷◌, ◌++◌, Vec, sym, subst, if◌then◌else◌}
+use Rattle.std.proofs.Common.{◌≡◌, ◌≢◌, ◌⊎◌, inl, inr, ℕ, Bool, true, false, Option, List, [], ◌∷◌, ◌++◌, Vec, sym, subst, if◌then◌else◌}
 use Rattle.tn_codes.specs.declared.codes.Command.TheVariants as command
 use Rattle.tn_codes.specs.declared.masks.Mask.{Mask}
 use Rattle.tn_discipline.specs.HalfLine.{HalfLine, is_full, has_held, has_ahead, GivesText}
@@ -9,12 +9,13 @@ use Rattle.tn_discipline.specs.declared.keys.Role.TheVariants as role
 use Rattle.tn_discipline.specs.declared.reads.Entry.TheVariants as entry
 use Rattle.tn_linemode.proofs.lemmas.Cutting.{cons_some}
 use Rattle.tn_nvt.proofs.lemmas.Lacking.{lacks_bytes, lacks_items}
+use Rattle.tn_nvt.specs.Spelling.{lf}
 use Rattle.tn_nvt.specs.declared.items.Item.{Item}
 use Rattle.tn_nvt.specs.declared.items.Item.TheVariants.{Byte, Newline, Cmd}
 use Rattle.tn_client.specs.Calls.{End}
-use Rattle.tn_client.specs.Events.{Event, typed}
-use Rattle.tn_client.specs.Replies.{byte_items, edit_items, key_items}
-use Rattle.tn_client.specs.Steps.{role_now, says_key, shows_key, says, LacksMemoryFor, LacksRoomFor, SaysOrShows}
+use Rattle.tn_client.specs.Events.{Event, typed, entered}
+use Rattle.tn_client.specs.Replies.{byte_items, edit_items, typed_items}
+use Rattle.tn_client.specs.Steps.{role_now, says_typed, shows_key, says, LacksMemoryFor, LacksMemoryToEnter, LacksMemoryBy, LacksRoomFor, SaysOrShows}
 
 pub says_something : {Z : Type 0} (old : End) (e : Event) (out : Vec ℕ Z) → LacksRoomFor old e out → says old e ≢ []
 says_something old e out lacks = lacks_items out (says old e) lacks
@@ -45,10 +46,17 @@ text_sent f l role.Kill (bytes, e) = absurd (cc)
 text_sent f l (role.Signal sig) (bytes, e) = absurd (cc)
 text_sent f l role.Ignored (bytes, e) = absurd (cc)
 
+says_or_shows_as : {Y Z : Type 0} (old : End) (key : ℕ) (item : Item) (out : Vec ℕ Y) (screen : Vec ℕ Z) → LacksMemoryBy old key item out screen
+    → (says_typed old key item ≢ []) ⊎ (shows_key old key ≢ [])
+says_or_shows_as old key item out screen (inl said) = inl (lacks_items out (says_typed old key item) said)
+says_or_shows_as old key item out screen (inr (inl shown)) = inr (lacks_bytes screen (shows_key old key) shown)
+says_or_shows_as old key item out screen (inr (inr text)) =
+    inl (subst (λ (b : Bool). typed_items b old.forward (role_now old key) old.line item ≢ []) (sym text.0)
+    (text_sent old.forward old.line (role_now old key) text.1))
+
 pub says_or_shows : {Y Z : Type 0} (old : End) (key : ℕ) (out : Vec ℕ Y) (screen : Vec ℕ Z) → LacksMemoryFor old key out screen
     → SaysOrShows old (typed key)
-says_or_shows old key out screen (inl said) = inl (lacks_items out (says_key old key) said)
-says_or_shows old key out screen (inr (inl shown)) = inr (lacks_bytes screen (shows_key old key) shown)
-says_or_shows old key out screen (inr (inr text)) =
-    inl (subst (λ (b : Bool). key_items b old.forward (role_now old key) old.line key ≢ []) (sym text.0)
-    (text_sent old.forward old.line (role_now old key) text.1))
+says_or_shows old key out screen lacks = says_or_shows_as old key (Byte key) out screen lacks
+
+pub enters_or_shows : {Y Z : Type 0} (old : End) (out : Vec ℕ Y) (screen : Vec ℕ Z) → LacksMemoryToEnter old out screen → SaysOrShows old entered
+enters_or_shows old out screen lacks = says_or_shows_as old lf Newline out screen lacks

@@ -25,9 +25,10 @@ use Rattle.tn_linemode.specs.Words.{word_items}
 use Rattle.tn_client.specs.Answering.{Feeds}
 use Rattle.tn_client.specs.Calls.{End, LeadsTo}
 use Rattle.tn_client.specs.Course.{IsCall}
-use Rattle.tn_client.specs.Events.{Event, History, next, typed, got, resized, proposed, sent, gets}
+use Rattle.tn_nvt.specs.Spelling.{lf}
+use Rattle.tn_client.specs.Events.{Event, History, next, typed, got, resized, proposed, sent, gets, entered}
 use Rattle.tn_client.specs.Lines.{role_at, sends_ahead, line}
-use Rattle.tn_client.specs.Replies.{byte_items, command_of, command_items, raw_key_items, edited_key_items, sent_ahead_items, key_items, size_items}
+use Rattle.tn_client.specs.Replies.{byte_items, command_of, command_items, raw_items, edited_key_items, sent_ahead_items, typed_items, sent_as, size_items}
 use Rattle.tn_client.specs.Replies.{new_size_items, payload_answers, answer_items, end_of_edit_items, is_same_size, replies, items_said}
 use Rattle.tn_client.specs.Steps.{end_after, says, says_items}
 use Rattle.tn_client.specs.Terms.{options, mode, forward, chars, size, tells_size, payload_at, options_after, mode_at}
@@ -70,26 +71,31 @@ edited_none role.Kill l = if_none (has_ahead l) (command_items (command_of role.
 edited_none role.Ignored l = refl
 edited_none (role.Ordinary b) l = refl
 
-raw_none : (r : Role) (key : ℕ) → words_in (raw_key_items r key) ≡ []
-raw_none (role.Signal sig) key = command_none (command_of (role.Signal sig))
-raw_none role.Nl key = refl
-raw_none (role.Eol b) key = refl
-raw_none (role.Eol2 b) key = refl
-raw_none role.Eof key = refl
-raw_none role.Erase key = refl
-raw_none role.Kill key = refl
-raw_none role.Ignored key = refl
-raw_none (role.Ordinary b) key = refl
+as_none : (is_line : Bool) (key : ℕ) → words_in (sent_as is_line key ∷ []) ≡ []
+as_none true key = refl
+as_none false key = refl
+
+raw_none : (r : Role) (is_line : Bool) (key : ℕ) → words_in (raw_items r (sent_as is_line key)) ≡ []
+raw_none (role.Signal sig) is_line key = command_none (command_of (role.Signal sig))
+raw_none role.Ignored is_line key = as_none is_line key
+raw_none role.Nl is_line key = as_none is_line key
+raw_none (role.Eol b) is_line key = as_none is_line key
+raw_none (role.Eol2 b) is_line key = as_none is_line key
+raw_none role.Eof is_line key = as_none is_line key
+raw_none role.Erase is_line key = as_none is_line key
+raw_none role.Kill is_line key = as_none is_line key
+raw_none (role.Ordinary b) is_line key = as_none is_line key
 
 ahead_none : (sends : Bool) (l : HalfLine) → words_in (sent_ahead_items sends l) ≡ []
 ahead_none true l = bytes_none l.held
 ahead_none false l = refl
 
-key_none : (edit : Bool) (forward : Option Mask) (r : Role) (l : HalfLine) (key : ℕ) → words_in (key_items edit forward r l key) ≡ []
-key_none true forward r l key =
+key_none : (edit : Bool) (forward : Option Mask) (r : Role) (l : HalfLine) (is_line : Bool) (key : ℕ)
+    → words_in (typed_items edit forward r l (sent_as is_line key)) ≡ []
+key_none true forward r l is_line key =
     let sends = sends_ahead forward l.limit (line_length l) r in
     none_first (edited_key_items r l) (sent_ahead_items sends (line_after l r)) (edited_none r l) ∙ ahead_none sends (line_after l r)
-key_none false forward r l key = raw_none r key
+key_none false forward r l is_line key = raw_none r is_line key
 
 payload_none : (m : ℕ) (c : Characters) (p : Option Payload) → words_in (payload_answers m c p) ≡ []
 payload_none m c None = refl
@@ -165,7 +171,8 @@ gets_moves h (item ∷ items) here ws vs =
 
 -- CALLS of the owner say no word, and leave the options
 call_none : (h : History) (e : Event) → IsCall e → words_in (replies h e) ≡ []
-call_none h (typed key) is = key_none (edits (mode h)) (forward h) (role_at h key) (line h) key
+call_none h (typed key) is = key_none (edits (mode h)) (forward h) (role_at h key) (line h) false key
+call_none h entered is = key_none (edits (mode h)) (forward h) (role_at h lf) (line h) true lf
 call_none h (got item) is = absurd is
 call_none h (resized width height) is = if_none (tells_size (options h) && not (is_same_size (size h) (width, height))) (size_items (width, height)) refl
 call_none h (proposed func value) is = words_in-list (triple_of func value ∷ [])
@@ -190,6 +197,7 @@ says_none h old e call s = ap words_in (sym (says_as h old e s)) ∙ call_none h
 
 pub keeps_options : (old : End) (e : Event) → IsCall e → (end_after old e).options ≡ old.options
 keeps_options old (typed key) is = refl
+keeps_options old entered is = refl
 keeps_options old (got item) is = absurd is
 keeps_options old (resized width height) is = refl
 keeps_options old (proposed func value) is = refl

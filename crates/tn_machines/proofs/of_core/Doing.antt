@@ -1,14 +1,14 @@
 -- What one message does.
-use Rattle.std.proofs.Common.{◌≡◌, ◌<◌, All, ℕ, Bool, true, false, if◌then◌else◌, Some, None, Result, Ok, Err, OnOk, OnErr, List, [], ◌++◌, refl, sym, ap}
+use Rattle.std.proofs.Common.{◌≡◌, ◌<◌, All, ℕ, Bool, true, false, if◌then◌else◌, Option, Some, None, Result, Ok, Err, OnOk, OnErr, List, [], ◌++◌, refl, sym, ap}
 use Rattle.std.proofs.Common.{◌∙◌, subst, append-nil, append_assoc}
 use Rattle.std.proofs.lemmas.List.Elements.{All-append, All-nil}
 use Rattle.tn_client.proofs.lemmas.Gathering.{says_both, shown_both}
-use Rattle.tn_client.proofs.lemmas.Standings.{stands, says_as, says_all, shows_all, stands_fed, fed_failed}
+use Rattle.tn_client.proofs.lemmas.Standings.{stands, says_as, displays_as, says_all, shows_all, stands_fed, fed_failed}
 use Rattle.tn_client.proofs.lemmas.Courses.{items-call, call_decoder, call_failed}
 use Rattle.tn_client.proofs.lemmas.Histories.{items-gets}
 use Rattle.tn_client.proofs.lemmas.Stopping.{front_said}
 use Rattle.tn_client.specs.Course.{IsCall}
-use Rattle.tn_client.specs.Steps.{end_after, says, end_after_items, says_items, items_shown}
+use Rattle.tn_client.specs.Steps.{end_after, says, displays, end_after_items, says_items, items_shown}
 use Rattle.tn_client.specs.Answering.{Untouched}
 use Rattle.tn_client.specs.Answering as answers
 use Rattle.tn_client.specs.Calls.{End, IsFault, call_fault}
@@ -17,10 +17,11 @@ use Rattle.tn_client.specs.Events.{History, begun, next, resized, gets, items}
 use Rattle.tn_client.specs.Events as client_events
 use Rattle.tn_client.specs.Replies.{items_said, replies}
 use Rattle.tn_client.specs.Screen.{shows, text_shown}
+use Rattle.tn_client.specs.declared.commands.UserCommand.{UserCommand}
 use Rattle.tn_client.specs.declared.faults.ClientFault.{ClientFault}
 use Rattle.tn_client.specs.declared.faults.ClientFault.TheVariants as client_fault
 use Rattle.tn_machines.proofs.of_core.Typing.{items-types, said_front, shown_front, stands_keys, said_keys, shown_keys, decoder_keys, failed_keys}
-use Rattle.tn_machines.specs.client.Commands.{command_of}
+use Rattle.tn_machines.specs.client.Commands.{command_of, event_by, event_of}
 use Rattle.tn_machines.specs.client.Counting.{nothing_yet, after_piece, after_message}
 use Rattle.tn_machines.specs.client.Reaching.{LeadsTo, says_keys, shows_keys, TypesAll, TypesPrefix, DoesWhole, StopsWithin}
 use Rattle.tn_machines.specs.client.Run.{Run, resize, send, Reads, Acts, ActsUnless, Handles, types, type_keys, feed, turns, start, sent_after}
@@ -225,9 +226,9 @@ feed_stops piece old new end x y u v f small on is why memory failed = by_test o
     by_test true e cause = let same = failed cause in stops_failed piece old new x y u v on e same.out same.screen
     by_test false e cause = stops_feed piece old new end x y u v small on is (memory cause)
 
--- A CALL of the owner: the window, a command
-module _ (e : client_events.Event) (call : IsCall e) (old new : Core) (x y u : List ℕ) (on : old.progress.over ≡ false) (is : new ≡ record old { end = new.end })
-    (step : new.end ≡ end_after old.end e) (out : y ≡ x ++ spells (says old.end e)) (none : (h : History) → shows h e ≡ []) where
+-- A CALL of the owner: the window, a command, a new line
+module _ (e : client_events.Event) (call : IsCall e) (old new : Core) (x y u v : List ℕ) (on : old.progress.over ≡ false) (is : new ≡ record old { end = new.end })
+    (step : new.end ≡ end_after old.end e) (out : y ≡ x ++ spells (says old.end e)) (shown : v ≡ u ++ displays old.end e) where
   call_leads : (c whole : Run) → LeadsTo c old → whole.history ≡ next c.history e → whole.stream ≡ c.stream → whole.progress ≡ c.progress
       → whole.sent ≡ sent_after c.progress.closed c.sent whole.history → LeadsTo whole new
   call_leads c whole at history stream progress sent = record {
@@ -247,26 +248,26 @@ module _ (e : client_events.Event) (call : IsCall e) (old new : Core) (x y u : L
 
   call_done : (told : Told) → (whole : Run → Run) → ((c : Run) → (whole c).history ≡ next c.history e) → ((c : Run) → (whole c).stream ≡ c.stream)
       → ((c : Run) → (whole c).progress ≡ c.progress) → ((c : Run) → (whole c).sent ≡ sent_after c.progress.closed c.sent (whole c).history)
-      → ((c : Run) → Acts c told.from told.message (whole c)) → DoesWhole old told x y u u new
+      → ((c : Run) → Acts c told.from told.message (whole c)) → DoesWhole old told x y u v new
   call_done told whole history stream progress sent acts = record {
     said = says old.end e;
-    text = [];
+    text = displays old.end e;
     appended = out;
-    displayed = sym (append-nil u);
+    displayed = shown;
     leads = λ c at. (
       whole c,
       handled c (whole c) old told on at (acts c),
       call_leads c (whole c) at (history c) (stream c) (progress c) (sent c),
       sent c,
       ap items_said (history c) ∙ ap (λ (xs : List Item). items_said c.history ++ xs) (says_as c.history old.end e (at.live on).leads),
-      ap text_shown (history c) ∙ ap (λ (bs : List ℕ). text_shown c.history ++ bs) (none c.history),
+      ap text_shown (history c) ∙ ap (λ (bs : List ℕ). text_shown c.history ++ bs) (displays_as c.history old.end e (at.live on).leads),
     );
   }
 
 pub does_resize : (from : Origin) (size : WindowSize) (old new : Core) (x y u : List ℕ) → old.progress.over ≡ false → new ≡ record old { end = new.end }
     → new.end ≡ end_after old.end (resized size.width size.height) → y ≡ x ++ spells (says old.end (resized size.width size.height))
     → DoesWhole old (record { from = from; message = Resized size }) x y u u new
-does_resize from size old new x y u on is step out = call_done (resized size.width size.height) tt old new x y u on is step out (λ h. refl)
+does_resize from size old new x y u on is step out = call_done (resized size.width size.height) tt old new x y u u on is step out (sym (append-nil u))
     (record { from = from; message = Resized size }) (λ c. resize size c) (λ c. refl) (λ c. refl) (λ c. refl) (λ c. refl) (λ c. refl)
 
 pub stops_resize : (from : Origin) (size : WindowSize) (old new : Core) (x y u : List ℕ) → old.progress.over ≡ false → new ≡ record old { end = new.end }
@@ -289,29 +290,35 @@ stops_resize from size old new x y u on is same = record {
       );
 }
 
-pub does_send : (control : Control) (old new : Core) (x y u : List ℕ) → old.progress.over ≡ false → new ≡ record old { end = new.end }
-    → new.end ≡ old.end → y ≡ x ++ spells (says old.end (client_events.sent (command_of control)))
-    → DoesWhole old (record { from = Keys; message = Asked control }) x y u u new
-does_send control old new x y u on is step out = call_done (client_events.sent (command_of control)) tt old new x y u on is step out (λ h. refl)
-    (record { from = Keys; message = Asked control }) (λ c. send control c) (λ c. refl) (λ c. refl) (λ c. refl) (λ c. refl) (λ c. refl)
+-- what is asked for is a call
+asked_calls : (command : Option UserCommand) → IsCall (event_by command)
+asked_calls (Some command) = tt
+asked_calls None = tt
 
-pub stops_send : (control : Control) (old new : Core) (x y u : List ℕ) → old.progress.over ≡ false → new ≡ record old { end = new.end } → y ≡ x
-    → StopsWithin old (record { from = Keys; message = Asked control }) x y u u new
-stops_send control old new x y u on is same = record {
+pub does_send : (control : Control) (old new : Core) (x y u v : List ℕ) → old.progress.over ≡ false → new ≡ record old { end = new.end }
+    → new.end ≡ end_after old.end (event_of control) → y ≡ x ++ spells (says old.end (event_of control)) → v ≡ u ++ displays old.end (event_of control)
+    → DoesWhole old (record { from = Keys; message = Asked control }) x y u v new
+does_send control old new x y u v on is step out shown =
+    call_done (event_of control) (asked_calls (command_of control)) old new x y u v on is step out shown (record { from = Keys; message = Asked control })
+    (λ c. send control c) (λ c. refl) (λ c. refl) (λ c. refl) (λ c. refl) (λ c. refl)
+
+pub stops_send : (control : Control) (old new : Core) (x y u v : List ℕ) → old.progress.over ≡ false → new ≡ record old { end = new.end } → y ≡ x → v ≡ u
+    → StopsWithin old (record { from = Keys; message = Asked control }) x y u v new
+stops_send control old new x y u v on is same stays = record {
   part = [];
   text = [];
   appended = same ∙ sym (append-nil x);
-  displayed = sym (append-nil u);
+  displayed = stays ∙ sym (append-nil u);
   leads = λ c at.
       let told : Told = record { from = Keys; message = Asked control } in
       let h = c.history in
-      let said = replies h (client_events.sent (command_of control)) in (
+      let said = replies h (event_of control) in (
         send control c,
         handled c (send control c) old told on at refl,
         ap (λ (core : Core). core.progress) is ∙ at.progress,
         refl,
         (spells said, spells-append (items_said h) said),
-        ([], refl),
+        (shows h (event_of control), refl),
       );
 }
 

@@ -1,10 +1,11 @@
 -- What the messages brought, and what came of it at the client end.
-use Rattle.std.specs.Prelude.{◌≡◌, ℕ, IsFalse, List, [], ◌∷◌, ◌++◌, flat_map, map}
+use Rattle.std.specs.Prelude.{◌≡◌, ℕ, IsFalse, Option, Some, None, List, [], ◌∷◌, ◌++◌, flat_map, map}
 use Rattle.tn_client.specs.Events.{History, begun, next, items}
 use Rattle.tn_client.specs.Events as client
 use Rattle.tn_client.specs.declared.commands.UserCommand.{UserCommand}
 use Rattle.tn_machines.specs.client.Commands.{command_of}
 use Rattle.tn_machines.specs.client.Run.{Run}
+use Rattle.tn_streams.specs.declared.control.Control.{Control}
 use Rattle.tn_machines.specs.declared.client.messages.Origin.{Origin}
 use Rattle.tn_machines.specs.declared.client.messages.Origin.TheVariants.{Keys, Net}
 use Rattle.tn_machines.specs.declared.client.messages.Told.{Told}
@@ -13,37 +14,46 @@ use Rattle.tn_machines.specs.declared.messages.Message.{Message}
 use Rattle.tn_machines.specs.declared.messages.Message.TheVariants.{Piece, Asked}
 use Rattle.tn_linemode.specs.Prefixes.{IsRead}
 
--- WHAT A USER TYPES: keys, and commands between them
+-- WHAT A USER TYPES: keys, and commands and new lines between them
 pub data Input : Type 0 where
   key_typed : ℕ → Input
   command_sent : UserCommand → Input
+  line_entered : Input
 
 abbrev pub key_in : Input → List ℕ
 key_in (key_typed key) = key ∷ []
-key_in (command_sent command) = []
+key_in _ = []
 
-abbrev pub command_in : Input → List UserCommand
-command_in (key_typed key) = []
-command_in (command_sent command) = command ∷ []
+abbrev pub asked_in : Input → List Input
+asked_in (key_typed key) = []
+asked_in input = input ∷ []
 
--- the keys alone, and the commands alone
+-- only the keys, and only what is asked for between them
 abbrev pub keys_in : List Input → List ℕ
 keys_in given = flat_map key_in given
 
-abbrev pub commands_in : List Input → List UserCommand
-commands_in given = flat_map command_in given
+abbrev pub all_asked : List Input → List Input
+all_asked given = flat_map asked_in given
 
 -- what was typed at a client end
 abbrev pub inputs : History → List Input
 inputs (begun width height limit) = []
 inputs (next h (client.typed key)) = inputs h ++ key_typed key ∷ []
 inputs (next h (client.sent command)) = inputs h ++ command_sent command ∷ []
+inputs (next h client.entered) = inputs h ++ line_entered ∷ []
 inputs (next h _) = inputs h
+
+abbrev pub input_by : Option UserCommand → Input
+input_by (Some command) = command_sent command
+input_by None = line_entered
+
+abbrev pub input_of : Control → Input
+input_of control = input_by (command_of control)
 
 -- what a message brings of it
 abbrev pub inputs_in : Message → List Input
 inputs_in (Piece piece) = map key_typed piece
-inputs_in (Asked control) = command_sent (command_of control) ∷ []
+inputs_in (Asked control) = input_of control ∷ []
 inputs_in _ = []
 
 abbrev pub inputs_from : Origin → Message → List Input

@@ -1,10 +1,20 @@
--- The command that stands for a control function, as a client end sends it.
+-- What a user asks for between keys, as it happens at a client end: a command is sent, or a new line is entered.
+use Rattle.std.specs.Prelude.{Option, Some, None}
+use Rattle.tn_client.specs.Events.{Event, sent, entered}
 use Rattle.tn_client.specs.declared.commands.UserCommand.{UserCommand}
 use Rattle.tn_client.specs.declared.commands.UserCommand.TheVariants as user
 use Rattle.tn_streams.specs.declared.control.Control.{Control}
-use Rattle.tn_streams.specs.declared.control.Control.TheVariants.{Brk, Ip, Ayt}
+use Rattle.tn_streams.specs.declared.control.Control.TheVariants.{Brk, Ip, Ayt, NewLine}
 
-abbrev pub command_of : Control → UserCommand
-command_of Brk = user.Brk
-command_of Ip = user.Ip
-command_of Ayt = user.Ayt
+abbrev pub command_of : Control → Option UserCommand
+command_of Brk = Some user.Brk
+command_of Ip = Some user.Ip
+command_of Ayt = Some user.Ayt
+command_of NewLine = None
+
+abbrev pub event_by : Option UserCommand → Event
+event_by (Some command) = sent command
+event_by None = entered
+
+abbrev pub event_of : Control → Event
+event_of control = event_by (command_of control)

@@ -1,9 +1,8 @@
 -- What the messages do: a fold over those that were handled, over the history of the client end.
 use Rattle.std.specs.Prelude.{◌≡◌, ℕ, Bool, true, false, List, [], ◌++◌}
 use Rattle.tn_client.specs.Events.{History, begun, next, typed, resized, gets, items}
-use Rattle.tn_client.specs.Events as client
 use Rattle.tn_linemode.specs.Folding.{after_all}
-use Rattle.tn_machines.specs.client.Commands.{command_of}
+use Rattle.tn_machines.specs.client.Commands.{event_of}
 use Rattle.tn_machines.specs.client.Counting as counting
 use Rattle.tn_machines.specs.declared.client.messages.Origin.{Origin}
 use Rattle.tn_machines.specs.declared.client.messages.Origin.TheVariants.{Keys, Net}
@@ -56,9 +55,9 @@ Reads c piece xs = IsRead (c.stream ++ piece) (items c.history ++ xs)
 abbrev pub resize : WindowSize → Run → Run
 resize size c = goes_on (next c.history (resized size.width size.height)) c
 
--- the user sends the command of this control function
+-- the user asks for this between keys
 abbrev pub send : Control → Run → Run
-send control c = goes_on (next c.history (client.sent (command_of control))) c
+send control c = goes_on (next c.history (event_of control)) c
 
 -- something failed
 abbrev pub fail : SessionFault → Run → Run

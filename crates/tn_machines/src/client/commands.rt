@@ -1,4 +1,4 @@
-//! What a user asks for as a client end sends it.
+//! What a user asks for as a client end does it.
 
 ghost use Rattle.std.specs.Prelude.{◌≡◌};
 ghost use Rattle.tn_machines.specs.client.Commands.{command_of};
@@ -6,13 +6,14 @@ ghost use Rattle.tn_machines.specs.client.Commands.{command_of};
 use tn_client::UserCommand;
 use tn_streams::Control;
 
-/// The command of this control function.
-pub(crate) fn command_of(control: Control) -> UserCommand
+/// The command that is asked for, or none for a new line.
+pub(crate) fn command_of(control: Control) -> Option<UserCommand>
     ensures { result ≡ command_of control }
 {
     match control {
-        Control::Brk => UserCommand::Brk,
-        Control::Ip => UserCommand::Ip,
-        Control::Ayt => UserCommand::Ayt,
+        Control::Brk => Some(UserCommand::Brk),
+        Control::Ip => Some(UserCommand::Ip),
+        Control::Ayt => Some(UserCommand::Ayt),
+        Control::NewLine => None,
     }
 }

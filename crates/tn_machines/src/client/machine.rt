@@ -121,38 +121,57 @@ impl Core {
         Ok(())
     }
 
-    // The user asks for this control function: it is sent behind the keys that were typed.
-    fn send(&mut self, control: Control, out: &mut Vec<u8>) -> Result<(), ClientFault>
+    // The user asks for this, after the keys that were typed: a command is sent, or a new line is entered.
+    fn send(
+        &mut self,
+        control: Control,
+        out: &mut Vec<u8>,
+        screen: &mut Vec<u8>,
+    ) -> Result<(), ClientFault>
         requires { IsFalse self.old.progress.over }
-        ensures ok { OnOk result ((seen : List ℕ) → DoesWhole self.old
+        ensures ok { OnOk result (DoesWhole self.old
             (record { from = Origin.Keys; message = Message.Asked control })
-            out.old.items out.new.items seen seen self.new) }
-        ensures err { OnErr result ((seen : List ℕ) → StopsWithin self.old
+            out.old.items out.new.items screen.old.items screen.new.items self.new) }
+        ensures err { OnErr result (StopsWithin self.old
             (record { from = Origin.Keys; message = Message.Asked control })
-            out.old.items out.new.items seen seen self.new) }
+            out.old.items out.new.items screen.old.items screen.new.items self.new) }
         ensures cause { IfErr result (RefusesFor self.old
             (record { from = Origin.Keys; message = Message.Asked control })) }
         ensures closed { self.new.progress.closed ≡ self.old.progress.closed }
     {
-        self.end.send(command_of(control), out)?;
-        Ok(())
+        match command_of(control) {
+            Some(command) => {
+                self.end.send(command, out)?;
+                Ok(())
+            },
+            None => {
+                self.end.new_line(out, screen)?;
+                Ok(())
+            },
+        }
     }
 
-    // The same of whoever asks: only the keys have a user.
-    fn ask(&mut self, from: Origin, control: Control, out: &mut Vec<u8>) -> Result<(), ClientFault>
+    // Does what is asked for, unless the network asks, which has no user.
+    fn ask(
+        &mut self,
+        from: Origin,
+        control: Control,
+        out: &mut Vec<u8>,
+        screen: &mut Vec<u8>,
+    ) -> Result<(), ClientFault>
         requires { IsFalse self.old.progress.over }
-        ensures ok { OnOk result ((seen : List ℕ) → DoesWhole self.old
+        ensures ok { OnOk result (DoesWhole self.old
             (record { from = from; message = Message.Asked control })
-            out.old.items out.new.items seen seen self.new) }
-        ensures err { OnErr result ((seen : List ℕ) → StopsWithin self.old
+            out.old.items out.new.items screen.old.items screen.new.items self.new) }
+        ensures err { OnErr result (StopsWithin self.old
             (record { from = from; message = Message.Asked control })
-            out.old.items out.new.items seen seen self.new) }
+            out.old.items out.new.items screen.old.items screen.new.items self.new) }
         ensures cause { IfErr result (RefusesFor self.old
             (record { from = from; message = Message.Asked control })) }
         ensures closed { self.new.progress.closed ≡ self.old.progress.closed }
     {
         match from {
-            Origin::Keys => self.send(control, out),
+            Origin::Keys => self.send(control, out, screen),
             Origin::Net => Ok(()),
         }
     }
@@ -197,7 +216,7 @@ impl Core {
                 Origin::Net => self.feed(piece.as_slice(), out, screen),
             },
             Message::Resized(size) => self.resize(from, size, out),
-            Message::Asked(control) => self.ask(from, control, out),
+            Message::Asked(control) => self.ask(from, control, out, screen),
             other => {
                 self.step(from, &other);
                 Ok(())

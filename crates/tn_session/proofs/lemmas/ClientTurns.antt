@@ -1,11 +1,11 @@
--- What the core does with a message keeps whatever keys, sizes, commands and items keep, of the history whose replies
+-- What the core does with a message keeps whatever keys, new lines, sizes, commands and items keep, of the history whose replies
 -- go to the network.
-use Rattle.std.proofs.Common.{◌≡◌, ℕ, Bool, true, false, List, [], ◌∷◌, ◌++◌, refl, sym, ap, ◌∙◌, subst, append_assoc}
+use Rattle.std.proofs.Common.{◌≡◌, ℕ, Bool, true, false, Option, Some, None, List, [], ◌∷◌, ◌++◌, refl, sym, ap, ◌∙◌, subst, append_assoc}
 use Rattle.tn_client.proofs.lemmas.Histories.{items-gets}
 use Rattle.tn_client.specs.Events as events
-use Rattle.tn_client.specs.Events.{History, next, typed, got, resized, items, gets}
+use Rattle.tn_client.specs.Events.{History, next, typed, entered, got, resized, items, gets}
 use Rattle.tn_client.specs.declared.commands.UserCommand.{UserCommand}
-use Rattle.tn_machines.specs.client.Commands.{command_of}
+use Rattle.tn_machines.specs.client.Commands.{command_of, event_by, event_of}
 use Rattle.tn_machines.specs.client.Counting.{after_message}
 use Rattle.tn_machines.specs.client.Marks.{Turns}
 use Rattle.tn_machines.specs.client.Run.{Run, Acts, ActsUnless, types, sent_after}
@@ -24,6 +24,7 @@ pub record ClientKeeps (T : History → Type 0) (said : List Item) : Type 0 wher
   pub types_on : (h : History) (key : ℕ) → T h → T (next h (typed key))
   pub resizes : (h : History) (width height : ℕ) → T h → T (next h (resized width height))
   pub sends : (h : History) (command : UserCommand) → T h → T (next h (events.sent command))
+  pub enters : (h : History) → T h → T (next h entered)
   pub comes : (h : History) (x : Item) → IsPrefixOf (items h ++ x ∷ []) said → T h → T (next h (got x))
 
 -- as long as replies go to the network, they are those of all that happened
@@ -57,6 +58,10 @@ sent_latest true sent h e = cc
 sent_latest false sent h e = refl
 
 module _ (T : History → Type 0) (said : List Item) (s : ClientKeeps T said) where
+  all_asked : (h : History) (command : Option UserCommand) → T h → T (next h (event_by command))
+  all_asked h (Some command) at = s.sends h command at
+  all_asked h None at = s.enters h at
+
   all_typed : (h : History) (keys : List ℕ) → T h → T (types h keys)
   all_typed h [] t = t
   all_typed h (key ∷ keys) t = all_typed (next h (typed key)) keys (s.types_on h key t)
@@ -110,8 +115,8 @@ module _ (T : History → Type 0) (said : List Item) (s : ClientKeeps T said) wh
       went_on c new (next c.history (resized size.width size.height)) (ap (λ (r : Run). r.sent) a) (ap (λ (r : Run). r.history) a)
       (ap (λ (r : Run). r.progress.closed) a) (s.resizes c.history size.width size.height) t
   acts c new Keys (Asked control) a p t =
-      went_on c new (next c.history (events.sent (command_of control))) (ap (λ (r : Run). r.sent) a) (ap (λ (r : Run). r.history) a)
-      (ap (λ (r : Run). r.progress.closed) a) (s.sends c.history (command_of control)) t
+      went_on c new (next c.history (event_of control)) (ap (λ (r : Run). r.sent) a) (ap (λ (r : Run). r.history) a)
+      (ap (λ (r : Run). r.progress.closed) a) (all_asked c.history (command_of control)) t
   acts c new Net (Asked control) a p t = same_run c new a t
   acts c new from Left a p t = turned c new from Left (ap (λ (r : Run). r.sent) a) (ap (λ (r : Run). r.history) a) (ap (λ (r : Run). r.progress) a) t
 

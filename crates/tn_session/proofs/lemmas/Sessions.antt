@@ -139,6 +139,7 @@ client_grows p q (x, k) g t =
     let grown = client_turns (λ h. IsPrefixOf (client_says.items_said p.sent) (client_says.items_said h)) (client.items q.history) (record {
       types_on = λ h key at. one_more said (client_says.items_said h) (client_says.replies h (client.typed key)) at;
       resizes = λ h width height at. one_more said (client_says.items_said h) (client_says.replies h (client.resized width height)) at;
+      enters = λ h at. one_more said (client_says.items_said h) (client_says.replies h client.entered) at;
       sends = λ h command at. one_more said (client_says.items_said h) (client_says.replies h (client.sent command)) at;
       comes = λ h y first at. one_more said (client_says.items_said h) (client_says.replies h (client.got y)) at;
     }) p q x k t (prefix_self (client.items q.history)) (record { latest = g; tied = prefix_self said }) in

@@ -1,10 +1,12 @@
 -- What the messages brought is taken in order.
-use Rattle.std.proofs.Common.{◌≡◌, ℕ, Bool, true, false, List, [], ◌∷◌, ◌++◌, map, flat_map, refl, sym, ap, ◌∙◌, subst, append-nil, append_assoc}
+use Rattle.std.proofs.Common.{◌≡◌, ℕ, Bool, true, false, Option, Some, None, List, [], ◌∷◌, ◌++◌, map, flat_map, refl, sym, ap, ◌∙◌, subst, append-nil, append_assoc}
 use Rattle.std.proofs.lemmas.Grind.{flat_map-append}
 use Rattle.tn_client.proofs.lemmas.Histories.{items-gets}
 use Rattle.tn_client.specs.Events.{History, next, typed, got, gets, items}
+use Rattle.tn_client.specs.declared.commands.UserCommand.{UserCommand}
 use Rattle.tn_machines.proofs.of_core.Typing.{items-types}
-use Rattle.tn_machines.specs.client.Bringing.{Input, key_typed, key_in, keys_in, inputs, inputs_from, inputs_brought, brought_from, brought, TakesInOrder}
+use Rattle.tn_machines.specs.client.Bringing.{Input, key_typed, key_in, keys_in, input_by, inputs, inputs_from, inputs_brought, brought_from, brought, TakesInOrder}
+use Rattle.tn_machines.specs.client.Commands.{command_of, event_by}
 use Rattle.tn_machines.specs.client.Marks.{Turns, Runs}
 use Rattle.tn_machines.specs.client.Run.{Run, Acts, ActsUnless, Asks, Handles, TakesPiece, types, start}
 use Rattle.tn_machines.specs.declared.client.messages.ClientMark.{ClientMark}
@@ -91,10 +93,19 @@ turned c from m new still other same stream = plain c from m new (none_typed fro
 
 asked : (c : Run) (from : Origin) (control : Control) (new : Run) → Asks c from control new → Takes c from (Asked control) new
 asked c Keys control new a = record {
-  types_on = ap (λ (r : Run). inputs r.history) a;
+  types_on = ap (λ (r : Run). inputs r.history) a ∙ brings (command_of control);
   feeds_on = ap (λ (r : Run). r.stream) a ∙ sym (append-nil c.stream);
-  reads_on = λ r. subst (λ (q : Run). IsRead q.stream (items q.history)) (sym a) r;
+  reads_on = λ r. subst (λ (q : Run). IsRead q.stream (items q.history)) (sym a)
+      (subst (λ (xs : List Item). IsRead c.stream xs) (sym (no_item (command_of control))) r);
 }
+  where
+    brings : (command : Option UserCommand) → inputs (next c.history (event_by command)) ≡ inputs c.history ++ input_by command ∷ []
+    brings (Some command) = refl
+    brings None = refl
+
+    no_item : (command : Option UserCommand) → items (next c.history (event_by command)) ≡ items c.history
+    no_item (Some command) = refl
+    no_item None = refl
 asked c Net control new a = plain c Net (Asked control) new refl refl (ap (λ (r : Run). r.history) a) (ap (λ (r : Run). r.stream) a)
 
 acted : (c : Run) (from : Origin) (m : Message) (new : Run) → Acts c from m new → Takes c from m new
@@ -189,7 +200,11 @@ keys-typed (key ∷ keys) = ap (λ (ks : List ℕ). key ∷ ks) (keys-typed keys
 keys-from : (from : Origin) (m : Message) → keys_in (inputs_from from m) ≡ brought_from Keys from m
 keys-from Net m = refl
 keys-from Keys (Piece piece) = keys-typed piece
-keys-from Keys (Asked control) = refl
+keys-from Keys (Asked control) = no_key (command_of control)
+  where
+    no_key : (command : Option UserCommand) → keys_in (input_by command ∷ []) ≡ []
+    no_key (Some command) = refl
+    no_key None = refl
 keys-from Keys HangUp = refl
 keys-from Keys ReadFailed = refl
 keys-from Keys Take = refl

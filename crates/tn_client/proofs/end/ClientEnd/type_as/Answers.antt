@@ -1,8 +1,9 @@
 use Rattle.std.proofs.Common.{◌≡◌, true, false, sym, ap, ◌∙◌}
 use Rattle.tn_linemode.specs.Modes.{edits}
 use Rattle.tn_client.specs.Calls.{End}
+use Rattle.tn_client.specs.Replies.{sent_as}
 use Rattle.tn_client.proofs.lemmas.Keying.{key_step, key_said, key_shown_by, edited_lacks}
-use Rattle.tn_client.proofs.end.ClientEnd.key.Goals as goal
+use Rattle.tn_client.proofs.end.ClientEnd.type_as.Goals as goal
 
 pub returns-then-edit-clause-step : goal.returns-then-edit-clause-step
 returns-then-edit-clause-step c =
@@ -14,7 +15,7 @@ pub returns-then-edit-clause-out : goal.returns-then-edit-clause-out
 returns-then-edit-clause-out c =
     let mode = c.current.ensures ∙ ap (λ (e : End). e.mode) c.self.view_is in
     let by : edits c.args.self.now.mode ≡ true = sym (c.edit.ensures ∙ ap edits mode) ∙ c.if-edit.true in
-    key_said true c.edit-then-edit.result c.or_memory.result c.args.self.now c.args.key by c.or_memory.ensures.err _ _ _ c.or_memory.ensures.out c.edit-then-edit.ensures.out
+    key_said true c.edit-then-edit.result c.or_memory.result c.args.self.now c.args.key by c.or_memory.ensures.err (sent_as c.args.is_line c.args.key) _ _ _ c.or_memory.ensures.out c.edit-then-edit.ensures.out
 
 pub returns-then-edit-clause-screen : goal.returns-then-edit-clause-screen
 returns-then-edit-clause-screen c =
@@ -32,7 +33,7 @@ pub returns-clause-out : goal.returns-clause-out
 returns-clause-out c =
     let mode = c.current.ensures ∙ ap (λ (e : End). e.mode) c.self.view_is in
     let by : edits c.args.self.now.mode ≡ false = sym (c.edit.ensures ∙ ap edits mode) ∙ c.if-edit.false in
-    key_said false c.pass.result c.or_memory-2.result c.args.self.now c.args.key by c.or_memory-2.ensures.err _ _ _ c.or_memory-2.ensures.out c.pass.ensures.out
+    key_said false c.pass.result c.or_memory-2.result c.args.self.now c.args.key by c.or_memory-2.ensures.err (sent_as c.args.is_line c.args.key) _ _ _ c.or_memory-2.ensures.out c.pass.ensures.out
 
 pub returns-clause-screen : goal.returns-clause-screen
 returns-clause-screen c =
@@ -44,5 +45,5 @@ pub returns-then-edit-clause-memory : goal.returns-then-edit-clause-memory
 returns-then-edit-clause-memory c =
     let mode = c.current.ensures ∙ ap (λ (e : End). e.mode) c.self.view_is in
     let by : edits c.args.self.now.mode ≡ true = sym (c.edit.ensures ∙ ap edits mode) ∙ c.if-edit.true in
-    edited_lacks c.edit-then-edit.result c.or_memory.result c.args.self.now c.args.key c.args.out.now c.args.screen.now by c.or_memory.ensures.ok
+    edited_lacks c.edit-then-edit.result c.or_memory.result c.args.self.now c.args.key (sent_as c.args.is_line c.args.key) c.args.out.now c.args.screen.now by c.or_memory.ensures.ok
     c.edit-then-edit.ensures.full

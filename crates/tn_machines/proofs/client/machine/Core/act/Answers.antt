@@ -3,7 +3,7 @@ use Rattle.tn_machines.proofs.of_core.Doing.{does_step, stays_closed, is_plain, 
 use Rattle.tn_machines.specs.declared.client.machine.Core.{Core}
 use Rattle.tn_machines.specs.client.Reaching.{DoesWhole, StopsWithin}
 use Rattle.tn_machines.specs.declared.messages.Message.{Message}
-use Rattle.tn_machines.specs.declared.messages.Message.TheVariants.{Resized, Asked}
+use Rattle.tn_machines.specs.declared.messages.Message.TheVariants.{Resized}
 use Rattle.tn_machines.proofs.client.machine.Core.act.Goals as goal
 
 pub returns-in-Resized-clause-ok : goal.returns-in-Resized-clause-ok
@@ -21,22 +21,6 @@ returns-in-Resized-clause-err c =
     (record { from = c.args.told.from; message = m }) c.args.out.now.items c.resize.new.out.items u u c.resize.new.self in
     let done = shows_err c.resize.result (Stops (Resized c.in-Resized.size)) seen c.resize.ensures.err in
     subst (λ (m : Message). OnErr c.resize.result (Stops m seen)) (sym c.in-Resized.is) done
-
-pub returns-in-Asked-clause-ok : goal.returns-in-Asked-clause-ok
-returns-in-Asked-clause-ok c =
-    let seen : List ℕ = c.args.screen.now.items in
-    let Does : Message → List ℕ → Type 0 = λ m u. DoesWhole c.args.self.now
-    (record { from = c.args.told.from; message = m }) c.args.out.now.items c.ask.new.out.items u u c.ask.new.self in
-    let done = shows_ok c.ask.result (Does (Asked c.in-Asked.control)) seen c.ask.ensures.ok in
-    subst (λ (m : Message). OnOk c.ask.result (Does m seen)) (sym c.in-Asked.is) done
-
-pub returns-in-Asked-clause-err : goal.returns-in-Asked-clause-err
-returns-in-Asked-clause-err c =
-    let seen : List ℕ = c.args.screen.now.items in
-    let Stops : Message → List ℕ → Type 0 = λ m u. StopsWithin c.args.self.now
-    (record { from = c.args.told.from; message = m }) c.args.out.now.items c.ask.new.out.items u u c.ask.new.self in
-    let done = shows_err c.ask.result (Stops (Asked c.in-Asked.control)) seen c.ask.ensures.err in
-    subst (λ (m : Message). OnErr c.ask.result (Stops m seen)) (sym c.in-Asked.is) done
 
 pub returns : goal.returns
 returns c = record {
