@@ -3,6 +3,7 @@
 use Rattle.std.proofs.Common.{◌≡◌, ◌≤◌, inl, inr, ℕ, ◌+◌, ◌==◌, Bool, true, false, not, ◌&&◌, Option, Some, None, List, [], ◌∷◌, ◌++◌, length, refl, sym, ap, ◌∙◌, if◌then◌else◌, subst}
 use Rattle.std.proofs.Common.{arith, append-nil, append_assoc, length-append}
 use Rattle.tn_codes.specs.declared.codes.Command.TheVariants.{Ip}
+use Rattle.tn_codes.specs.declared.codes.Verb.TheVariants.{Will}
 use Rattle.tn_discipline.specs.declared.keys.Role.TheVariants as role
 use Rattle.tn_discipline.specs.declared.reads.Entry.{Entry}
 use Rattle.tn_discipline.specs.declared.reads.Entry.TheVariants as entry
@@ -23,16 +24,14 @@ use Rattle.tn_discipline.specs.Keys.{standard_flags, mapped_key, signal_of, role
 use Rattle.tn_discipline.specs.declared.keys.Role.{Role}
 use Rattle.tn_discipline.specs.declared.reads.Sig.{Sig}
 use Rattle.tn_linemode.specs.Modes.{edits, traps}
-use Rattle.tn_nvt.specs.declared.items.Item.TheVariants.{Byte}
+use Rattle.tn_nvt.specs.declared.items.Item.TheVariants.{Byte, Cmd, Neg, Sub}
 use Rattle.tn_client.specs.Calls.{End}
 use Rattle.tn_client.specs.Lines.{role_of_typed}
-use Rattle.tn_client.specs.Replies.{raw_key_items, edit_items}
+use Rattle.tn_client.specs.Replies.{raw_key_items, edit_items, byte_items, end_of_edit_items}
 use Rattle.tn_client.specs.Steps.{role_now, line_typed, end_after_key, says_key, with_mode, line_left, count_left, count_told}
 use Rattle.tn_client.specs.Terms.{linemode}
 use Rattle.tn_client.proofs.lemmas.Keying.{end_by, says_by}
-use Rattle.tn_world.specs.relation.Calm.{bits}
-use Rattle.tn_world.specs.relation.Ends.{server_items}
-use Rattle.tn_world.specs.relation.Machine.{Mode, Item, byte, command, mode_ack, linemode_on, Server, read, read_all, bytes, remote_mode, local_mode, IsAskable}
+use Rattle.tn_world.specs.relation.Machine.{Mode, bits, Server, read, read_all, remote_mode, local_mode, IsAskable}
 use Rattle.tn_world.specs.relation.Pictures.{ClientStays}
 use Rattle.tn_world.proofs.Reading.{read-bytes_then, half-typed, entries-typed}
 use Rattle.tn_world.proofs.Typing.{Follows, literal_key, key-follows}
@@ -126,7 +125,7 @@ count-step limit s key trapped plain half false isig allowed count = count-one l
 
 -- a key, by whether it is edited here
 key_by : (canon : Canon) (typed : List ℕ) (taken : List Entry) (v : Server) (c : End) (key : ℕ) (e : Bool) → edits c.mode ≡ e → ClientStays canon c
-    → Agrees canon typed taken v c → Agrees canon (typed ++ key ∷ []) taken (read_all canon v (server_items (says_by e c key))) (end_by e c key)
+    → Agrees canon typed taken v c → Agrees canon (typed ++ key ∷ []) taken (read_all canon v (says_by e c key)) (end_by e c key)
 key_by canon typed taken v c key true is_edit stays a =
     let ok = local_of canon.settings (bits c.mode) a.askable is_edit in
     let l = linemode c.options in
@@ -146,8 +145,8 @@ key_by canon typed taken v c key true is_edit stays a =
       half = f.half;
       waiting = a.waiting ++ gain_next canon.limit (a.half ++ c.line.held) r;
       is =
-          ap (λ x. read_all canon x (server_items (says_by true c key))) a.is
-          ∙ ap (λ e. read_all canon (server_at l e a.half a.waiting) (server_items (says_by true c key))) is_edit
+          ap (λ x. read_all canon x (says_by true c key)) a.is
+          ∙ ap (λ e. read_all canon (server_at l e a.half a.waiting) (says_by true c key)) is_edit
           ∙ f.reads
           ∙ ap (λ e. server_at l e f.half (a.waiting ++ gain_next canon.limit (a.half ++ c.line.held) r)) (sym is_edit);
       off = a.off;
@@ -176,9 +175,9 @@ key_by canon typed taken v c key false is_remote stays a =
       half = half_next canon.limit a.half r;
       waiting = a.waiting ++ gain_next canon.limit a.half r;
       is =
-          ap (λ xs. read_all canon v (server_items xs)) (raw-key c.mode c.table key off)
-          ∙ ap (λ x. read canon x (byte key)) a.is
-          ∙ ap (λ e. read canon (server_at l e a.half a.waiting) (byte key)) is_remote
+          ap (λ xs. read_all canon v xs) (raw-key c.mode c.table key off)
+          ∙ ap (λ x. read canon x (Byte key)) a.is
+          ∙ ap (λ e. read canon (server_at l e a.half a.waiting) (Byte key)) is_remote
           ∙ ap (λ e. server_at l e (half_next canon.limit a.half r) (a.waiting ++ gain_next canon.limit a.half r)) (sym is_remote);
       off = a.off;
       entries =
@@ -203,18 +202,18 @@ key_by canon typed taken v c key false is_remote stays a =
     }
 
 pub key-agrees : (canon : Canon) (typed : List ℕ) (taken : List Entry) (v : Server) (c : End) (key : ℕ) → ClientStays canon c → Agrees canon typed taken v c
-    → Agrees canon (typed ++ key ∷ []) taken (read_all canon v (server_items (says_key c key))) (end_after_key c key)
+    → Agrees canon (typed ++ key ∷ []) taken (read_all canon v (says_key c key)) (end_after_key c key)
 key-agrees canon typed taken v c key stays a = key_by canon typed taken v c key (edits c.mode) refl stays a
 
 -- a command by which the server interrupts, as a key would
 pub interrupt-agrees : (canon : Canon) (typed : List ℕ) (taken : List Entry) (v : Server) (c : End) (key : ℕ)
     → role_of_key canon.settings key ≡ role.Signal Int → Agrees canon typed taken v c
-    → Agrees canon (typed ++ key ∷ []) taken (read_all canon v (command Ip ∷ [])) c
+    → Agrees canon (typed ++ key ∷ []) taken (read_all canon v (Cmd Ip ∷ [])) c
 interrupt-agrees canon typed taken v c key interrupts a =
     record {
       half = a.half;
       waiting = a.waiting ++ entry.Signal Int ∷ [];
-      is = ap (λ x. read canon x (command Ip)) a.is;
+      is = ap (λ x. read canon x (Cmd Ip)) a.is;
       off = a.off;
       entries =
           entries-typed canon typed key
@@ -234,12 +233,13 @@ same_if true n = refl
 same_if false n = refl
 
 -- where LINEMODE is on, an acknowledged mode counts
-acked : (s : Canon) (l edit : Bool) (half : List ℕ) (waiting : List Entry) (m : Mode) → l ≡ true
-    → read s (server_at l edit half waiting) (mode_ack m) ≡ server_at l m.edit half waiting
-acked s l edit half waiting m on =
-    ap (λ (b : Bool). read s (server_at b edit half waiting) (mode_ack m)) on
-    ∙ ap (λ x. server_at true m.edit half x) (append-nil waiting)
-    ∙ ap (λ (b : Bool). server_at b m.edit half waiting) (sym on)
+acked : (s : Canon) (l edit : Bool) (half : List ℕ) (waiting : List Entry) (m ack : ℕ) → l ≡ true → edits ack ≡ edits m
+    → read s (server_at l edit half waiting) (Sub 34 (1 ∷ ack ∷ [])) ≡ server_at l (edits m) half waiting
+acked s l edit half waiting m ack on same =
+    ap (λ (b : Bool). read s (server_at b edit half waiting) (Sub 34 (1 ∷ ack ∷ []))) on
+    ∙ ap (λ x. server_at true (edits ack) half x) (append-nil waiting)
+    ∙ ap (λ (b : Bool). server_at true b half waiting) same
+    ∙ ap (λ (b : Bool). server_at b (edits m) half waiting) (sym on)
 
 -- LINEMODE does not go off
 still_on : (l : Bool) (A : Type 0) → l ≡ true → l ≡ false → A
@@ -255,26 +255,22 @@ mode_by before after c mask =
       plain = count_left before after c.line c.plain;
     }
 
-abbrev pub held_told : Bool → Bool → List ℕ → List Item
-held_told true false held = bytes held
-held_told true true held = []
-held_told false after held = []
-
-taken_by : (canon : Canon) (typed : List ℕ) (taken : List Entry) (v : Server) (c : End) (m : ℕ) (e f : Bool) → linemode c.options ≡ true → edits c.mode ≡ e
+taken_by : (canon : Canon) (typed : List ℕ) (taken : List Entry) (v : Server) (c : End) (m ack : ℕ) (e f : Bool) → linemode c.options ≡ true → edits ack ≡ edits m
+    → edits c.mode ≡ e
     → edits m ≡ f → Agrees canon typed taken v c → IsAskable canon.settings (bits m)
-    → Agrees canon typed taken (read_all canon v (held_told e f c.line.held ++ mode_ack (bits m) ∷ [])) (mode_by e f c m)
-taken_by canon typed taken v c m true false on before after a askable =
+    → Agrees canon typed taken (read_all canon v (end_of_edit_items e f c.line.held ++ Sub 34 (1 ∷ ack ∷ []) ∷ [])) (mode_by e f c m)
+taken_by canon typed taken v c m ack true false on same before after a askable =
     let l = linemode c.options in
     let held = c.line.held in
     record {
       half = a.half ++ held;
       waiting = a.waiting;
       is =
-          ap (λ x. read_all canon x (bytes held ++ mode_ack (bits m) ∷ [])) a.is
-          ∙ ap (λ e. read_all canon (server_at l e a.half a.waiting) (bytes held ++ mode_ack (bits m) ∷ [])) before
-          ∙ read-bytes_then canon l a.half a.waiting held (mode_ack (bits m)) a.plain
+          ap (λ x. read_all canon x (byte_items held ++ Sub 34 (1 ∷ ack ∷ []) ∷ [])) a.is
+          ∙ ap (λ e. read_all canon (server_at l e a.half a.waiting) (byte_items held ++ Sub 34 (1 ∷ ack ∷ []) ∷ [])) before
+          ∙ read-bytes_then canon l a.half a.waiting held (Sub 34 (1 ∷ ack ∷ [])) a.plain
           (let fits = fits_at canon typed a.half held a.line in omega (arith, length-append a.half held))
-          ∙ acked canon l true (a.half ++ held) a.waiting (bits m) on;
+          ∙ acked canon l true (a.half ++ held) a.waiting m ack on same;
       off = λ e. still_on l (edits m ≡ false) on e;
       entries = a.entries;
       line = a.line ∙ sym (append-nil (a.half ++ held));
@@ -287,12 +283,12 @@ taken_by canon typed taken v c m true false on before after a askable =
           ∙ ap (λ n. n + length held) (sym (a.ahead before))
           ∙ sym (length-append a.half held);
     }
-taken_by canon typed taken v c m false true on before after a askable =
+taken_by canon typed taken v c m ack false true on same before after a askable =
     let l = linemode c.options in
     record {
       half = a.half;
       waiting = a.waiting;
-      is = ap (λ x. read canon x (mode_ack (bits m))) a.is ∙ acked canon l (edits c.mode) a.half a.waiting (bits m) on;
+      is = ap (λ x. read canon x (Sub 34 (1 ∷ ack ∷ []))) a.is ∙ acked canon l (edits c.mode) a.half a.waiting m ack on same;
       off = λ e. still_on l (edits m ≡ false) on e;
       entries = a.entries;
       line = a.line ∙ ap (λ x. a.half ++ x) (a.none before);
@@ -304,12 +300,12 @@ taken_by canon typed taken v c m false true on before after a askable =
       plain = tt;
       count = λ e allowed. absurd (cc);
     }
-taken_by canon typed taken v c m true true on before after a askable =
+taken_by canon typed taken v c m ack true true on same before after a askable =
     let l = linemode c.options in
     record {
       half = a.half;
       waiting = a.waiting;
-      is = ap (λ x. read canon x (mode_ack (bits m))) a.is ∙ acked canon l (edits c.mode) a.half a.waiting (bits m) on;
+      is = ap (λ x. read canon x (Sub 34 (1 ∷ ack ∷ []))) a.is ∙ acked canon l (edits c.mode) a.half a.waiting m ack on same;
       off = λ e. still_on l (edits m ≡ false) on e;
       entries = a.entries;
       line = a.line;
@@ -319,12 +315,12 @@ taken_by canon typed taken v c m true true on before after a askable =
       plain = a.plain;
       count = λ e allowed. absurd (cc);
     }
-taken_by canon typed taken v c m false false on before after a askable =
+taken_by canon typed taken v c m ack false false on same before after a askable =
     let l = linemode c.options in
     record {
       half = a.half;
       waiting = a.waiting;
-      is = ap (λ x. read canon x (mode_ack (bits m))) a.is ∙ acked canon l (edits c.mode) a.half a.waiting (bits m) on;
+      is = ap (λ x. read canon x (Sub 34 (1 ∷ ack ∷ []))) a.is ∙ acked canon l (edits c.mode) a.half a.waiting m ack on same;
       off = λ e. still_on l (edits m ≡ false) on e;
       entries = a.entries;
       line = a.line;
@@ -335,10 +331,10 @@ taken_by canon typed taken v c m false false on before after a askable =
       count = λ e allowed. a.count before allowed;
     }
 
-pub taken-agrees : (canon : Canon) (typed : List ℕ) (taken : List Entry) (v : Server) (c : End) (m : ℕ) → linemode c.options ≡ true
-    → Agrees canon typed taken v c → IsAskable canon.settings (bits m)
-    → Agrees canon typed taken (read_all canon v (held_told (edits c.mode) (edits m) c.line.held ++ mode_ack (bits m) ∷ [])) (with_mode c m)
-taken-agrees canon typed taken v c m on a askable = taken_by canon typed taken v c m (edits c.mode) (edits m) on refl refl a askable
+pub taken-agrees : (canon : Canon) (typed : List ℕ) (taken : List Entry) (v : Server) (c : End) (m ack : ℕ) → linemode c.options ≡ true
+    → edits ack ≡ edits m → Agrees canon typed taken v c → IsAskable canon.settings (bits m)
+    → Agrees canon typed taken (read_all canon v (end_of_edit_items (edits c.mode) (edits m) c.line.held ++ Sub 34 (1 ∷ ack ∷ []) ∷ [])) (with_mode c m)
+taken-agrees canon typed taken v c m ack on same a askable = taken_by canon typed taken v c m ack (edits c.mode) (edits m) on same refl refl a askable
 
 -- what the relation does not look at
 pub beside-agrees : (canon : Canon) (typed : List ℕ) (taken : List Entry) (v : Server) (c new : End) → linemode new.options ≡ linemode c.options
@@ -371,15 +367,15 @@ pub turned-agrees : (canon : Canon) (typed : List ℕ) (taken : List Entry) (v :
     → (new : End) → linemode new.options ≡ true → new ≡ record (mode_by false false c 0) {
       options = new.options;
       forward = new.forward;
-    } → Agrees canon typed taken (read_all canon v (linemode_on ∷ [])) new
+    } → Agrees canon typed taken (read_all canon v (Neg Will 34 ∷ [])) new
 turned-agrees canon typed taken v c was a new on is =
     let raw = a.off was in
-    subst (λ x. Agrees canon typed taken (read_all canon v (linemode_on ∷ [])) x) (sym is) (record {
+    subst (λ x. Agrees canon typed taken (read_all canon v (Neg Will 34 ∷ [])) x) (sym is) (record {
       half = a.half;
       waiting = a.waiting;
       is =
-          ap (λ x. read canon x linemode_on) a.is
-          ∙ ap (λ (l : Bool). read canon (server_at l (edits c.mode) a.half a.waiting) linemode_on) was
+          ap (λ x. read canon x (Neg Will 34)) a.is
+          ∙ ap (λ (l : Bool). read canon (server_at l (edits c.mode) a.half a.waiting) (Neg Will 34)) was
           ∙ ap (λ x. server_at true false a.half x) (append-nil a.waiting)
           ∙ ap (λ (l : Bool). server_at l false a.half a.waiting) (sym on);
       off = λ e. refl;

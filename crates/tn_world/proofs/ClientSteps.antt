@@ -3,14 +3,12 @@ use Rattle.std.proofs.Common.{◌≡◌, ◌⊎◌, inl, inr, ◌<◌, ℕ, zero
 use Rattle.std.proofs.Common.{[], ◌∷◌, ◌++◌, length, refl, sym, ap, ◌∙◌, if◌then◌else◌, subst, arith, append-nil, append_assoc}
 use Rattle.std.specs.Prelude.{All, bit_or}
 use Rattle.std.proofs.lemmas.Bool.{eqb-true}
-use Rattle.std.proofs.lemmas.List.{map-append}
 use Rattle.std.proofs.lemmas.List.Elements.{All-nil, All-cons, All-head, All-tail, All-append}
 use Rattle.std.proofs.lemmas.Nat.{and_assoc}
 use Rattle.tn_codes.specs.Payloads.{parameters_of}
 use Rattle.tn_codes.specs.PayloadOf.{payload_of}
 use Rattle.tn_codes.specs.declared.codes.Verb.{Verb}
 use Rattle.tn_codes.specs.declared.codes.Verb.TheVariants.{Will, DoIt}
-use Rattle.tn_codes.specs.declared.codes.Command.{Command}
 use Rattle.tn_codes.specs.declared.codes.Command.TheVariants as command
 use Rattle.tn_codes.specs.declared.masks.Mask.{Mask}
 use Rattle.tn_codes.specs.declared.payloads.Payload.{Payload}
@@ -37,18 +35,17 @@ use Rattle.tn_client.proofs.lemmas.Gathering.{says_both}
 use Rattle.tn_client.proofs.lemmas.Standings.{typed_limit, left_limit}
 use Rattle.tn_client.proofs.lemmas.Stopping.{front_said}
 use Rattle.tn_nvt.specs.Feeding.{DecoderState}
-use Rattle.tn_world.specs.relation.Machine as machine
-use Rattle.tn_world.specs.relation.Machine.{Mode, Server, mode_ack, other, bytes, read_all, IsAskable}
-use Rattle.tn_world.specs.relation.Calm.{bits, IsCalmToServer, IsCalmToClient, server_item}
-use Rattle.tn_world.specs.relation.Ends.{server_items, AreSaid, SaysItems}
+use Rattle.tn_world.specs.relation.Machine.{Mode, Server, bits, read, read_all, IsAskable}
+use Rattle.tn_world.specs.relation.Calm.{IsCalmToServer, IsCalmToClient}
+use Rattle.tn_world.specs.relation.Ends.{AreSaid, SaysItems}
 use Rattle.tn_world.specs.relation.Pictures.{IsOffOrOn, ClientStays}
 use Rattle.tn_world.specs.relation.Relation.{Agrees}
-use Rattle.tn_world.proofs.Changing.{held_told, taken-agrees, beside-agrees, turned-agrees}
+use Rattle.tn_world.proofs.Changing.{taken-agrees, beside-agrees, turned-agrees}
 use Rattle.tn_world.proofs.Changing as changing
 use Rattle.tn_world.proofs.Engines.{client_turned, consent, client_consents, word_agrees, word_keeps_state}
 use Rattle.tn_world.proofs.Reading.{read_all-append}
 use Rattle.tn_world.proofs.Saying.{small, is-ack, key_all}
-use Rattle.tn_world.proofs.ClientWrites.{writes-none, writes-one, writes-append, writes-bytes, writes-hushed, writes-if, word-keeps, size-writes, word-answered}
+use Rattle.tn_world.proofs.ClientWrites.{writes-none, writes-one, writes-append, writes-bytes, writes-hushed, read-other, writes-if, word-keeps, size-writes, word-answered}
 use Rattle.tn_world.proofs.ClientWrites.{word-mode, IsChatter, chatter-mode, chatter-chars, chatter-answered, chatter-if, forward_of, forward-answered}
 use Rattle.tn_world.proofs.ClientWrites.{Forwards, Asks, Tells, calm-kinds, table_if, table-at, table-mode, table-chars, table-answered, said-mode, said-forward}
 
@@ -59,13 +56,13 @@ bits-mode mask =
     ap (λ (b : Bool). record { edit = b; trapsig = traps (mode_of mask) }) (ap (λ (n : ℕ). not (n == 0)) (and_assoc 1 mask 3))
     ∙ ap (λ (b : Bool). record { edit = edits mask; trapsig = b }) (ap (λ (n : ℕ). not (n == 0)) (and_assoc 2 mask 3))
 
--- and an acknowledgement keeps EDIT and TRAPSIG
-bits-ack : (n : ℕ) → n < 4 → bits (bit_or n 4) ≡ bits n
-bits-ack zero h = refl
-bits-ack (suc zero) h = refl
-bits-ack (suc (suc zero)) h = refl
-bits-ack (suc (suc (suc zero))) h = refl
-bits-ack (suc (suc (suc (suc n)))) h = absurd (omega arith)
+-- and an acknowledgement keeps EDIT
+edits-ack : (n : ℕ) → n < 4 → edits (bit_or n 4) ≡ edits n
+edits-ack zero h = refl
+edits-ack (suc zero) h = refl
+edits-ack (suc (suc zero)) h = refl
+edits-ack (suc (suc (suc zero))) h = refl
+edits-ack (suc (suc (suc (suc n)))) h = absurd (omega arith)
 
 -- A KEY says bytes of data, new lines and commands.
 pub key_said : (canon : Canon) (c : End) (key : ℕ) → AreSaid canon (says_key c key)
@@ -83,9 +80,9 @@ pub record Comes (canon : Canon) (c new : End) (out : List Item) : Type 0 where
   pub said : AreSaid canon out
   pub stays : ClientStays canon new
   pub agrees : (typed : List ℕ) (taken : List Entry) (v : Server) → Agrees canon typed taken v c
-      → Agrees canon typed taken (read_all canon v (server_items out)) new
+      → Agrees canon typed taken (read_all canon v out) new
 
-comes_by : (canon : Canon) (c new : End) (says : List machine.Item) (out : List Item) → SaysItems canon says out → ClientStays canon new
+comes_by : (canon : Canon) (c new : End) (says : List Item) (out : List Item) → SaysItems canon says out → ClientStays canon new
     → ((typed : List ℕ) (taken : List Entry) (v : Server) → Agrees canon typed taken v c → Agrees canon typed taken (read_all canon v says) new)
     → Comes canon c new out
 comes_by canon c new says out w stays agrees = record {
@@ -103,8 +100,8 @@ comes_then canon a b c x y f g = record {
   stays = g.stays;
   agrees = λ typed taken v h.
       subst (λ (u : Server). Agrees canon typed taken u c)
-      (sym (ap (read_all canon v) (map-append server_item x y) ∙ read_all-append canon v (server_items x) (server_items y)))
-      (g.agrees typed taken (read_all canon v (server_items x)) (f.agrees typed taken v h));
+      (sym (read_all-append canon v x y))
+      (g.agrees typed taken (read_all canon v x) (f.agrees typed taken v h));
 }
 
 -- AN ITEM
@@ -116,7 +113,7 @@ with_same : (b : Bool) (c : End) → changing.mode_by b b c c.mode ≡ c
 with_same true c = refl
 with_same false c = refl
 
-held-writes : (canon : Canon) (before after : Bool) (bs : List ℕ) → SaysItems canon (held_told before after bs) (end_of_edit_items before after bs)
+held-writes : (canon : Canon) (before after : Bool) (bs : List ℕ) → SaysItems canon (end_of_edit_items before after bs) (end_of_edit_items before after bs)
 held-writes canon true false bs = writes-bytes canon bs
 held-writes canon true true bs = writes-none canon
 held-writes canon false after bs = writes-none canon
@@ -149,9 +146,9 @@ sizes-write : (canon : Canon) (was on : Bool) (z : ℕ × ℕ) → SaysItems can
 sizes-write canon was on z = writes-if canon (on && not was) (size_items z) (size-writes canon z)
 
 consent-writes : (canon : Canon) (b : Bool) → canon.settings.chars ≡ standard_characters
-    → SaysItems canon (if b then [] else machine.linemode_on ∷ []) (word_items (consent b))
+    → SaysItems canon (if b then [] else Neg Will 34 ∷ []) (word_items (consent b))
 consent-writes canon true is = writes-none canon
-consent-writes canon false is = writes-one canon (Neg Will 34) machine.linemode_on tt (inr (refl, refl, is)) refl
+consent-writes canon false is = writes-one canon (Neg Will 34) tt (inr (refl, refl, is))
 
 turned-comes : (canon : Canon) (c : End) (b : Bool) → linemode c.options ≡ b → ClientStays canon c → canon.settings.chars ≡ standard_characters
     → Comes canon c (end_after_item c (Neg DoIt 34)) (says_got c (Neg DoIt 34))
@@ -180,13 +177,13 @@ turned-comes canon c b was k is = by_test b was
       limit = limit_with c (mode_at o c.mode (Neg DoIt 34)) ∙ k.limit;
     }
 
-    answered : (b : Bool) → linemode o ≡ b → SaysItems canon (if b then [] else machine.linemode_on ∷ [])
+    answered : (b : Bool) → linemode o ≡ b → SaysItems canon (if b then [] else Neg Will 34 ∷ [])
         (answer_items o c.mode c.table z (Neg DoIt 34))
     answered true was = writes-append canon [] [] (word_items (reply_to o DoIt 34)) (new_size_items (tells_size o) (tells_size later) z)
         (subst (λ (w : Option (Verb × ℕ)). SaysItems canon [] (word_items w))
         (sym (client_consents o k.agreed k.linemode ∙ ap consent was)) (consent-writes canon true is)) (sizes-write canon (tells_size o) (tells_size later) z)
-    answered false was = writes-append canon (machine.linemode_on ∷ []) [] (word_items (reply_to o DoIt 34)) (new_size_items (tells_size o) (tells_size later) z)
-        (subst (λ (w : Option (Verb × ℕ)). SaysItems canon (machine.linemode_on ∷ []) (word_items w))
+    answered false was = writes-append canon (Neg Will 34 ∷ []) [] (word_items (reply_to o DoIt 34)) (new_size_items (tells_size o) (tells_size later) z)
+        (subst (λ (w : Option (Verb × ℕ)). SaysItems canon (Neg Will 34 ∷ []) (word_items w))
         (sym (client_consents o k.agreed k.linemode ∙ ap consent was)) (consent-writes canon false is)) (sizes-write canon (tells_size o) (tells_size later) z)
 
     by_test : (b : Bool) → linemode o ≡ b → Comes canon c (end_after_item c (Neg DoIt 34)) (says_got c (Neg DoIt 34))
@@ -199,14 +196,14 @@ turned-comes canon c b was k is = by_test b was
         let new = end_after_item c (Neg DoIt 34) in
         let mask : mode_at o c.mode (Neg DoIt 34) ≡ 0 =
         ap (λ (b : Bool). if b then 0 else c.mode) (ap (λ (b : Bool). differ b (linemode later)) was ∙ on) in
-        let says = held_told (edits c.mode) (edits (mode_at o c.mode (Neg DoIt 34))) c.line.held ++ machine.linemode_on ∷ [] in
+        let says = end_of_edit_items (edits c.mode) (edits (mode_at o c.mode (Neg DoIt 34))) c.line.held ++ Neg Will 34 ∷ [] in
         comes_by canon c new says (says_got c (Neg DoIt 34))
-        (writes-append canon (held_told (edits c.mode) (edits (mode_at o c.mode (Neg DoIt 34))) c.line.held) (machine.linemode_on ∷ []) _ _
+        (writes-append canon (end_of_edit_items (edits c.mode) (edits (mode_at o c.mode (Neg DoIt 34))) c.line.held) (Neg Will 34 ∷ []) _ _
         (held-writes canon (edits c.mode) (edits (mode_at o c.mode (Neg DoIt 34))) c.line.held) (answered false was)) stays
         (λ typed taken v a.
         let raw = a.off was in
-        subst (λ (b : Bool). Agrees canon typed taken (read_all canon v (held_told b (edits (mode_at o c.mode (Neg DoIt 34))) c.line.held
-        ++ machine.linemode_on ∷ [])) new) (sym raw)
+        subst (λ (b : Bool). Agrees canon typed taken (read_all canon v (end_of_edit_items b (edits (mode_at o c.mode (Neg DoIt 34))) c.line.held
+        ++ Neg Will 34 ∷ [])) new) (sym raw)
         (turned-agrees canon typed taken v c was a new on
         (ap (after_with c (Neg DoIt 34)) mask
         ∙ ap (λ (b : Bool). record (changing.mode_by b false c 0) { options = new.options; forward = new.forward }) raw)))
@@ -237,8 +234,8 @@ chatter-still canon c q i =
     record { mask = chatter-mode c.mode q i; chars = chatter-chars c.table q i; answered = chatter-answered canon c.mode c.table q i }
 
 forward-still : (canon : Canon) (c : End) (f : Option Mask) (b : Bool) → Still canon c (if b then Some (forward_of f) else None)
-forward-still canon c (Some mask) true = record { mask = refl; chars = refl; answered = writes-hushed canon _ (forward-answered canon (Some mask) c.mode c.table) }
-forward-still canon c None true = record { mask = refl; chars = refl; answered = writes-hushed canon _ (forward-answered canon None c.mode c.table) }
+forward-still canon c (Some mask) true = record { mask = refl; chars = refl; answered = forward-answered canon (Some mask) c.mode c.table }
+forward-still canon c None true = record { mask = refl; chars = refl; answered = forward-answered canon None c.mode c.table }
 forward-still canon c f false = chatter-still canon c None tt
 
 table-still : (canon : Canon) (c : End) (b : Bool) → c.table ≡ standard_characters → Still canon c (table_if b)
@@ -261,10 +258,8 @@ sub-still canon c option params q k at still =
     still-comes canon c (Sub option params) s.mask refl s.answered (stays_sub canon c option params s.chars k)
 
 -- a mode that is asked for, by whether it is the one in force
-ack-writes : (canon : Canon) (n : ℕ) → n < 4 → SaysItems canon (mode_ack (bits n) ∷ []) (payload_items (payload.Mode (bit_or n 4)))
-ack-writes canon n fits =
-    writes-one canon (Sub 34 (parameters_of (payload.Mode (bit_or n 4)))) (mode_ack (bits n)) (omega arith) (is-ack n fits)
-    (ap (λ (m : Mode). mode_ack m) (bits-ack n fits))
+ack-writes : (canon : Canon) (n : ℕ) → n < 4 → SaysItems canon (payload_items (payload.Mode (bit_or n 4))) (payload_items (payload.Mode (bit_or n 4)))
+ack-writes canon n fits = writes-one canon (Sub 34 (parameters_of (payload.Mode (bit_or n 4)))) (omega arith) (is-ack n fits)
 
 module _ (canon : Canon) (c : End) (option : ℕ) (params : List ℕ) (mask : ℕ) (k : ClientStays canon c) (plain : is_acknowledged mask ≡ false)
     (askable : IsAskable canon.settings (bits mask)) where
@@ -290,17 +285,17 @@ module _ (canon : Canon) (c : End) (option : ℕ) (params : List ℕ) (mask : �
       let ends = λ (m : ℕ). end_of_edit_items (edits c.mode) (edits m) c.line.held in
       let answer : payload_answers c.mode c.table (payload_at c.options item) ≡ payload_items (payload.Mode (bit_or n 4)) =
       ap (payload_answers c.mode c.table) at ∙ ap mode_items (told false e) in
-      let says = held_told (edits c.mode) (edits n) c.line.held ++ mode_ack (bits n) ∷ [] in
+      let says = end_of_edit_items (edits c.mode) (edits n) c.line.held ++ payload_items (payload.Mode (bit_or n 4)) in
       comes_by canon c new says (says_got c item)
       (subst (λ (xs : List Item). SaysItems canon says xs)
       (sym (ap (λ (m : ℕ). ends m ++ payload_answers c.mode c.table (payload_at c.options item)) is ∙ ap (λ (xs : List Item). ends n ++ xs) answer))
-      (writes-append canon (held_told (edits c.mode) (edits n) c.line.held) (mode_ack (bits n) ∷ []) (ends n) (payload_items (payload.Mode (bit_or n 4)))
+      (writes-append canon (end_of_edit_items (edits c.mode) (edits n) c.line.held) (payload_items (payload.Mode (bit_or n 4))) (ends n) (payload_items (payload.Mode (bit_or n 4)))
       (held-writes canon (edits c.mode) (edits n) c.line.held) (ack-writes canon n (small mask))))
       (stays_sub canon c option params (ap (chars_by c.table) at) k)
       (λ typed taken v a.
       beside-agrees canon typed taken (read_all canon v says) (with_mode c n) new refl
       (ap (after_with c item) is)
-      (taken-agrees canon typed taken v c n on a (subst (IsAskable canon.settings) (sym (bits-mode mask)) askable)))
+      (taken-agrees canon typed taken v c n (bit_or n 4) on (edits-ack n (small mask)) a (subst (IsAskable canon.settings) (sym (bits-mode mask)) askable)))
 
   mode-comes : (b : Bool) → linemode c.options ≡ b → payload_of option params ≡ Some (payload.Mode mask)
       → Comes canon c (end_after_item c (Sub option params)) (says_got c (Sub option params))
@@ -364,22 +359,16 @@ resized-writes canon c width height = writes-if canon (tells_size c.options && n
     (size_items (width, height)) (size-writes canon (width, height))
 
 -- A COMMAND of the user: BRK is read as IP is, and AYT and NOP as what says nothing of lines
-command-writes : (canon : Canon) (c : Command) (says : machine.Item)
-    → ((v : machine.Server) → machine.read canon v (machine.command c) ≡ machine.read canon v says) → SaysItems canon (says ∷ []) (Cmd c ∷ [])
-command-writes canon c says is = record {
-  fit = All-cons Fits (Cmd c) [] tt (All-nil Fits);
-  calm = All-cons (IsCalmToServer canon.settings) (Cmd c) [] tt (All-nil (IsCalmToServer canon.settings));
-  says_so = is;
-}
+pub brk-writes : (canon : Canon) → SaysItems canon (Cmd command.Ip ∷ []) (Cmd command.Brk ∷ [])
+brk-writes canon =
+    let one = writes-one canon (Cmd command.Brk) tt tt in
+    record { fit = one.fit; calm = one.calm; says_so = λ v. refl }
 
-pub brk-writes : (canon : Canon) → SaysItems canon (machine.command command.Ip ∷ []) (Cmd command.Brk ∷ [])
-brk-writes canon = command-writes canon command.Brk (machine.command command.Ip) (λ v. refl)
-
-pub ip-writes : (canon : Canon) → SaysItems canon (machine.command command.Ip ∷ []) (Cmd command.Ip ∷ [])
-ip-writes canon = command-writes canon command.Ip (machine.command command.Ip) (λ v. refl)
+pub ip-writes : (canon : Canon) → SaysItems canon (Cmd command.Ip ∷ []) (Cmd command.Ip ∷ [])
+ip-writes canon = writes-one canon (Cmd command.Ip) tt tt
 
 pub ayt-writes : (canon : Canon) → SaysItems canon [] (Cmd command.Ayt ∷ [])
-ayt-writes canon = writes-hushed canon (Cmd command.Ayt ∷ []) (command-writes canon command.Ayt other (λ v. refl))
+ayt-writes canon = writes-hushed canon (Cmd command.Ayt) tt tt read-other
 
 pub nop-writes : (canon : Canon) → SaysItems canon [] (Cmd command.Nop ∷ [])
-nop-writes canon = writes-hushed canon (Cmd command.Nop ∷ []) (command-writes canon command.Nop other (λ v. refl))
+nop-writes canon = writes-hushed canon (Cmd command.Nop) tt tt read-other

@@ -1,9 +1,8 @@
 -- What a client end writes, and what that says to a server.
-use Rattle.std.proofs.Common.{◌≡◌, ◌≢◌, ◌⊎◌, inl, inr, ℕ, ◌==◌, Bool, true, false, not, ◌&&◌, Option, Some, None, List, [], ◌∷◌, ◌++◌, map, length, nat_le, ◌≤◌}
+use Rattle.std.proofs.Common.{◌≡◌, ◌≢◌, ◌⊎◌, inl, inr, ℕ, ◌==◌, Bool, true, false, not, ◌&&◌, ◌||◌, Option, Some, None, List, [], ◌∷◌, ◌++◌, map, length, nat_le, ◌≤◌}
 use Rattle.std.proofs.Common.{refl, sym, ap, ◌∙◌, if◌then◌else◌, subst, arith, append-nil}
 use Rattle.std.specs.Prelude.{All}
 use Rattle.std.proofs.lemmas.Bool.Decides.{nat_tests}
-use Rattle.std.proofs.lemmas.List.{map-append}
 use Rattle.std.proofs.lemmas.List.Elements.{All-nil, All-cons, All-append}
 use Rattle.tn_codes.specs.Payloads.{parameters_of}
 use Rattle.tn_codes.specs.PayloadOf.{payload_of}
@@ -22,16 +21,14 @@ use Rattle.tn_nvt.specs.Spelling.{Fits}
 use Rattle.tn_nvt.specs.declared.items.Item.{Item}
 use Rattle.tn_nvt.specs.declared.items.Item.TheVariants.{Byte, Neg, Sub}
 use Rattle.tn_option.specs.Options.{Options, options_after_word, reply_to, is_yes}
-use Rattle.tn_option.specs.QMethod.{side_of, cause_of}
 use Rattle.tn_option.specs.declared.q_method.Side.TheVariants.{Us}
-use Rattle.tn_option.proofs.lemmas.OptionLaws.{LeavesOthers-moved}
 use Rattle.tn_client.specs.Terms.{linemode, tells_size, payload_at, mode_by, mode_at, chars_by}
 use Rattle.tn_linemode.specs.Words.{differ, word_items, list_items}
 use Rattle.tn_client.specs.Replies.{byte_items, size_items, new_size_items, payload_answers, answer_items}
-use Rattle.tn_world.specs.relation.Machine as machine
-use Rattle.tn_world.specs.relation.Machine.{Server, read, read_item, read_all, byte, other, bytes, IsAskable}
-use Rattle.tn_world.specs.relation.Calm.{bits, IsCalmToServer, AsksCalmly, seen_word, server_item}
-use Rattle.tn_world.specs.relation.Ends.{server_items, SaysItems}
+use Rattle.tn_world.specs.relation.Machine.{Server, bits, read, read_all, IsAskable}
+use Rattle.tn_world.specs.relation.Calm.{IsCalmToServer, AsksCalmly}
+use Rattle.tn_world.specs.relation.Ends.{SaysItems}
+use Rattle.tn_world.proofs.Engines.{word_keeps_state}
 use Rattle.tn_world.proofs.Reading.{read_all-append}
 use Rattle.tn_world.proofs.ServerSteps.{Speaks, reply_speaks}
 
@@ -40,42 +37,37 @@ use Rattle.tn_world.proofs.ServerSteps.{Speaks, reply_speaks}
 pub writes-none : (canon : Canon) → SaysItems canon [] []
 writes-none canon = record { fit = All-nil Fits; calm = All-nil (IsCalmToServer canon.settings); says_so = λ v. refl }
 
-pub writes-one : (canon : Canon) (item : Item) (says : machine.Item) → Fits item → IsCalmToServer canon.settings item → server_item item ≡ says
-    → SaysItems canon (says ∷ []) (item ∷ [])
-writes-one canon item says f calm e = record {
+pub writes-one : (canon : Canon) (item : Item) → Fits item → IsCalmToServer canon.settings item → SaysItems canon (item ∷ []) (item ∷ [])
+writes-one canon item f calm = record {
   fit = All-cons Fits item [] f (All-nil Fits);
   calm = All-cons (IsCalmToServer canon.settings) item [] calm (All-nil (IsCalmToServer canon.settings));
-  says_so = λ v. ap (λ (i : machine.Item). read canon v i) e;
+  says_so = λ v. refl;
 }
 
-pub writes-append : (canon : Canon) (a b : List machine.Item) (x y : List Item) → SaysItems canon a x → SaysItems canon b y → SaysItems canon (a ++ b) (x ++ y)
+pub writes-append : (canon : Canon) (a b : List Item) (x y : List Item) → SaysItems canon a x → SaysItems canon b y → SaysItems canon (a ++ b) (x ++ y)
 writes-append canon a b x y h k = record {
   fit = All-append Fits x y h.fit k.fit;
   calm = All-append (IsCalmToServer canon.settings) x y h.calm k.calm;
   says_so = λ v.
-      ap (λ (xs : List machine.Item). read_all canon v xs) (map-append server_item x y)
-      ∙ read_all-append canon v (server_items x) (server_items y)
-      ∙ k.says_so (read_all canon v (server_items x))
+      read_all-append canon v x y
+      ∙ k.says_so (read_all canon v x)
       ∙ ap (λ (u : Server). read_all canon u b) (h.says_so v)
       ∙ sym (read_all-append canon v a b);
 }
 
-pub writes-bytes : (canon : Canon) (bs : List ℕ) → SaysItems canon (bytes bs) (byte_items bs)
+pub writes-bytes : (canon : Canon) (bs : List ℕ) → SaysItems canon (byte_items bs) (byte_items bs)
 writes-bytes canon [] = writes-none canon
-writes-bytes canon (b ∷ bs) = writes-append canon (byte b ∷ []) (bytes bs) (Byte b ∷ []) (byte_items bs) (writes-one canon (Byte b) (byte b) tt tt refl)
-    (writes-bytes canon bs)
+writes-bytes canon (b ∷ bs) = writes-append canon (Byte b ∷ []) (byte_items bs) (Byte b ∷ []) (byte_items bs) (writes-one canon (Byte b) tt tt) (writes-bytes canon bs)
 
--- what says nothing of lines leaves a server as it is
-read-other : (s : Canon) (v : Server) → read s v other ≡ v
-read-other s v = by_test v.failed refl
-  where
-    by_test : (b : Bool) → v.failed ≡ b → (if b then v else read_item s v other) ≡ v
-    by_test true e = refl
-    by_test false e = ap (λ (w : List Entry). record v { waiting = w; failed = false }) (append-nil v.waiting)
-        ∙ ap (λ (f : Bool). record v { failed = f }) (sym e)
+-- what leaves a server as it is says nothing of lines
+pub read-other : (v : Server) → record v { waiting = v.waiting ++ [] } ≡ v
+read-other v = ap (λ (w : List Entry). record v { waiting = w }) (append-nil v.waiting)
 
-pub writes-hushed : (canon : Canon) (out : List Item) → SaysItems canon (other ∷ []) out → SaysItems canon [] out
-writes-hushed canon out h = record { fit = h.fit; calm = h.calm; says_so = λ v. h.says_so v ∙ read-other canon v }
+pub writes-hushed : (canon : Canon) (item : Item) → Fits item → IsCalmToServer canon.settings item → ((v : Server) → read canon v item ≡ v)
+    → SaysItems canon [] (item ∷ [])
+writes-hushed canon item f calm is =
+    let one = writes-one canon item f calm in
+    record { fit = one.fit; calm = one.calm; says_so = is }
 
 pub writes-if : (canon : Canon) (b : Bool) (out : List Item) → SaysItems canon [] out → SaysItems canon [] (if b then out else [])
 writes-if canon true out h = h
@@ -83,22 +75,21 @@ writes-if canon false out h = writes-none canon
 
 -- AN OPTION WORD
 -- a word on another option than LINEMODE leaves LINEMODE as it is
-another : (code : ℕ) → (code == 34) ≡ false → 34 ≢ code
-another code e = λ same. let f : (34 == 34) ≡ false = subst (λ (n : ℕ). (n == 34) ≡ false) (sym same) e in cc
-
 pub word-keeps : (o : Options) (verb : Verb) (code : ℕ) → (code == 34) ≡ false → linemode (options_after_word o verb code) ≡ linemode o
-unfolding options_after_word
-word-keeps o verb code e = ap is_yes (LeavesOthers-moved o (side_of verb) code (cause_of verb) Us 34 (inl (another code e)))
+word-keeps o verb code e = ap is_yes (word_keeps_state o Us verb code e)
 
 -- and is answered on its own option
 word-writes : (canon : Canon) (code : ℕ) (w : Option (Verb × ℕ)) → (code == 34) ≡ false → Speaks code w → SaysItems canon [] (word_items w)
 word-writes canon code None e on = writes-none canon
-word-writes canon code (Some w) e on = writes-hushed canon (word_items (Some w))
-    (writes-one canon (Neg w.0 w.1) other tt (inl (ap (λ (n : ℕ). n == 34) on ∙ e)) (ap seen_word (ap (λ (n : ℕ). n == 34) on ∙ e)))
+word-writes canon code (Some w) e on =
+    let is : (w.1 == 34) ≡ false = ap (λ (n : ℕ). n == 34) on ∙ e in
+    writes-hushed canon (Neg w.0 w.1) tt (inl is)
+    (λ v. ap (λ (b : Bool). record v { linemode = b || v.linemode; edit = if b then v.linemode && v.edit else v.edit; waiting = v.waiting ++ [] }) is
+    ∙ read-other v)
 
 pub size-writes : (canon : Canon) (z : ℕ × ℕ) → SaysItems canon [] (size_items z)
 size-writes canon (width, height) =
-    writes-hushed canon (size_items (width, height)) (writes-one canon (Sub 31 (parameters_of (payload.Naws width height))) other (omega arith) tt refl)
+    writes-hushed canon (Sub 31 (parameters_of (payload.Naws width height))) (omega arith) tt read-other
 
 -- what answers such a word says nothing of lines
 pub word-answered : (canon : Canon) (o : Options) (m : ℕ) (c : Characters) (z : ℕ × ℕ) (verb : Verb) (code : ℕ) → (code == 34) ≡ false
@@ -152,15 +143,9 @@ abbrev pub forward_of : Option Mask → Payload
 forward_of (Some mask) = payload.ForwardOn mask
 forward_of None = payload.ForwardOff
 
-answered-other : (s : Settings) (f : Option Mask) → (m : ℕ) (c : Characters) → All Fits (payload_answers m c (Some (forward_of f)))
-    × All (IsCalmToServer s) (payload_answers m c (Some (forward_of f))) × (map server_item (payload_answers m c (Some (forward_of f))) ≡ other ∷ [])
-answered-other s (Some mask) m c = (All-cons Fits _ [] (omega arith) (All-nil Fits), All-cons (IsCalmToServer s) _ [] tt (All-nil (IsCalmToServer s)), refl)
-answered-other s None m c = (All-cons Fits _ [] (omega arith) (All-nil Fits), All-cons (IsCalmToServer s) _ [] tt (All-nil (IsCalmToServer s)), refl)
-
-pub forward-answered : (canon : Canon) (f : Option Mask) (m : ℕ) (c : Characters) → SaysItems canon (other ∷ []) (payload_answers m c (Some (forward_of f)))
-forward-answered canon f m c =
-    let a = answered-other canon.settings f m c in
-    record { fit = a.0; calm = a.1; says_so = λ v. ap (λ (xs : List machine.Item). read_all canon v xs) a.2 }
+pub forward-answered : (canon : Canon) (f : Option Mask) (m : ℕ) (c : Characters) → SaysItems canon [] (payload_answers m c (Some (forward_of f)))
+forward-answered canon (Some mask) m c = writes-hushed canon (Sub 34 (parameters_of payload.ForwardYes)) (omega arith) tt read-other
+forward-answered canon None m c = writes-hushed canon (Sub 34 (parameters_of payload.ForwardNo)) (omega arith) tt read-other
 
 pub chatter-answered : (canon : Canon) (m : ℕ) (c : Characters) (p : Option Payload) → IsChatter p → SaysItems canon [] (payload_answers m c p)
 chatter-answered canon m c p i = by_chatter (λ p. SaysItems canon [] (payload_answers m c p)) p i (writes-none canon) (λ _ _. writes-none canon)

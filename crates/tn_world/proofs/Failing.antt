@@ -2,7 +2,7 @@
 use Rattle.std.proofs.Common.{◌≡◌, inl, inr, ℕ, Bool, true, false, Option, Some, None, List, [], ◌∷◌, ◌++◌, length, min, take, drop, refl, sym, ap, ◌∙◌, if◌then◌else◌}
 use Rattle.std.proofs.Common.{subst, append-nil, append_assoc}
 use Rattle.std.specs.Prelude.{All, option_to_list}
-use Rattle.std.proofs.lemmas.List.{map-append, take-append-drop}
+use Rattle.std.proofs.lemmas.List.{take-append-drop}
 use Rattle.std.proofs.lemmas.List.Elements.{All-append}
 use Rattle.tn_discipline.specs.Canon.{Canon}
 use Rattle.tn_discipline.specs.Keys.{role_of_key}
@@ -31,9 +31,8 @@ use Rattle.tn_world.specs.Flight.{InFlight}
 use Rattle.tn_world.specs.Headline.{RunsQuietly, IsQuietEvent, PassesQuietly, NoneFailed, entries_made, local_entries}
 use Rattle.tn_streams.specs.Prefixes.{IsPrefixOf}
 use Rattle.tn_world.specs.Past.{HasPast}
-use Rattle.tn_world.specs.relation.Calm.{IsCalmToServer, IsCalmToClient, server_item}
+use Rattle.tn_world.specs.relation.Calm.{IsCalmToServer, IsCalmToClient}
 use Rattle.tn_client.specs.Steps.{end_after_items, says_items}
-use Rattle.tn_world.specs.relation.Ends.{server_items}
 use Rattle.tn_world.specs.relation.Machine.{Server, read_all}
 use Rattle.tn_world.specs.relation.Pictures.{server_core, ServerStays}
 use Rattle.tn_world.specs.relation.Relation.{IsRelated, IsBehind}
@@ -96,7 +95,7 @@ server_goes_on end e = by_test end.failed refl
 -- THE CLIENT SAYS NOTHING MORE
 pub related_behind : (s : Canon) (w : World) → IsRelated s w → IsBehind s w
 related_behind s w h =
-    let v = read_all s (server_core w.server) (server_items h.tied.items) in
+    let v = read_all s (server_core w.server) h.tied.items in
     record {
       items = h.tied.items;
       flight = h.tied.flight;
@@ -110,7 +109,7 @@ related_behind s w h =
 pub behind_begins : (s : Canon) (w : World) → IsBehind s w → Begins s w
 behind_begins s w h =
     let v = server_core w.server in
-    let items = server_items h.items in
+    let items = h.items in
     prefix_trans (entries_made w) (w.taken ++ (read_all s v items).waiting) (local_entries s w.typed)
     (prefix_after w.taken w.server.terminal.entries (read_all s v items).waiting (read-more s v items)) h.begins
 
@@ -119,7 +118,7 @@ behind_as : (s : Canon) (old new : World) → new.server ≡ old.server → new.
     → HasPast new → IsBehind s old → IsBehind s new
 behind_as s old new a b c d sound h =
     let Goes : List Entry → List ℕ → server.End → Type 0 = λ taken typed end.
-    IsPrefixOf (taken ++ (read_all s (server_core end) (server_items h.items)).waiting) (local_entries s typed) in
+    IsPrefixOf (taken ++ (read_all s (server_core end) h.items).waiting) (local_entries s typed) in
     record {
       items = h.items;
       flight =
@@ -134,28 +133,27 @@ behind_as s old new a b c d sound h =
 
 -- reading in two parts
 read_two : (s : Canon) (v : Server) (all xs ys : List Item) → all ≡ xs ++ ys
-    → read_all s v (server_items all) ≡ read_all s (read_all s v (server_items xs)) (server_items ys)
+    → read_all s v all ≡ read_all s (read_all s v xs) ys
 read_two s v all xs ys is =
-    ap (λ x. read_all s v x) (ap server_items is ∙ map-append server_item xs ys)
-    ∙ read_all-append s v (server_items xs) (server_items ys)
+    ap (read_all s v) is ∙ read_all-append s v xs ys
 
 -- a delivery to the server
-behind_reaches : (s : Canon) (old new : World) (n : ℕ) → old.server.failed ≡ false → HasPast new → DeliversToServer old n new → IsBehind s old → IsBehind s new
-behind_reaches s old new n runs sound t h =
+behind_reaches : (s : Canon) (old new : World) (n : ℕ) → HasPast new → DeliversToServer old n new → IsBehind s old → IsBehind s new
+behind_reaches s old new n sound t h =
     let f = t.feeds in
     let d = cut_at old.server.decoder new.server.decoder n old.to_server h.items f.items h.flight f.reads in
     let fit = (all_parts Fits f.items d.left (subst (λ l. All Fits l) d.all (flight_fits old.server.decoder old.to_server h.items h.flight))).0 in
     let calm = all_parts (IsCalmToServer s.settings) f.items d.left (subst (λ l. All (IsCalmToServer s.settings) l) d.all h.calm) in
-    let later = goes_on s old.server f.items h.server runs fit calm.0 in
-    let same : read_all s (server_core old.server) (server_items h.items) ≡ read_all s (server_core new.server) (server_items d.left) =
+    let later = goes_on s old.server f.items h.server fit calm.0 in
+    let same : read_all s (server_core old.server) h.items ≡ read_all s (server_core new.server) d.left =
     read_two s (server_core old.server) h.items f.items d.left d.all
-    ∙ ap (λ v. read_all s v (server_items d.left)) (sym (ap server_core f.step ∙ later.core)) in
+    ∙ ap (λ v. read_all s v d.left) (sym (ap server_core f.step ∙ later.core)) in
     record {
       items = d.left;
       flight = subst (λ (x : List ℕ). InFlight new.server.decoder x d.left) (ap (λ (w : World). w.to_server) (sym t.rest)) d.flight;
       calm = calm.1;
       begins =
-          subst (λ (w : World). IsPrefixOf (w.taken ++ (read_all s (server_core new.server) (server_items d.left)).waiting) (local_entries s w.typed))
+          subst (λ (w : World). IsPrefixOf (w.taken ++ (read_all s (server_core new.server) d.left).waiting) (local_entries s w.typed))
           (sym t.rest)
           (subst (λ (v : Server). IsPrefixOf (old.taken ++ v.waiting) (local_entries s old.typed)) same h.begins);
       server = stays_fed s (end_all_there old.server f.items) new.server f.step later.stays;
@@ -172,9 +170,9 @@ behind_asks s old new e plain sound t h =
           (subst (λ d. InFlight d old.to_server h.items) (sym (ap (λ (x : server.End). x.decoder) (call_keeps old.server e))) h.flight);
       calm = h.calm;
       begins =
-          subst (λ (w : World). IsPrefixOf (w.taken ++ (read_all s (server_core w.server) (server_items h.items)).waiting) (local_entries s w.typed))
+          subst (λ (w : World). IsPrefixOf (w.taken ++ (read_all s (server_core w.server) h.items).waiting) (local_entries s w.typed))
           (sym t.step)
-          (subst (λ (v : Server). IsPrefixOf (old.taken ++ (read_all s v (server_items h.items)).waiting) (local_entries s old.typed))
+          (subst (λ (v : Server). IsPrefixOf (old.taken ++ (read_all s v h.items).waiting) (local_entries s old.typed))
           (sym (core_call old.server e plain)) h.begins);
       server = subst (λ (w : World). ServerStays s w.server) (sym t.step) (stays_call s old.server e (calls e plain) h.server);
       past = sound;
@@ -183,7 +181,7 @@ behind_asks s old new e plain sound t h =
 -- an entry is asked for
 behind_takes : (s : Canon) (old new : World) → HasPast new → TakesEntry old new → IsBehind s old → IsBehind s new
 behind_takes s old new sound t h =
-    let items = server_items h.items in
+    let items = h.items in
     record {
       items = h.items;
       flight = subst (λ (w : World). InFlight w.server.decoder w.to_server h.items) (sym t) h.flight;
@@ -207,32 +205,32 @@ front_at old new n flight front back items got f is adds =
     (d.left, d.all)
 
 -- the server fails: those of its items that were done are the first of those in flight
-halted : (s : Canon) (old new : World) (n : ℕ) (fault : ServerFault) → old.server.failed ≡ false → ServerRefusesDelivery old n fault new → IsBehind s old
+halted : (s : Canon) (old new : World) (n : ℕ) (fault : ServerFault) → ServerRefusesDelivery old n fault new → IsBehind s old
     → server_answers.StopsWithin old.server (take n old.to_server) fault old.to_client new.to_client new.server → Begins s new
-halted s old new n fault runs r h x =
+halted s old new n fault r h x =
     let v = server_core old.server in
     let f = front_at old.server.decoder x.here n old.to_server x.front x.back h.items (x.done ++ x.left) h.flight x.whole x.reads in
     let all : h.items ≡ x.done ++ (x.left ++ f.0) = f.1 ∙ append_assoc x.done x.left f.0 in
     let fit = (all_parts Fits x.done (x.left ++ f.0) (subst (λ l. All Fits l) all (flight_fits old.server.decoder old.to_server h.items h.flight))).0 in
     let calm = (all_parts (IsCalmToServer s.settings) x.done (x.left ++ f.0) (subst (λ l. All (IsCalmToServer s.settings) l) all h.calm)).0 in
-    let here = read_all s v (server_items x.done) in
-    let there = read_all s here (server_items (x.left ++ f.0)) in
+    let here = read_all s v x.done in
+    let there = read_all s here (x.left ++ f.0) in
     let waits : new.server.terminal.entries ≡ here.waiting =
-    ap (λ (e : server.End). e.terminal.entries) x.step ∙ ap (λ (u : Server). u.waiting) (goes_on s old.server x.done h.server runs fit calm).core in
+    ap (λ (e : server.End). e.terminal.entries) x.step ∙ ap (λ (u : Server). u.waiting) (goes_on s old.server x.done h.server fit calm).core in
     let begins : IsPrefixOf (old.taken ++ there.waiting) (local_entries s old.typed) =
     subst (λ (u : Server). IsPrefixOf (old.taken ++ u.waiting) (local_entries s old.typed)) (read_two s v h.items x.done (x.left ++ f.0) all) h.begins in
     subst (λ (w : World). IsPrefixOf (w.taken ++ new.server.terminal.entries) (local_entries s w.typed)) (sym r.rest)
     (subst (λ (es : List Entry). IsPrefixOf (old.taken ++ es) (local_entries s old.typed)) (sym waits)
     (prefix_trans (old.taken ++ here.waiting) (old.taken ++ there.waiting) (local_entries s old.typed)
-    (prefix_after old.taken here.waiting there.waiting (read-more s here (server_items (x.left ++ f.0)))) begins))
+    (prefix_after old.taken here.waiting there.waiting (read-more s here (x.left ++ f.0))) begins))
 
 behind_halts : (s : Canon) (old new : World) (n : ℕ) (fault : ServerFault) → old.server.failed ≡ false → ServerRefusesDelivery old n fault new → IsBehind s old
     → Begins s new
 behind_halts s old new n fault runs r h = by_fault fault refl
   where
     by_fault : (f : ServerFault) → fault ≡ f → Begins s new
-    by_fault (server_faults.Pty f) is = halted s old new n fault runs r h (r.halts (subst IsOfItem (sym is) tt))
-    by_fault server_faults.Memory is = halted s old new n fault runs r h (r.halts (subst IsOfItem (sym is) tt))
+    by_fault (server_faults.Pty f) is = halted s old new n fault r h (r.halts (subst IsOfItem (sym is) tt))
+    by_fault server_faults.Memory is = halted s old new n fault r h (r.halts (subst IsOfItem (sym is) tt))
     by_fault server_faults.Failed is = opposite old.server.failed (Begins s new) (r.again is).0 runs
     by_fault (server_faults.Char f) is = absurd (subst IsOfPiece is r.is_fault)
     by_fault server_faults.NotOn is = absurd (subst IsOfPiece is r.is_fault)
@@ -254,19 +252,19 @@ behind_breaks s old new n fault none r h =
     let w = stops_front old.client x.done x.left x.part x.here x.back (x.cause bytes had at.reads) in
     let fit = (all_parts Fits said w.0 (subst (λ l. All Fits l) w.1 all.said.fit)).0 in
     let hushed = (all_parts (IsCalmToServer s.settings) said w.0 (subst (λ l. All (IsCalmToServer s.settings) l) w.1 all.said.calm)).0 in
-    let v = read_all s (server_core old.server) (server_items h.tied.items) in
-    let here = read_all s v (server_items said) in
-    let there = read_all s here (server_items w.0) in
+    let v = read_all s (server_core old.server) h.tied.items in
+    let here = read_all s v said in
+    let there = read_all s here w.0 in
     let made : old.taken ++ there.waiting ≡ local_entries s old.typed =
     ap (λ (u : Server). old.taken ++ u.waiting) (sym (read_two s v (says_items old.client got) said w.0 w.1))
-    ∙ agreed s old.typed old.taken (read_all s v (server_items (says_items old.client got))) (end_after_items old.client got)
+    ∙ agreed s old.typed old.taken (read_all s v (says_items old.client got)) (end_after_items old.client got)
     (all.agrees old.typed old.taken v h.tied.agrees) in
     let end : new.server ≡ old.server = ap (λ (u : World). u.server) r.rest in
-    let begins : IsPrefixOf (old.taken ++ (read_all s (server_core old.server) (server_items (h.tied.items ++ said))).waiting) (local_entries s old.typed) =
+    let begins : IsPrefixOf (old.taken ++ (read_all s (server_core old.server) (h.tied.items ++ said)).waiting) (local_entries s old.typed) =
     subst (λ (u : Server). IsPrefixOf (old.taken ++ u.waiting) (local_entries s old.typed))
     (sym (read_two s (server_core old.server) (h.tied.items ++ said) h.tied.items said refl))
     (prefix_trans (old.taken ++ here.waiting) (old.taken ++ there.waiting) (local_entries s old.typed)
-    (prefix_after old.taken here.waiting there.waiting (read-more s here (server_items w.0)))
+    (prefix_after old.taken here.waiting there.waiting (read-more s here w.0))
     (prefix_same (old.taken ++ there.waiting) (local_entries s old.typed) made)) in
     record {
       items = h.tied.items ++ said;
@@ -275,7 +273,7 @@ behind_breaks s old new n fault none r h =
           (said_behind old.server.decoder old.to_server new.to_server h.tied.items said x.said fit h.tied.flight);
       calm = All-append (IsCalmToServer s.settings) h.tied.items said h.tied.calm hushed;
       begins =
-          subst (λ (u : World). IsPrefixOf (u.taken ++ (read_all s (server_core u.server) (server_items (h.tied.items ++ said))).waiting)
+          subst (λ (u : World). IsPrefixOf (u.taken ++ (read_all s (server_core u.server) (h.tied.items ++ said)).waiting)
           (local_entries s u.typed)) (sym r.rest) begins;
       server = subst (λ (e : server.End). ServerStays s e) (sym end) h.server;
       past = sound_breaks old new n fault r h.past;
@@ -290,38 +288,38 @@ behind_unless s false old new happens sound done is h = done is
 gone_silent : (s : Canon) (old new : World) → old.client.failed ≡ true → old.client.failed ≡ false → IsBehind s new
 gone_silent s old new failed runs = opposite old.client.failed (IsBehind s new) failed runs
 
-behind_does : (s : Canon) (old new : World) (e : Event) → old.server.failed ≡ false → old.client.failed ≡ true → HasPast new → IsQuietEvent old e
+behind_does : (s : Canon) (old new : World) (e : Event) → old.client.failed ≡ true → HasPast new → IsQuietEvent old e
     → RunsEvent old e new → IsBehind s old → IsBehind s new
-behind_does s old new (Key key) runs failed sound quiet d h =
+behind_does s old new (Key key) failed sound quiet d h =
     behind_unless s old.client_stopped old new (TypesKey old key new) sound (λ t. gone_silent s old new failed (call_goes_on old.client t.accepted)) d h
-behind_does s old new (Send command) runs failed sound quiet d h =
+behind_does s old new (Send command) failed sound quiet d h =
     behind_unless s old.client_stopped old new (SendsCommand old command new) sound (λ t. gone_silent s old new failed (call_goes_on old.client t.accepted)) d h
-behind_does s old new (ToServer n) runs failed sound quiet d h =
-    behind_unless s old.server_stopped old new (DeliversToServer old n new) sound (λ t. behind_reaches s old new n runs sound t h) d h
-behind_does s old new (ToClient n) runs failed sound quiet d h =
+behind_does s old new (ToServer n) failed sound quiet d h =
+    behind_unless s old.server_stopped old new (DeliversToServer old n new) sound (λ t. behind_reaches s old new n sound t h) d h
+behind_does s old new (ToClient n) failed sound quiet d h =
     behind_unless s old.client_stopped old new (DeliversToClient old n new) sound (λ t. gone_silent s old new failed (call_goes_on old.client t.accepted)) d h
-behind_does s old new (Write bytes) runs failed sound quiet d h =
+behind_does s old new (Write bytes) failed sound quiet d h =
     behind_unless s old.server_stopped old new (CallsServer old (server_calls.wrote bytes) new) sound
     (λ t. behind_asks s old new (server_calls.wrote bytes) tt sound t h) d h
-behind_does s old new (Pull n) runs failed sound quiet d h =
+behind_does s old new (Pull n) failed sound quiet d h =
     behind_unless s old.server_stopped old new (Pulls old n new) sound (λ p. behind_asks s old new (server_calls.pulled (min n (length old.server.terminal.queue))) tt sound p h) d h
-behind_does s old new Take runs failed sound quiet d h = behind_takes s old new sound d h
-behind_does s old new (Wish editing) runs failed sound quiet d h =
+behind_does s old new Take failed sound quiet d h = behind_takes s old new sound d h
+behind_does s old new (Wish editing) failed sound quiet d h =
     behind_unless s old.server_stopped old new (CallsServer old (server_calls.wished editing) new) sound
     (λ t. behind_asks s old new (server_calls.wished editing) tt sound t h) d h
-behind_does s old new (Resize width height) runs failed sound quiet d h =
+behind_does s old new (Resize width height) failed sound quiet d h =
     behind_unless s old.client_stopped old new (CallsClient old (client_calls.resized width height) new) sound
     (λ t. gone_silent s old new failed (call_goes_on old.client t.accepted)) d h
-behind_does s old new (SetChar func value) runs failed sound quiet d h = absurd quiet
-behind_does s old new (Propose func value) runs failed sound quiet d h = absurd quiet
-behind_does s old new (Echo on) runs failed sound quiet d h = behind_unless s old.server_stopped old new (CallsServer old (server_calls.echo_set on) new) sound
+behind_does s old new (SetChar func value) failed sound quiet d h = absurd quiet
+behind_does s old new (Propose func value) failed sound quiet d h = absurd quiet
+behind_does s old new (Echo on) failed sound quiet d h = behind_unless s old.server_stopped old new (CallsServer old (server_calls.echo_set on) new) sound
     (λ t. behind_asks s old new (server_calls.echo_set on) tt sound t h) d h
-behind_does s old new (Mask mask) runs failed sound quiet d h = behind_unless s old.server_stopped old new
+behind_does s old new (Mask mask) failed sound quiet d h = behind_unless s old.server_stopped old new
     (CallsServer old (server_calls.mask_set mask) new) sound (λ t. behind_asks s old new (server_calls.mask_set mask) tt sound t h) d h
-behind_does s old new ServerStops runs failed sound quiet d h =
+behind_does s old new ServerStops failed sound quiet d h =
     behind_as s old new (ap (λ (w : World). w.server) d) (ap (λ (w : World). w.to_server) d) (ap (λ (w : World). w.typed) d)
     (ap (λ (w : World). w.taken) d) sound h
-behind_does s old new ClientStops runs failed sound quiet d h =
+behind_does s old new ClientStops failed sound quiet d h =
     behind_as s old new (ap (λ (w : World). w.server) d) (ap (λ (w : World). w.to_server) d) (ap (λ (w : World). w.typed) d)
     (ap (λ (w : World). w.taken) d) sound h
 
@@ -410,10 +408,10 @@ stage_begins s w (over failed sound p) = p
 stage_does : (s : Canon) (old new : World) (e : Event) → IsQuietEvent old e → RunsEvent old e new → Stage s old → Stage s new
 stage_does s old new e quiet d (both none h) =
     let same = does_keeps old new e d in
-    both (same.0 ∙ none.0, same.1 ∙ none.1) (holds_does s old new e none (sound_does old new e d h.past) quiet d h)
+    both (same.0 ∙ none.0, same.1 ∙ none.1) (holds_does s old new e (sound_does old new e d h.past) quiet d h)
 stage_does s old new e quiet d (silent runs failed h) =
     let same = does_keeps old new e d in
-    silent (same.0 ∙ runs) (same.1 ∙ failed) (behind_does s old new e runs failed (sound_does old new e d h.past) quiet d h)
+    silent (same.0 ∙ runs) (same.1 ∙ failed) (behind_does s old new e failed (sound_does old new e d h.past) quiet d h)
 stage_does s old new e quiet d (over failed sound p) =
     let same = does_keeps old new e d in
     over (same.0 ∙ failed) (sound_does old new e d sound) (begins_does s old new e failed sound quiet d p)

@@ -30,7 +30,6 @@ use Rattle.tn_world.proofs.Interrupting.{interrupts_there}
 use Rattle.tn_world.specs.Past.{HasPast}
 use Rattle.tn_world.specs.Headline.{RunsQuietly, IsQuietEvent, PassesQuietly, NoneFailed}
 use Rattle.tn_world.specs.relation.Calm.{IsCalmToServer}
-use Rattle.tn_world.specs.relation.Machine as machine
 use Rattle.tn_world.specs.relation.Ends.{AreReplies, SaysItems}
 use Rattle.tn_world.specs.Flight.{InFlight}
 use Rattle.tn_world.specs.relation.Pictures.{server_core, server_picture, ServerStays, ClientStays}
@@ -97,7 +96,7 @@ role_kept s w key past k =
 
 holds_interrupts : (s : Canon) (old new : World) (sending : UserCommand) (key : ℕ) → HasPast new → SendsCommand old sending new
     → key_sent old sending ≡ Some key → role_of_key (canon_of old).settings key ≡ role.Signal Int
-    → SaysItems s (machine.command command.Ip ∷ []) (Cmd (command_sent sending) ∷ []) → IsRelated s old → IsRelated s new
+    → SaysItems s (Cmd command.Ip ∷ []) (Cmd (command_sent sending) ∷ []) → IsRelated s old → IsRelated s new
 holds_interrupts s old new sending key sound t is interrupts writes h =
     let said = Cmd (command_sent sending) ∷ [] in
     record {
@@ -186,13 +185,13 @@ holds_takes s old new sound t h =
     }
 
 -- a delivery to the server
-holds_reaches : (s : Canon) (old new : World) (n : ℕ) → NoneFailed old → HasPast new → DeliversToServer old n new → IsRelated s old → IsRelated s new
-holds_reaches s old new n none sound t h =
+holds_reaches : (s : Canon) (old new : World) (n : ℕ) → HasPast new → DeliversToServer old n new → IsRelated s old → IsRelated s new
+holds_reaches s old new n sound t h =
     let f = t.feeds in
     let d = cut_at old.server.decoder new.server.decoder n old.to_server h.tied.items f.items h.tied.flight f.reads in
     let fit = (all_parts Fits f.items d.left (subst (λ l. All Fits l) d.all (flight_fits old.server.decoder old.to_server h.tied.items h.tied.flight))).0 in
     let calm = (all_parts (IsCalmToServer s.settings) f.items d.left (subst (λ l. All (IsCalmToServer s.settings) l) d.all h.tied.calm)).0 in
-    let later = server_steps.goes_on s old.server f.items h.server none.0 fit calm in
+    let later = server_steps.goes_on s old.server f.items h.server fit calm in
     let said = says_all_there old.server f.items in
     record {
       tied =
@@ -242,32 +241,32 @@ holds_stops s old new a b is sound h =
     }
 
 -- an event that is done
-pub holds_does : (s : Canon) (old new : World) (e : Event) → NoneFailed old → HasPast new → IsQuietEvent old e → RunsEvent old e new → IsRelated s old
+pub holds_does : (s : Canon) (old new : World) (e : Event) → HasPast new → IsQuietEvent old e → RunsEvent old e new → IsRelated s old
     → IsRelated s new
-holds_does s old new (Key key) none sound quiet d h = unless s old.client_stopped old new (TypesKey old key new) (holds_types s old new key sound) d h
-holds_does s old new (Send command) none sound quiet d h = unless s old.client_stopped old new (SendsCommand old command new)
+holds_does s old new (Key key) sound quiet d h = unless s old.client_stopped old new (TypesKey old key new) (holds_types s old new key sound) d h
+holds_does s old new (Send command) sound quiet d h = unless s old.client_stopped old new (SendsCommand old command new)
     (holds_sends s old new command sound quiet) d h
-holds_does s old new (ToServer n) none sound quiet d h = unless s old.server_stopped old new (DeliversToServer old n new)
-    (holds_reaches s old new n none sound) d h
-holds_does s old new (ToClient n) none sound quiet d h = unless s old.client_stopped old new (DeliversToClient old n new)
+holds_does s old new (ToServer n) sound quiet d h = unless s old.server_stopped old new (DeliversToServer old n new)
+    (holds_reaches s old new n sound) d h
+holds_does s old new (ToClient n) sound quiet d h = unless s old.client_stopped old new (DeliversToClient old n new)
     (holds_returns s old new n sound) d h
-holds_does s old new (Write bytes) none sound quiet d h = unless s old.server_stopped old new (CallsServer old (server_calls.wrote bytes) new)
+holds_does s old new (Write bytes) sound quiet d h = unless s old.server_stopped old new (CallsServer old (server_calls.wrote bytes) new)
     (holds_asks s old new (server_calls.wrote bytes) tt sound) d h
-holds_does s old new (Pull n) none sound quiet d h =
+holds_does s old new (Pull n) sound quiet d h =
     unless s old.server_stopped old new (Pulls old n new) (holds_asks s old new (server_calls.pulled (min n (length old.server.terminal.queue))) tt sound) d h
-holds_does s old new Take none sound quiet d h = holds_takes s old new sound d h
-holds_does s old new (Wish editing) none sound quiet d h = unless s old.server_stopped old new (CallsServer old (server_calls.wished editing) new)
+holds_does s old new Take sound quiet d h = holds_takes s old new sound d h
+holds_does s old new (Wish editing) sound quiet d h = unless s old.server_stopped old new (CallsServer old (server_calls.wished editing) new)
     (holds_asks s old new (server_calls.wished editing) tt sound) d h
-holds_does s old new (Resize width height) none sound quiet d h =
+holds_does s old new (Resize width height) sound quiet d h =
     unless s old.client_stopped old new (CallsClient old (client_calls.resized width height) new) (holds_resizes s old new width height sound) d h
-holds_does s old new (SetChar func value) none sound quiet d h = absurd (quiet)
-holds_does s old new (Propose func value) none sound quiet d h = absurd (quiet)
-holds_does s old new (Echo on) none sound quiet d h = unless s old.server_stopped old new (CallsServer old (server_calls.echo_set on) new)
+holds_does s old new (SetChar func value) sound quiet d h = absurd (quiet)
+holds_does s old new (Propose func value) sound quiet d h = absurd (quiet)
+holds_does s old new (Echo on) sound quiet d h = unless s old.server_stopped old new (CallsServer old (server_calls.echo_set on) new)
     (holds_asks s old new (server_calls.echo_set on) tt sound) d h
-holds_does s old new (Mask mask) none sound quiet d h = unless s old.server_stopped old new (CallsServer old (server_calls.mask_set mask) new)
+holds_does s old new (Mask mask) sound quiet d h = unless s old.server_stopped old new (CallsServer old (server_calls.mask_set mask) new)
     (holds_asks s old new (server_calls.mask_set mask) tt sound) d h
-holds_does s old new ServerStops none sound quiet d h = holds_stops s old new true old.client_stopped d sound h
-holds_does s old new ClientStops none sound quiet d h = holds_stops s old new old.server_stopped true d sound h
+holds_does s old new ServerStops sound quiet d h = holds_stops s old new true old.client_stopped d sound h
+holds_does s old new ClientStops sound quiet d h = holds_stops s old new old.server_stopped true d sound h
 
 -- An event that is done fails no end, so that no end had failed before where none has now.
 abbrev pub FailsNone : World → World → Type 0
@@ -341,7 +340,7 @@ passes_ran old new [] p none = both_ran old new (as_before old new p) none
 passes_ran old new (e ∷ events) p none = occurs_ran old p.0 e p.1 (passes_ran p.0 new events p.2 none)
 
 holds_occurs : (s : Canon) (old new : World) (e : Event) → NoneFailed new → RunsQuietly old e new → IsRelated s old → IsRelated s new
-holds_occurs s old new e none (inl d) h = holds_does s old new e (both_ran old new (does_keeps old new e d.1) none) (sound_does old new e d.1 h.past) d.0 d.1 h
+holds_occurs s old new e none (inl d) h = holds_does s old new e (sound_does old new e d.1 h.past) d.0 d.1 h
 holds_occurs s old new e none (inr r) h = holds_as s old new (refused_same old new e r.0 r.1 none) h
 
 pub holds_passes : (s : Canon) (old new : World) (events : List Event) → NoneFailed new → PassesQuietly old events new → IsRelated s old → IsRelated s new

@@ -11,9 +11,9 @@ use Rattle.tn_server.specs.Terms as terms
 use Rattle.tn_server.specs.Terms.{asked_mask_while, allows_local}
 use Rattle.tn_client.specs.Terms as client_terms
 use Rattle.tn_world.specs.Headline.{IsMark, AgreeOnLinemode}
-use Rattle.tn_world.specs.relation.Calm.{bits, IsCalmToServer, IsCalmToClient}
+use Rattle.tn_world.specs.relation.Calm.{IsCalmToServer, IsCalmToClient}
 use Rattle.tn_world.specs.Flight.{InFlight}
-use Rattle.tn_world.specs.relation.Machine.{IsAskable}
+use Rattle.tn_world.specs.relation.Machine.{bits, IsAskable}
 use Rattle.tn_world.specs.relation.Pictures.{server_core, NeverEnds, IsAllowed, IsOffOrOn}
 use Rattle.tn_world.specs.Worlds.{World}
 use Rattle.tn_world.proofs.Cut.{no_items}
@@ -83,14 +83,13 @@ mark_off s w m off =
     ∙ sym (agreed_linemode w m.settled.agreed.linemode) ∙ off in
     ap edits (sym mask) ∙ ap (λ (l : Bool). edits (asked_mask_while l (terms.terms h).wish)) there
 
-pub core_is : (l k e f b : Bool) (half : List ℕ) (entries : List Entry) → l ≡ k → e ≡ f → half ≡ [] → entries ≡ [] → b ≡ false
-    → record { linemode = l; edit = e; half = half; waiting = entries; failed = b } ≡ server_at k f [] []
-core_is l k e f b half entries o p q r t =
-    ap (λ x. record { linemode = x; edit = e; half = half; waiting = entries; failed = b }) o
-    ∙ ap (λ x. record { linemode = k; edit = x; half = half; waiting = entries; failed = b }) p
-    ∙ ap (λ x. record { linemode = k; edit = f; half = x; waiting = entries; failed = b }) q
-    ∙ ap (λ x. record { linemode = k; edit = f; half = []; waiting = x; failed = b }) r
-    ∙ ap (λ x. record { linemode = k; edit = f; half = []; waiting = []; failed = x }) t
+pub core_is : (l k e f : Bool) (half : List ℕ) (entries : List Entry) → l ≡ k → e ≡ f → half ≡ [] → entries ≡ []
+    → record { linemode = l; edit = e; half = half; waiting = entries } ≡ server_at k f [] []
+core_is l k e f half entries o p q r =
+    ap (λ x. record { linemode = x; edit = e; half = half; waiting = entries }) o
+    ∙ ap (λ x. record { linemode = k; edit = x; half = half; waiting = entries }) p
+    ∙ ap (λ x. record { linemode = k; edit = f; half = x; waiting = entries }) q
+    ∙ ap (λ x. record { linemode = k; edit = f; half = []; waiting = x }) r
 
 mark_agrees : (s : Canon) (w : World) → IsMark s w → Agrees s w.typed w.taken (server_core w.server) w.client
 mark_agrees s w m =
@@ -100,8 +99,8 @@ mark_agrees s w m =
     subst (λ x. Agrees s x w.taken (server_core w.server) c) (sym m.typed)
     (subst (λ x. Agrees s [] x (server_core w.server) c) (sym m.taken)
     (subst (λ x. Agrees s [] [] x c) (sym (core_is (terms.linemode w.server.terms.options) l (edits w.server.modes.current)
-    (edits c.mode) w.server.failed w.server.terminal.line.held w.server.terminal.entries (sym (agreed_linemode w settled.agreed.linemode))
-    (ap edits settled.agreed.mask.1) settled.empty.half settled.empty.waiting settled.idle.server_failed))
+    (edits c.mode) w.server.terminal.line.held w.server.terminal.entries (sym (agreed_linemode w settled.agreed.linemode))
+    (ap edits settled.agreed.mask.1) settled.empty.half settled.empty.waiting))
     (rest-agrees s c (mark_askable s w m) (mark_off s w m) settled.empty.held settled.empty.ahead settled.empty.counts.0 settled.empty.counts.1)))
 
 pub mark_holds : (s : Canon) (w : World) → IsMark s w → IsRelated s w

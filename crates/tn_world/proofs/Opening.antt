@@ -26,8 +26,8 @@ use Rattle.tn_world.specs.Opened.{IsOpened}
 use Rattle.tn_world.specs.Past.{HasPast}
 use Rattle.tn_world.specs.Flight.{InFlight}
 use Rattle.tn_world.specs.Worlds.{World}
-use Rattle.tn_world.specs.relation.Calm.{bits, IsCalmToServer, IsCalmToClient}
-use Rattle.tn_world.specs.relation.Machine.{Server}
+use Rattle.tn_world.specs.relation.Calm.{IsCalmToServer, IsCalmToClient}
+use Rattle.tn_world.specs.relation.Machine.{Server, bits}
 use Rattle.tn_world.specs.relation.Pictures.{server_core, NeverEnds, IsFlagged, IsOffOrOn, ServerStays, ClientStays}
 use Rattle.tn_world.specs.relation.Relation.{Agrees, IsRelated}
 use Rattle.tn_world.proofs.Bodies.{open_sound}
@@ -79,18 +79,18 @@ client_kept s width height c begins standard = record {
   limit = begins.limit;
 }
 
-pub begun_agrees : (s : Canon) (width height : ℕ) (v : server.End) (c : client.End) → server.LeadsTo (server_calls.begun s) v → v.failed ≡ false
+pub begun_agrees : (s : Canon) (width height : ℕ) (v : server.End) (c : client.End) → server.LeadsTo (server_calls.begun s) v
     → client.LeadsTo (client_calls.begun width height s.limit) c → Agrees s [] [] (server_core v) c
-begun_agrees s width height v c stands works begins =
+begun_agrees s width height v c stands begins =
     let h = client_calls.begun width height s.limit in
     let start = server_calls.begun s in
     let off : client_terms.linemode c.options ≡ false = ap client_terms.linemode begins.options ∙ off_here in
     let raw : edits c.mode ≡ false = ap edits begins.mode in
     let none : server_terms.linemode v.terms.options ≡ false = ap (λ (t : server_terms.Terms). server_terms.linemode t.options) stands.terms ∙ off_there in
     subst (λ (x : Server). Agrees s [] [] x c)
-    (sym (core_is (server_terms.linemode v.terms.options) (client_terms.linemode c.options) (edits v.modes.current) (edits c.mode) v.failed
+    (sym (core_is (server_terms.linemode v.terms.options) (client_terms.linemode c.options) (edits v.modes.current) (edits c.mode)
     v.terminal.line.held v.terminal.entries (none ∙ sym off) (ap (λ (m : Modes). edits m.current) stands.modes ∙ sym raw)
-    (ap (λ (l : HalfLine). l.held) (line_is start v stands)) (sym (waits_are start v stands)) works))
+    (ap (λ (l : HalfLine). l.held) (line_is start v stands)) (sym (waits_are start v stands))))
     (rest-agrees s c (inl (ap bits begins.mode)) (λ e. raw) (held_is h c begins) begins.ahead begins.trapped begins.plain)
 
 -- the ends of a world that was just opened
@@ -121,7 +121,7 @@ opened_agrees s width height w o =
     let f = fresh s width height w o in
     subst (λ x. Agrees s x w.taken (server_core w.server) w.client) (sym (ap (λ (x : World). x.typed) o.rest))
     (subst (λ x. Agrees s [] x (server_core w.server) w.client) (sym (ap (λ (x : World). x.taken) o.rest))
-    (begun_agrees s width height w.server w.client f.there o.server_runs f.here))
+    (begun_agrees s width height w.server w.client f.there f.here))
 
 pub opened_holds : (s : Canon) (width height : ℕ) (w : World) → s.settings.chars ≡ standard_characters → IsOpened s width height w → IsRelated s w
 opened_holds s width height w standard o =

@@ -4,7 +4,9 @@ use Rattle.tn_discipline.specs.declared.reads.Entry.{Entry}
 use Rattle.tn_discipline.specs.Canon.{Canon, typed_entries}
 use Rattle.tn_discipline.specs.Steps.{gain_next}
 use Rattle.tn_client.specs.Calls.{End}
-use Rattle.tn_world.specs.relation.Machine.{Item, Server, item_role, read, read_item, read_all}
+use Rattle.tn_nvt.specs.declared.items.Item.{Item}
+use Rattle.tn_server.specs.Lines.{role_at}
+use Rattle.tn_world.specs.relation.Machine.{Server, read, read_all}
 use Rattle.tn_streams.specs.Prefixes.{IsPrefixOf}
 use Rattle.tn_world.specs.relation.Relation.{Agrees}
 
@@ -19,27 +21,19 @@ pub prefix_same : (xs ys : List Entry) → xs ≡ ys → IsPrefixOf xs ys
 prefix_same xs ys e = ([], append-nil xs ∙ e)
 
 -- items only add entries
-one_by_test : (s : Canon) (v : Server) (i : Item) (b : Bool) → IsPrefixOf v.waiting (if b then v else read_item s v i).waiting
-one_by_test s v i true = prefix_same v.waiting v.waiting refl
-one_by_test s v i false = (gain_next s.limit v.half (item_role s.settings v.edit i), refl)
-
 pub read-more : (s : Canon) (v : Server) (items : List Item) → IsPrefixOf v.waiting (read_all s v items).waiting
 read-more s v [] = prefix_same v.waiting v.waiting refl
-read-more s v (i ∷ items) = prefix_trans v.waiting (read s v i).waiting (read_all s (read s v i) items).waiting (one_by_test s v i v.failed)
-    (read-more s (read s v i) items)
+read-more s v (i ∷ items) =
+    prefix_trans v.waiting (read s v i).waiting (read_all s (read s v i) items).waiting
+    (gain_next s.limit v.half (role_at s.settings v.edit i), refl) (read-more s (read s v i) items)
 
 -- an entry before those that wait stays before them
 abbrev fronted : Entry → Server → Server
 fronted x v = record v { waiting = x ∷ v.waiting }
 
-fronted_by_test : (s : Canon) (x : Entry) (v : Server) (i : Item) (b : Bool)
-    → (if b then fronted x v else read_item s (fronted x v) i) ≡ fronted x (if b then v else read_item s v i)
-fronted_by_test s x v i true = refl
-fronted_by_test s x v i false = refl
-
 read-fronted : (s : Canon) (x : Entry) (v : Server) (items : List Item) → read_all s (fronted x v) items ≡ fronted x (read_all s v items)
 read-fronted s x v [] = refl
-read-fronted s x v (i ∷ items) = ap (λ u. read_all s u items) (fronted_by_test s x v i v.failed) ∙ read-fronted s x (read s v i) items
+read-fronted s x v (i ∷ items) = read-fronted s x (read s v i) items
 
 pub agreed : (canon : Canon) (typed : List ℕ) (taken : List Entry) (v : Server) (c : End) → Agrees canon typed taken v c
     → taken ++ v.waiting ≡ typed_entries canon typed
@@ -73,21 +67,10 @@ taken-waits s v taken items = go v.waiting refl
         ∙ ap (λ (u : Server). taken ++ u.waiting) (sym (popped s v items x entries is))
 
 -- nothing else depends on those that wait
-one-others : (s : Canon) (v : Server) (entries : List Entry) (i : Item) (b : Bool)
-    → (if b then record v { waiting = entries } else read_item s (record v { waiting = entries }) i)
-    ≡ record (if b then v else read_item s v i)
-    { waiting = (if b then record v { waiting = entries } else read_item s (record v { waiting = entries }) i).waiting }
-one-others s v entries i true = refl
-one-others s v entries i false = refl
-
 read-others : (s : Canon) (v : Server) (entries : List Entry) (items : List Item) → read_all s (record v { waiting = entries }) items
     ≡ record (read_all s v items) { waiting = (read_all s (record v { waiting = entries }) items).waiting }
 read-others s v entries [] = refl
-read-others s v entries (i ∷ items) =
-    let one = one-others s v entries i v.failed in
-    let later = (read s (record v { waiting = entries }) i).waiting in
-    ap (λ u. read_all s u items) one ∙ read-others s (read s v i) later items
-    ∙ ap (λ u. record (read_all s (read s v i) items) { waiting = (read_all s u items).waiting }) (sym one)
+read-others s v entries (i ∷ items) = read-others s (read s v i) (entries ++ gain_next s.limit v.half (role_at s.settings v.edit i)) items
 
 pub take-agrees : (canon : Canon) (typed : List ℕ) (taken : List Entry) (v : Server) (c : End) (items : List Item)
     → Agrees canon typed taken (read_all canon v items) c → Agrees canon typed (taken ++ take 1 v.waiting) (read_all canon (without_first v) items) c

@@ -15,7 +15,10 @@ use Rattle.tn_discipline.specs.declared.keys.Role.{Role}
 use Rattle.tn_discipline.specs.declared.keys.Role.TheVariants as role
 use Rattle.tn_discipline.proofs.lemmas.Histories.{half-next, entries-next}
 use Rattle.tn_discipline.proofs.lemmas.KeyRoles.{roles_of-append, roles_of-one}
-use Rattle.tn_world.specs.relation.Machine.{Item, byte, Server, read, read_all, bytes}
+use Rattle.tn_nvt.specs.declared.items.Item.{Item}
+use Rattle.tn_nvt.specs.declared.items.Item.TheVariants.{Byte}
+use Rattle.tn_client.specs.Replies.{byte_items}
+use Rattle.tn_world.specs.relation.Machine.{Server, read, read_all}
 use Rattle.tn_world.specs.relation.Relation.{AreOrdinary, server_at}
 
 -- both parts
@@ -42,7 +45,7 @@ not_full : (limit n : ℕ) → n < max_counted limit → (n == max_counted limit
 not_full limit n h = grind arith
 
 read-byte : (s : Canon) (l : Bool) (h : List ℕ) (w : List Entry) (b : ℕ) → literal_role s.settings.chars b ≡ role.Ordinary b → length h < max_counted s.limit
-    → read s (server_at l true h w) (byte b) ≡ server_at l true (h ++ b ∷ []) w
+    → read s (server_at l true h w) (Byte b) ≡ server_at l true (h ++ b ∷ []) w
 read-byte s l h w b plain fits =
     ap (λ r. server_at l true (half_next s.limit h r) (w ++ gain_next s.limit h r)) plain
     ∙ ap (λ (t : Bool). server_at l true (if t then h else h ++ b ∷ []) (w ++ (if t then [] else []))) (not_full s.limit (length h) fits)
@@ -50,18 +53,18 @@ read-byte s l h w b plain fits =
 
 -- ordinary bytes that fit are all kept
 pub read-bytes : (s : Canon) (l : Bool) (h : List ℕ) (w : List Entry) (bs : List ℕ) → AreOrdinary s.settings.chars bs
-    → length h + length bs ≤ max_counted s.limit → read_all s (server_at l true h w) (bytes bs) ≡ server_at l true (h ++ bs) w
+    → length h + length bs ≤ max_counted s.limit → read_all s (server_at l true h w) (byte_items bs) ≡ server_at l true (h ++ bs) w
 read-bytes s l h w [] plain fits = ap (λ x. server_at l true x w) (sym (append-nil h))
 read-bytes s l h w (b ∷ bs) plain fits =
-    ap (λ v. read_all s v (bytes bs)) (read-byte s l h w b plain.0 (omega arith))
+    ap (λ v. read_all s v (byte_items bs)) (read-byte s l h w b plain.0 (omega arith))
     ∙ read-bytes s l (h ++ b ∷ []) w bs plain.1 (omega (arith, length-append h (b ∷ [])))
     ∙ ap (λ x. server_at l true x w) (append_assoc h (b ∷ []) bs)
 
 -- ordinary bytes, and one more item
 pub read-bytes_then : (s : Canon) (l : Bool) (h : List ℕ) (w : List Entry) (bs : List ℕ) (item : Item) → AreOrdinary s.settings.chars bs
-    → length h + length bs ≤ max_counted s.limit → read_all s (server_at l true h w) (bytes bs ++ item ∷ []) ≡ read s (server_at l true (h ++ bs) w) item
+    → length h + length bs ≤ max_counted s.limit → read_all s (server_at l true h w) (byte_items bs ++ item ∷ []) ≡ read s (server_at l true (h ++ bs) w) item
 read-bytes_then s l h w bs item plain fits =
-    read_all-append s (server_at l true h w) (bytes bs) (item ∷ []) ∙ ap (λ v. read s v item) (read-bytes s l h w bs plain fits)
+    read_all-append s (server_at l true h w) (byte_items bs) (item ∷ []) ∙ ap (λ v. read s v item) (read-bytes s l h w bs plain fits)
 
 -- one more key at a local terminal
 pub half-role : (limit : ℕ) (h : List Role) (r : Role) → half_of limit (h ++ roles_from r) ≡ half_next limit (half_of limit h) r

@@ -1,5 +1,5 @@
 -- What a server end does after a mark: with items that are calm, and with its owner's calls.
-use Rattle.std.proofs.Common.{◌≡◌, ◌≢◌, ◌≤◌, inl, inr, ℕ, ◌+◌, ◌==◌, nat_lt, nat_le, Bool, true, false, not, ◌&&◌, Option, Some, None, Result, Ok, Err, List, []}
+use Rattle.std.proofs.Common.{◌≡◌, ◌≢◌, ◌≤◌, inl, inr, ℕ, ◌+◌, ◌==◌, nat_lt, nat_le, Bool, true, false, not, ◌&&◌, ◌||◌, Option, Some, None, Result, Ok, Err, List, []}
 use Rattle.std.proofs.Common.{◌∷◌, ◌++◌, length, take, map, refl, sym, ap, ◌∙◌, if◌then◌else◌, subst, arith, append-nil}
 use Rattle.std.specs.Prelude.{All}
 use Rattle.std.proofs.lemmas.Bool.{eqb-false, lt-ltb}
@@ -48,7 +48,6 @@ use Rattle.tn_option.specs.declared.q_method.OptionEvent.TheVariants.{HeardOn, H
 use Rattle.tn_option.specs.declared.q_method.Side.{Side}
 use Rattle.tn_option.specs.declared.q_method.QState.TheVariants.{Yes}
 use Rattle.tn_option.specs.declared.q_method.Side.TheVariants.{Us, Them}
-use Rattle.tn_option.proofs.lemmas.OptionLaws.{LeavesOthers-moved}
 use Rattle.tn_pty.specs.Typing.{terminal_after, gain_of, command_role, command_shows}
 use Rattle.tn_server.specs.Calls.{End}
 use Rattle.tn_server.specs.Events.{Event, got, took, wrote, pulled, wished, char_set, echo_set, mask_set}
@@ -64,27 +63,15 @@ use Rattle.tn_server.specs.declared.wishes.Editing.{Editing}
 use Rattle.tn_server.specs.declared.wishes.Editing.TheVariants.{Remote, Local}
 use Rattle.tn_server.proofs.lemmas.Gathering.{call_keeps}
 use Rattle.tn_server.proofs.lemmas.Terms.{differ_self, table_again, echo_keeps_linemode}
-use Rattle.tn_world.specs.relation.Calm.{bits, SaysCalmly, IsCalmToServer, AsksCalmly, IsCalmToClient, seen_payload, seen_word, server_item}
-use Rattle.tn_world.specs.relation.Ends.{server_items}
-use Rattle.tn_world.specs.relation.Machine as machine
-use Rattle.tn_world.specs.relation.Machine.{Server, item_role, read, read_item, read_all, local_mode, IsAskable}
+use Rattle.tn_world.specs.relation.Calm.{SaysCalmly, IsCalmToServer, AsksCalmly, IsCalmToClient}
+use Rattle.tn_world.specs.relation.Machine.{Server, bits, edit_by, read, read_all, local_mode, IsAskable}
 use Rattle.tn_world.specs.relation.Pictures.{server_core, NeverEnds, IsAllowed, IsFlagged, ServerStays}
 use Rattle.tn_world.proofs.Engines.{server_turned, server_asks, echo_keeps_state, word_keeps_state, echo_agrees, word_agrees}
 use Rattle.tn_world.proofs.Wishes.{allowed_wish}
 
 -- ITEMS of which each is such as is said
-nothing : (P : Item → Type 0) → All P []
-nothing P = All-nil P
-
 one : (P : Item → Type 0) (item : Item) → P item → All P (item ∷ [])
 one P item p = All-cons P item [] p (All-nil P)
-
-both : (P : Item → Type 0) (xs ys : List Item) → All P xs → All P ys → All P (xs ++ ys)
-both P xs ys a b = All-append P xs ys a b
-
--- nothing, seen otherwise
-none_made : (P : Item → Type 0) (word_of_answer : List Item) → word_of_answer ≡ [] → All P word_of_answer
-none_made P word_of_answer e = subst (All P) (sym e) (nothing P)
 
 -- OPTION WORDS answer with the option that they were asked about
 abbrev pub Speaks : ℕ → Option (Verb × ℕ) → Type 0
@@ -97,17 +84,12 @@ SpeaksAsked option (Err fault) = Unit {0}
 
 refused_speaks : (side : Side) (option : ℕ) (cause : OptionEvent) → Speaks option (refusal_word side option cause)
 refused_speaks side option HeardOn = refl
-refused_speaks side option HeardOff = tt
-refused_speaks side option WishOn = tt
-refused_speaks side option WishOff = tt
+refused_speaks side option _ = tt
 
 said_speaks : (side : Side) (option : ℕ) (a : Answer) → Speaks option (word_of_answer side option a)
-said_speaks side option answer.Nothing = tt
 said_speaks side option answer.SayOn = refl
 said_speaks side option answer.SayOff = refl
-said_speaks side option answer.AlreadySo = tt
-said_speaks side option answer.AlreadyAsked = tt
-said_speaks side option answer.AlreadyQueued = tt
+said_speaks side option _ = tt
 
 now_speaks : (o : Options) (side : Side) (option : ℕ) (cause : OptionEvent) (k : Option Known) → Speaks option (word_now o side option cause k)
 now_speaks o side option cause None = refused_speaks side option cause
@@ -118,12 +100,9 @@ unfolding reply_to
 reply_speaks o verb option = now_speaks o (side_of verb) option (cause_of verb) (known_option option)
 
 answered_speaks : (side : Side) (option : ℕ) (a : Answer) → SpeaksAsked option (result_of_answer side option a)
-answered_speaks side option answer.Nothing = tt
 answered_speaks side option answer.SayOn = refl
 answered_speaks side option answer.SayOff = refl
-answered_speaks side option answer.AlreadySo = tt
-answered_speaks side option answer.AlreadyAsked = tt
-answered_speaks side option answer.AlreadyQueued = tt
+answered_speaks side option _ = tt
 
 asked_speaks : (o : Options) (side : Side) (option : ℕ) (cause : OptionEvent) (k : Option Known) → SpeaksAsked option (answer_now o side option cause k)
 asked_speaks o side option cause None = tt
@@ -134,27 +113,22 @@ unfolding answer_to
 wish_speaks o side option on = asked_speaks o side option (wish_for on) (known_option option)
 
 pub word_made : (P : Item → Type 0) (option : ℕ) (w : Option (Verb × ℕ)) → Speaks option w → ((verb : Verb) → P (Neg verb option)) → All P (word_items w)
-word_made P option None s p = nothing P
+word_made P option None s p = All-nil P
 word_made P option (Some word_of_answer) s p = one P (Neg word_of_answer.0 word_of_answer.1)
     (subst (λ (c : ℕ). P (Neg word_of_answer.0 c)) (sym s) (p word_of_answer.0))
 
 pub asked_made : (P : Item → Type 0) (option : ℕ) (w : Result (Option (Verb × ℕ)) AskFault) → SpeaksAsked option w → ((verb : Verb) → P (Neg verb option))
     → All P (asked_word_items w)
 asked_made P option (Ok w) s p = word_made P option w s p
-asked_made P option (Err fault) s p = nothing P
+asked_made P option (Err fault) s p = All-nil P
 
 pub echo_made : (P : Item → Type 0) (due wanted : Bool) (o : Options) → ((verb : Verb) → P (Neg verb 1)) → All P (echo_items due wanted o)
 echo_made P true wanted o p = asked_made P 1 (answer_to o Us 1 wanted) (wish_speaks o Us 1 wanted) p
-echo_made P false wanted o p = nothing P
+echo_made P false wanted o p = All-nil P
 
 -- an option word on another option leaves LINEMODE as it is
-other_code : (option : ℕ) → (option == 34) ≡ false → 34 ≢ option
-other_code option e same = eqb-false option 34 e (sym same)
-
 pub words_keep_linemode : (o : Options) (verb : Verb) (option : ℕ) → (option == 34) ≡ false → linemode (options_after_word o verb option) ≡ linemode o
-unfolding options_after_word
-words_keep_linemode o verb option e =
-    ap is_yes (LeavesOthers-moved o (side_of verb) option (cause_of verb) Them 34 (inl (other_code option e)))
+words_keep_linemode o verb option e = ap is_yes (word_keeps_state o Them verb option e)
 
 -- WHAT STAYS AS IT WAS AT THE MARK
 -- the rest of an end has no part in it
@@ -288,23 +262,13 @@ turned_same : (old : End) (was : Bool) → turned old was old.modes was ≡ reco
 turned_same old was = ap (λ (b : Bool). record (server_core old) { linemode = was; edit = edits (modes_before b old.modes).current }) (differ_self was)
 
 -- A CALM ITEM brings no wish and no character
-calm_if : (b : Bool) (p : Option Payload) → SaysCalmly p → SaysCalmly (if b then p else None)
-calm_if true p c = c
-calm_if false p c = tt
+counted : (P : Option Payload → Type 0) (b : Bool) (p : Option Payload) → P p → P None → P (if b then p else None)
+counted P true p a none = a
+counted P false p a none = none
 
 pub calm_at : (s : Settings) (o : Options) (item : Item) → IsCalmToServer s item → SaysCalmly (payload_at o item)
-calm_at s o (Byte b) c = tt
-calm_at s o Newline c = tt
-calm_at s o (Cmd command) c = tt
-calm_at s o (Neg verb option) c = tt
-calm_at s o (Sub option params) c = calm_if (is_yes (state_of o Them option) && nat_le (length params) 512) (payload_of option params) c
-
--- what it says, where it is a word
-other_word : (option : ℕ) → (option == 34) ≡ false → server_item (Neg Will option) ≡ machine.other
-other_word option e = ap seen_word e
-
-turning_word : (option : ℕ) → option ≡ 34 → server_item (Neg Will option) ≡ machine.linemode_on
-turning_word option is = ap (λ (n : ℕ). seen_word (n == 34)) is
+calm_at s o (Sub option params) c = counted SaysCalmly (is_yes (state_of o Them option) && nat_le (length params) 512) (payload_of option params) c tt
+calm_at s o _ c = tt
 
 -- the words of the client after which LINEMODE is on
 turned_after : (o : Options) (verb : Verb) (option : ℕ) → agrees_to o Them 34 ≡ true → NeverEnds (state_of o Them 34) → verb ≡ Will → option ≡ 34
@@ -313,26 +277,15 @@ turned_after o verb option a n v c =
     ap (λ (x : Verb). state_of (options_after_word o x option) Them 34) v ∙ ap (λ (x : ℕ). state_of (options_after_word o Will x) Them 34) c
     ∙ server_turned o a n
 
--- the role of an item is what it says; the flag ECHO has no part in it
-sub_role : (s : Settings) (edit : Bool) (p : Option Payload) → role.Ignored ≡ item_role s edit (seen_payload p)
-sub_role s edit None = refl
-sub_role s edit (Some (payload.Mode mask)) = refl
-sub_role s edit (Some p) = refl
-
-word_role : (s : Settings) (edit b : Bool) → role.Ignored ≡ item_role s edit (seen_word b)
-word_role s edit true = refl
-word_role s edit false = refl
-
+-- the flag ECHO has no part in the role of an item
 role_seen : (s : Settings) (echo edit : Bool) (item : Item) → role_at (record { flags = record (s.flags) { echo = echo }; chars = s.chars }) edit item
-    ≡ item_role s edit (server_item item)
+    ≡ role_at s edit item
 role_seen s echo edit (Byte b) = refl
 role_seen s echo edit Newline = refl
-role_seen s echo edit (Cmd command) = refl
-role_seen s echo edit (Neg verb option) = word_role s edit (option == 34)
-role_seen s echo edit (Sub option params) = sub_role s edit (payload_of option params)
+role_seen s echo edit _ = refl
 
 role_is : (canon : Canon) (old : End) (item : Item) → ServerStays canon old
-    → role_at old.terminal.settings (edits old.modes.current) item ≡ item_role canon.settings (edits old.modes.current) (server_item item)
+    → role_at old.terminal.settings (edits old.modes.current) item ≡ role_at canon.settings (edits old.modes.current) item
 role_is canon old item k =
     let edit = edits old.modes.current in
     let x = old.terminal.settings in
@@ -340,20 +293,17 @@ role_is canon old item k =
     ∙ ap (λ (c : Characters). role_at (record { flags = record (canon.settings.flags) { echo = x.flags.echo }; chars = c }) edit item) k.own
     ∙ role_seen canon.settings x.flags.echo edit item
 
--- A CALM ITEM IS READ as what it says, by an end that has not failed
-abbrev read_there : Canon → End → machine.Item → Server
-read_there canon old item = record (read_item canon (server_core old) item) { failed = old.failed }
-
-core_ignored : (canon : Canon) (old : End) → server_core old ≡ read_there canon old machine.other
-core_ignored canon old = ap (λ (es : List Entry). record (server_core old) { waiting = es }) (sym (append-nil old.terminal.entries))
+-- A CALM ITEM IS READ as the relation says
+core_ignored : (old : End) → server_core old ≡ record (server_core old) { waiting = old.terminal.entries ++ [] }
+core_ignored old = ap (λ (es : List Entry). record (server_core old) { waiting = es }) (sym (append-nil old.terminal.entries))
 
 core_key : (canon : Canon) (old : End) (item : Item) (symbols : List Symbol) → ServerStays canon old
     → server_core (record old { terminal = terminal_after old.terminal (role_at old.terminal.settings (edits old.modes.current) item) symbols })
     ≡ record (server_core old) {
-      half = half_next canon.limit old.terminal.line.held (item_role canon.settings (edits old.modes.current) (server_item item));
+      half = half_next canon.limit old.terminal.line.held (role_at canon.settings (edits old.modes.current) item);
       waiting =
           old.terminal.entries
-          ++ gain_next canon.limit old.terminal.line.held (item_role canon.settings (edits old.modes.current) (server_item item));
+          ++ gain_next canon.limit old.terminal.line.held (role_at canon.settings (edits old.modes.current) item);
     }
 core_key canon old item symbols k =
     core_typed canon old (role_at old.terminal.settings (edits old.modes.current) item) symbols k
@@ -367,38 +317,45 @@ begins_unmasked : (l : Bool) (m : Modes) → edits (modes_before (differ l true)
 begins_unmasked true m = refl
 begins_unmasked false m = refl
 
+-- by whether it is a word on LINEMODE
+abbrev after_word : End → Bool → Server
+after_word old b =
+    let l = linemode old.terms.options in
+    let e = edits old.modes.current in
+    record (server_core old) { linemode = b || l; edit = if b then l && e else e; waiting = old.terminal.entries ++ [] }
+
 core_word : (canon : Canon) (old : End) (verb : Verb) (option : ℕ) → ServerStays canon old → IsCalmToServer canon.settings (Neg verb option)
-    → server_core (end_after_word old verb option) ≡ read_there canon old (server_item (Neg verb option))
+    → server_core (end_after_word old verb option) ≡ read canon (server_core old) (Neg verb option)
 core_word canon old verb option k (inl e) =
     let l = linemode old.terms.options in
     core_negotiated old l false old.terminal.settings.flags (negotiation_heard old verb option)
     ∙ ap (turned old l old.modes) (words_keep_linemode old.terms.options verb option e)
     ∙ turned_same old l
-    ∙ core_ignored canon old
-    ∙ ap (read_there canon old) (sym (other_word option e))
+    ∙ core_ignored old
+    ∙ ap (after_word old) (sym e)
 core_word canon old verb option k (inr t) =
     let l = linemode old.terms.options in
     core_negotiated old l false old.terminal.settings.flags (negotiation_heard old verb option)
     ∙ ap (turned old l old.modes) (ap is_yes (turned_after old.terms.options verb option k.agreed k.linemode t.0 t.1))
     ∙ ap (λ (b : Bool). record (server_core old) { linemode = true; edit = b }) (begins_unmasked l old.modes)
     ∙ ap (λ (es : List Entry). record (server_core old) { linemode = true; edit = l && edits old.modes.current; waiting = es }) (sym (append-nil old.terminal.entries))
-    ∙ ap (read_there canon old) (sym (turning_word option t.1))
+    ∙ ap (λ (n : ℕ). after_word old (n == 34)) (sym t.1)
 
 pub edits-mode_of : (mask : ℕ) → edits (mode_of mask) ≡ edits mask
 edits-mode_of mask = ap (λ (n : ℕ). not (n == 0)) (and_assoc 1 mask 3)
 
 -- a mask that acknowledges counts where LINEMODE is on
-mode_seen : (canon : Canon) (old : End) (mask : ℕ) (on : Bool) → is_acknowledged mask ≡ true → linemode old.terms.options ≡ on
-    → server_core (end_after_payload old (if on then Some (payload.Mode mask) else None)) ≡ read_there canon old (machine.mode_ack (bits mask))
-mode_seen canon old mask true acked l =
+abbrev after_mode : End → Bool → Server
+after_mode old edit = record (server_core old) { edit = edit; waiting = old.terminal.entries ++ [] }
+
+mode_seen : (old : End) (mask : ℕ) (on : Bool) → is_acknowledged mask ≡ true
+    → server_core (end_after_payload old (if on then Some (payload.Mode mask) else None)) ≡ after_mode old (if on then edits mask else edits old.modes.current)
+mode_seen old mask true acked =
     ap (λ (b : Bool). server_core (end_after_mode_by old mask (if b then None else Some (edits mask)))) acked
     ∙ ap (λ (b : Bool). record (server_core old) { edit = edits (if b then record (old.modes) { current = mode_of mask } else old.modes).current }) acked
     ∙ ap (λ (b : Bool). record (server_core old) { edit = b }) (edits-mode_of mask)
     ∙ ap (λ (es : List Entry). record (server_core old) { edit = edits mask; waiting = es }) (sym (append-nil old.terminal.entries))
-    ∙ ap (λ (b : Bool). record (read_there canon old (machine.mode_ack (bits mask))) { edit = if b then edits mask else edits old.modes.current }) (sym l)
-mode_seen canon old mask false acked l =
-    core_ignored canon old
-    ∙ ap (λ (b : Bool). record (read_there canon old (machine.mode_ack (bits mask))) { edit = if b then edits mask else edits old.modes.current }) (sym l)
+mode_seen old mask false acked = core_ignored old
 
 short_enough : (n : ℕ) → n ≤ 512 → nat_le n 512 ≡ true
 short_enough n h = grind (arith, nat_tests)
@@ -407,78 +364,42 @@ and_is : (a b c : Bool) → a ≡ c → b ≡ true → (a && b) ≡ c
 and_is true b c e f = f ∙ e
 and_is false b c e f = e
 
--- any other payload is nothing to it
-abbrev IsAside : Payload → Type 0
-IsAside (payload.Mode mask) = ⊥
-IsAside (payload.Slc triples) = ⊥
-IsAside _ = Unit {0}
-
-aside_seen : (canon : Canon) (old : End) (p : Payload) (b : Bool) → IsAside p
-    → server_core (end_after_payload old (if b then Some p else None)) ≡ read_there canon old (seen_payload (Some p))
-aside_seen canon old (payload.Mode mask) b aside = absurd aside
-aside_seen canon old (payload.Slc triples) b aside = absurd aside
-aside_seen canon old (payload.Naws width height) true aside = core_ignored canon old
-aside_seen canon old (payload.Naws width height) false aside = core_ignored canon old
-aside_seen canon old (payload.ForwardOn mask) true aside = core_ignored canon old
-aside_seen canon old (payload.ForwardOn mask) false aside = core_ignored canon old
-aside_seen canon old payload.ForwardOff true aside = core_ignored canon old
-aside_seen canon old payload.ForwardOff false aside = core_ignored canon old
-aside_seen canon old payload.ForwardYes true aside = core_ignored canon old
-aside_seen canon old payload.ForwardYes false aside = core_ignored canon old
-aside_seen canon old payload.ForwardNo true aside = core_ignored canon old
-aside_seen canon old payload.ForwardNo false aside = core_ignored canon old
-
-core_sub : (canon : Canon) (old : End) (option : ℕ) (params : List ℕ) (p : Option Payload) → payload_of option params ≡ p → length params ≤ 512 → SaysCalmly p
+core_sub : (old : End) (option : ℕ) (params : List ℕ) (p : Option Payload) → payload_of option params ≡ p → length params ≤ 512 → SaysCalmly p
     → server_core (end_after_payload old (if is_yes (state_of old.terms.options Them option) && nat_le (length params) 512 then p else None))
-    ≡ read_there canon old (seen_payload p)
-core_sub canon old option params None e fits c = go (is_yes (state_of old.terms.options Them option) && nat_le (length params) 512)
-  where
-    go : (b : Bool) → server_core (end_after_payload old (if b then None else None)) ≡ read_there canon old machine.other
-    go true = core_ignored canon old
-    go false = core_ignored canon old
-core_sub canon old option params (Some (payload.Mode mask)) e fits c =
+    ≡ after_mode old (edit_by (linemode old.terms.options) (edits old.modes.current) p)
+core_sub old option params (Some (payload.Mode mask)) e fits c =
     let on = linemode old.terms.options in
     let is : option ≡ 34 = (says_of option params (payload.Mode mask) e).0 in
     let counts : (is_yes (state_of old.terms.options Them option) && nat_le (length params) 512) ≡ on =
     and_is (is_yes (state_of old.terms.options Them option)) (nat_le (length params) 512) on (ap (λ (n : ℕ). is_yes (state_of old.terms.options Them n)) is)
     (short_enough (length params) fits) in
-    ap (λ (b : Bool). server_core (end_after_payload old (if b then Some (payload.Mode mask) else None))) counts ∙ mode_seen canon old mask on c refl
-core_sub canon old option params (Some (payload.Slc triples)) e fits c = absurd c
-core_sub canon old option params (Some p) e fits c =
-    aside_seen canon old p (is_yes (state_of old.terms.options Them option) && nat_le (length params) 512) tt
+    ap (λ (b : Bool). server_core (end_after_payload old (if b then Some (payload.Mode mask) else None))) counts ∙ mode_seen old mask on c
+core_sub old option params (Some (payload.Slc triples)) e fits c = absurd c
+core_sub old option params p e fits c =
+    counted (λ (q : Option Payload). server_core (end_after_payload old q) ≡ after_mode old (edits old.modes.current))
+    (is_yes (state_of old.terms.options Them option) && nat_le (length params) 512) p (core_ignored old) (core_ignored old)
 
 abbrev shown_by : End → ℕ → List Symbol
 shown_by old byte =
     let t = old.terminal in
     byte_shows t.settings (edits old.modes.current) (echoes old.terms.options) t.line byte
 
-core_item : (canon : Canon) (old : End) (item : Item) → ServerStays canon old → Fits item → IsCalmToServer canon.settings item
-    → server_core (end_after_item old item) ≡ read_there canon old (server_item item)
-core_item canon old (Byte byte) k f c = core_key canon old (Byte byte) (shown_by old byte) k
-core_item canon old Newline k f c = core_key canon old Newline (shown_by old 10) k
-core_item canon old (Cmd command) k f c = core_key canon old (Cmd command) (command_shows command) k
-core_item canon old (Neg verb option) k f c = core_word canon old verb option k c
-core_item canon old (Sub option params) k f c = core_sub canon old option params (payload_of option params) refl f c
-
-pub core_got : (canon : Canon) (old : End) (item : Item) → ServerStays canon old → old.failed ≡ false → Fits item → IsCalmToServer canon.settings item
-    → server_core (end_after_item old item) ≡ read canon (server_core old) (server_item item)
-core_got canon old item k works f c =
-    core_item canon old item k f c
-    ∙ ap (λ (b : Bool). record (read_item canon (server_core old) (server_item item)) { failed = b }) works
-    ∙ ap (λ (b : Bool). if b then server_core old else read_item canon (server_core old) (server_item item)) (sym works)
+pub core_got : (canon : Canon) (old : End) (item : Item) → ServerStays canon old → Fits item → IsCalmToServer canon.settings item
+    → server_core (end_after_item old item) ≡ read canon (server_core old) item
+core_got canon old (Byte byte) k f c = core_key canon old (Byte byte) (shown_by old byte) k
+core_got canon old Newline k f c = core_key canon old Newline (shown_by old 10) k
+core_got canon old (Cmd command) k f c = core_key canon old (Cmd command) (command_shows command) k
+core_got canon old (Neg verb option) k f c = core_word canon old verb option k c
+core_got canon old (Sub option params) k f c = core_sub old option params (payload_of option params) refl f c
 
 -- and all stays as it was at the mark
 stays_sub : (canon : Canon) (old : End) (p : Option Payload) → SaysCalmly p → ServerStays canon old → ServerStays canon (end_after_payload old p)
-stays_sub canon old None c k = k
 stays_sub canon old (Some (payload.Naws width height)) c k = stays_aside canon old (end_after_payload old (Some (payload.Naws width height))) refl refl refl refl k
 stays_sub canon old (Some (payload.Mode mask)) c k =
     subst (λ (b : Bool). ServerStays canon (end_after_mode_by old mask (if b then None else Some (edits mask)))) (sym c)
     (stays_aside canon old (end_after_mode_by old mask None) refl refl refl refl k)
 stays_sub canon old (Some (payload.Slc triples)) c k = absurd c
-stays_sub canon old (Some (payload.ForwardOn mask)) c k = k
-stays_sub canon old (Some payload.ForwardOff) c k = k
-stays_sub canon old (Some payload.ForwardYes) c k = k
-stays_sub canon old (Some payload.ForwardNo) c k = k
+stays_sub canon old p c k = k
 
 word_never : (canon : Canon) (old : End) (verb : Verb) (option : ℕ) → ServerStays canon old → IsCalmToServer canon.settings (Neg verb option)
     → NeverEnds (state_of (options_after_word old.terms.options verb option) Them 34)
@@ -520,7 +441,7 @@ pub mode_made : (P : Item → Type 0) (mask : ℕ) → P (Sub 34 (1 ∷ mask ∷
 mode_made P mask p = one P (Sub 34 (1 ∷ mask ∷ [])) p
 
 unless_made : (P : Item → Type 0) (b : Bool) (mask : ℕ) → P (Sub 34 (1 ∷ mask ∷ [])) → All P (mode_items (if b then None else Some mask))
-unless_made P true mask p = nothing P
+unless_made P true mask p = All-nil P
 unless_made P false mask p = mode_made P mask p
 
 -- WHAT A CALM ITEM IS ANSWERED WITH
@@ -531,7 +452,7 @@ table_calm s is = one (IsCalmToClient s) _ (is, refl)
 
 told_calm : (s : Settings) (c : Characters) (b : Bool) → c ≡ s.chars → s.chars ≡ standard_characters → All (IsCalmToClient s) (table_items b c)
 told_calm s c true same is = subst (λ (x : Characters). All (IsCalmToClient s) (list_items (announcement x))) (sym (same ∙ is)) (table_calm s is)
-told_calm s c false same is = nothing (IsCalmToClient s)
+told_calm s c false same is = All-nil (IsCalmToClient s)
 
 wish_asked : (s : Settings) (f : Flags) (wish : ℕ) → f ≡ record (s.flags) { echo = f.echo } → IsAllowed f wish → IsAskedMask s wish
 wish_asked s f wish same (inl is) = subst (IsAskedMask s) (sym is) (refl, inl refl)
@@ -539,42 +460,38 @@ wish_asked s f wish same (inr is) = mask_asked s f Local wish same is
 
 told_made : (P : Item → Type 0) (on : Bool) (m : Modes) (wish : ℕ) → P (Sub 34 (1 ∷ mode_of wish ∷ [])) → All P (mode_items (modes_told on m wish))
 told_made P true m wish p = unless_made P (mode_of wish == m.asked) (mode_of wish) p
-told_made P false m wish p = nothing P
+told_made P false m wish p = All-nil P
 
 -- what is said once the options and perhaps a wish are new: the table, the mode, the server's ECHO
 negotiated_made : (P : Item → Type 0) (was set : Bool) (f : Flags) (c : Characters) (n : Negotiation) → All P (new_table_items was (linemode n.options) c)
     → P (Sub 34 (1 ∷ mode_of n.wish ∷ [])) → ((verb : Verb) → P (Neg verb 1)) → All P (negotiation_items was set f c n)
 negotiated_made P was set f c n table p echo =
     let m = modes_before (differ was (linemode n.options)) n.modes in
-    both P _ _ table (both P _ _ (told_made P (linemode n.options) m n.wish p) (echo_made P (is_due was set n) (wants_echo (masks_by was n).asked f) n.options echo))
+    All-append P _ _ table (All-append P _ _ (told_made P (linemode n.options) m n.wish p) (echo_made P (is_due was set n) (wants_echo (masks_by was n).asked f) n.options echo))
 
 -- no table is new if LINEMODE stays
 untold_made : (P : Item → Type 0) (was on : Bool) (c : Characters) → on ≡ was → All P (new_table_items was on c)
-untold_made P was on c same = none_made P _ (ap (λ (b : Bool). new_table_items was b c) same ∙ table_again was c)
+untold_made P was on c same = subst (All P) (sym (ap (λ (b : Bool). new_table_items was b c) same ∙ table_again was c)) (All-nil P)
 
 sub_calm : (canon : Canon) (old : End) (p : Option Payload) → SaysCalmly p → All (IsCalmToClient canon.settings) (says_sub old p)
-sub_calm canon old None c = nothing (IsCalmToClient canon.settings)
 sub_calm canon old (Some (payload.Mode mask)) c =
-    none_made (IsCalmToClient canon.settings) _ (ap (λ (b : Bool). says_mode_by old (if b then None else Some (edits mask))) c)
+    subst (All (IsCalmToClient canon.settings)) (sym (ap (λ (b : Bool). says_mode_by old (if b then None else Some (edits mask))) c)) (All-nil (IsCalmToClient canon.settings))
 sub_calm canon old (Some (payload.Slc triples)) c = absurd c
-sub_calm canon old (Some p) c = nothing (IsCalmToClient canon.settings)
+sub_calm canon old p c = All-nil (IsCalmToClient canon.settings)
 
 pub calm_got : (canon : Canon) (old : End) (item : Item) → ServerStays canon old → IsCalmToServer canon.settings item
     → All (IsCalmToClient canon.settings) (says_item old item)
-calm_got canon old (Byte byte) k c = nothing (IsCalmToClient canon.settings)
-calm_got canon old Newline k c = nothing (IsCalmToClient canon.settings)
-calm_got canon old (Cmd command) k c = nothing (IsCalmToClient canon.settings)
 calm_got canon old (Neg verb option) k (inl e) =
     let P = IsCalmToClient canon.settings in
     let o = old.terms.options in
-    both P _ _ (word_made P option (reply_to o verb option) (reply_speaks o verb option) (λ v. inl e))
+    All-append P _ _ (word_made P option (reply_to o verb option) (reply_speaks o verb option) (λ v. inl e))
     (negotiated_made P (linemode o) false old.terminal.settings.flags old.table (negotiation_heard old verb option)
     (untold_made P (linemode o) (linemode (options_after_word o verb option)) old.table (words_keep_linemode o verb option e))
     (wish_asked canon.settings old.terminal.settings.flags old.terms.wish k.flags k.wish) (λ v. inl refl))
 calm_got canon old (Neg verb option) k (inr t) =
     let P = IsCalmToClient canon.settings in
     let o = old.terms.options in
-    both P _ _
+    All-append P _ _
     (subst (λ (v : Verb). All P (word_items (reply_to o v option))) (sym t.0)
     (subst (λ (x : ℕ). All P (word_items (reply_to o Will x))) (sym t.1) (server_asks P o k.agreed k.linemode (inr (refl, refl, t.2)))))
     (negotiated_made P (linemode o) false old.terminal.settings.flags old.table (negotiation_heard old verb option)
@@ -582,25 +499,25 @@ calm_got canon old (Neg verb option) k (inr t) =
     (wish_asked canon.settings old.terminal.settings.flags old.terms.wish k.flags k.wish) (λ v. inl refl))
 calm_got canon old (Sub option params) k c =
     sub_calm canon old (payload_at old.terms.options (Sub option params)) (calm_at canon.settings old.terms.options (Sub option params) c)
+calm_got canon old item k c = All-nil (IsCalmToClient canon.settings)
 
 -- CALM ITEMS, one after another
 pub record After (canon : Canon) (old : End) (items : List Item) : Type 0 where
   pub stays : ServerStays canon (end_after_items old items)
-  pub core : server_core (end_after_items old items) ≡ read_all canon (server_core old) (server_items items)
+  pub core : server_core (end_after_items old items) ≡ read_all canon (server_core old) items
   pub calm : All (IsCalmToClient canon.settings) (says_items old items)
 
-pub goes_on : (canon : Canon) (old : End) (items : List Item) → ServerStays canon old → old.failed ≡ false → All Fits items
+pub goes_on : (canon : Canon) (old : End) (items : List Item) → ServerStays canon old → All Fits items
     → All (IsCalmToServer canon.settings) items → After canon old items
-goes_on canon old [] k works f c = record { stays = k; core = refl; calm = nothing (IsCalmToClient canon.settings) }
-goes_on canon old (item ∷ items) k works f c =
+goes_on canon old [] k f c = record { stays = k; core = refl; calm = All-nil (IsCalmToClient canon.settings) }
+goes_on canon old (item ∷ items) k f c =
     let new = end_after_item old item in
     let calm = All-head (IsCalmToServer canon.settings) item items c in
-    let later = goes_on canon new items (stays_got canon old item k calm) (ap (λ (e : End). e.failed) (call_keeps old (got item)) ∙ works)
-    (All-tail Fits item items f) (All-tail (IsCalmToServer canon.settings) item items c) in
+    let later = goes_on canon new items (stays_got canon old item k calm) (All-tail Fits item items f) (All-tail (IsCalmToServer canon.settings) item items c) in
     record {
       stays = later.stays;
-      core = later.core ∙ ap (λ (v : Server). read_all canon v (server_items items)) (core_got canon old item k works (All-head Fits item items f) calm);
-      calm = both (IsCalmToClient canon.settings) (says_item old item) (says_items new items) (calm_got canon old item k calm) later.calm;
+      core = later.core ∙ ap (λ (v : Server). read_all canon v items) (core_got canon old item k (All-head Fits item items f) calm);
+      calm = All-append (IsCalmToClient canon.settings) (says_item old item) (says_items new items) (calm_got canon old item k calm) later.calm;
     }
 
 -- the decoder, a failure and a terminal that is shut have no part in it
@@ -624,7 +541,7 @@ KeepsEntries _ = Unit {0}
 
 wished_calm : (canon : Canon) (old : End) (ed : Editing) (mask : Option ℕ) → mask_for old.terminal.settings.flags ed ≡ mask → ServerStays canon old
     → All (IsCalmToClient canon.settings) (says_wished old mask)
-wished_calm canon old ed None e k = nothing (IsCalmToClient canon.settings)
+wished_calm canon old ed None e k = All-nil (IsCalmToClient canon.settings)
 wished_calm canon old ed (Some mask) e k =
     let P = IsCalmToClient canon.settings in
     let l = linemode old.terms.options in
@@ -633,13 +550,13 @@ wished_calm canon old ed (Some mask) e k =
 
 -- symbols that are pulled
 pub pulled_made : (P : Item → Type 0) → ((b : ℕ) → P (Byte b)) → P Newline → (symbols : List Symbol) → All P (map data_of symbols)
-pulled_made P byte newline [] = nothing P
-pulled_made P byte newline (symbol.Byte b ∷ symbols) = both P (Byte b ∷ []) (map data_of symbols) (one P (Byte b) (byte b)) (pulled_made P byte newline symbols)
-pulled_made P byte newline (symbol.Newline ∷ symbols) = both P (Newline ∷ []) (map data_of symbols) (one P Newline newline) (pulled_made P byte newline symbols)
+pulled_made P byte newline [] = All-nil P
+pulled_made P byte newline (symbol.Byte b ∷ symbols) = All-cons P (Byte b) (map data_of symbols) (byte b) (pulled_made P byte newline symbols)
+pulled_made P byte newline (symbol.Newline ∷ symbols) = All-cons P Newline (map data_of symbols) newline (pulled_made P byte newline symbols)
 
 pub ga_made : (P : Item → Type 0) → P (Cmd Ga) → (b : Bool) → All P (if b then Cmd Ga ∷ [] else [])
 ga_made P p true = one P (Cmd Ga) p
-ga_made P p false = nothing P
+ga_made P p false = All-nil P
 
 -- a forward mask
 pub mask_made : (P : Item → Type 0) → ((octets : List ℕ) → P (Sub 34 (253 ∷ 2 ∷ octets))) → P (Sub 34 (254 ∷ 2 ∷ [])) → (mask : Option Mask)
@@ -655,7 +572,7 @@ pub calm_call : (canon : Canon) (old : End) (e : Event) → IsCall e → ServerS
 calm_call canon old (got item) is k = absurd is
 calm_call canon old (char_set func value) is k = absurd is
 calm_call canon old took is k = ga_made (IsCalmToClient canon.settings) tt (owes_ga old old.terminal.entries)
-calm_call canon old (wrote bytes) is k = nothing (IsCalmToClient canon.settings)
+calm_call canon old (wrote bytes) is k = All-nil (IsCalmToClient canon.settings)
 calm_call canon old (pulled n) is k = pulled_made (IsCalmToClient canon.settings) (λ b. tt) tt (take n old.terminal.queue)
 calm_call canon old (wished ed) is k = wished_calm canon old ed (mask_for old.terminal.settings.flags ed) refl k
 calm_call canon old (echo_set on) is k =

@@ -2,9 +2,9 @@
 use Rattle.std.proofs.Common.{◌≡◌, ℕ, Bool, true, false, List, [], ◌∷◌, ◌++◌, take, drop, refl, sym, ap, ◌∙◌, if◌then◌else◌, subst}
 use Rattle.std.specs.Prelude.{All}
 use Rattle.std.proofs.lemmas.List.Elements.{All-append}
-use Rattle.std.proofs.lemmas.List.{map-append}
 use Rattle.tn_codes.specs.declared.codes.Command.TheVariants.{Ip}
 use Rattle.tn_nvt.specs.declared.items.Item.{Item}
+use Rattle.tn_nvt.specs.declared.items.Item.TheVariants.{Cmd}
 use Rattle.tn_nvt.specs.Spelling.{spells}
 use Rattle.tn_discipline.specs.Canon.{Canon, typed_half}
 use Rattle.tn_discipline.specs.Keys.{role_of_key}
@@ -15,33 +15,23 @@ use Rattle.tn_nvt.specs.Feeding.{Advances}
 use Rattle.tn_client.specs.Calls as client
 use Rattle.tn_client.specs.Steps.{end_after_key, says_key, end_after_resize, says_resize, end_after_items, says_items}
 use Rattle.tn_client.specs.Terms.{linemode}
-use Rattle.tn_world.specs.relation.Calm.{bits, IsCalmToServer, IsCalmToClient, server_item}
+use Rattle.tn_world.specs.relation.Calm.{IsCalmToServer, IsCalmToClient}
 use Rattle.tn_world.specs.Flight.{InFlight}
 use Rattle.tn_world.specs.Headline.{local_entries}
-use Rattle.tn_world.specs.relation.Machine as machine
-use Rattle.tn_world.specs.relation.Machine.{Server, read_all, IsAskable}
+use Rattle.tn_world.specs.relation.Machine.{Server, bits, read_all, IsAskable}
 use Rattle.tn_world.specs.relation.Pictures.{ClientStays}
 use Rattle.tn_world.proofs.ClientSteps.{key_said, items-come, resized-writes}
 use Rattle.tn_world.proofs.Cut.{behind, cut_at, no_items}
 use Rattle.tn_world.proofs.Reading.{all_parts, read_all-append}
 use Rattle.tn_world.proofs.Changing.{key-agrees, interrupt-agrees, beside-agrees}
 use Rattle.tn_world.proofs.Prefixes.{without_first, take-agrees, agreed}
-use Rattle.tn_world.specs.relation.Ends.{ServerEnd, server_items, AreReplies, AreSaid, ServerFeeds, SaysItems, World, made}
+use Rattle.tn_world.specs.relation.Ends.{ServerEnd, AreReplies, AreSaid, ServerFeeds, SaysItems, World, made}
 use Rattle.tn_world.specs.relation.Relation.{Agrees, AreOrdinary, IsTied, server_at}
-
--- the server after items that the client sends
-pub sent : (canon : Canon) (v : Server) (items new : List Item) (says : List machine.Item)
-    → ((u : Server) → read_all canon u (server_items new) ≡ read_all canon u says)
-    → read_all canon v (server_items (items ++ new)) ≡ read_all canon (read_all canon v (server_items items)) says
-sent canon v items new says is =
-    ap (λ x. read_all canon v x) (map-append server_item items new)
-    ∙ read_all-append canon v (server_items items) (server_items new)
-    ∙ is (read_all canon v (server_items items))
 
 -- the flight to the server, once the client has written
 writes-tied : (canon : Canon) (w : World) (t : IsTied canon w) (said : List Item) (typed : List ℕ) (end : client.End)
     (messages : List Item) (later : List ℕ) → AreSaid canon said → InFlight end.decoder later messages → All (IsCalmToClient canon.settings) messages
-    → Agrees canon typed w.taken (read_all canon (read_all canon w.server.core (server_items t.items)) (server_items said)) end
+    → Agrees canon typed w.taken (read_all canon (read_all canon w.server.core t.items) said) end
     → IsTied canon (record w { typed = typed; client = end; to_client = later; to_server = w.to_server ++ spells said })
 writes-tied canon w t said typed end messages later h back asked agrees =
     record {
@@ -51,18 +41,18 @@ writes-tied canon w t said typed end messages later h back asked agrees =
       messages = messages;
       back = back;
       calm_back = asked;
-      agrees = subst (λ v. Agrees canon typed w.taken v end) (sym (sent canon w.server.core t.items said (server_items said) (λ u. refl))) agrees;
+      agrees = subst (λ v. Agrees canon typed w.taken v end) (sym (read_all-append canon w.server.core t.items said)) agrees;
     }
 
 -- what says no more than these
-says-tied_as : (canon : Canon) (w : World) (t : IsTied canon w) (says : List machine.Item) (said : List Item) (typed : List ℕ) (end : client.End)
+says-tied_as : (canon : Canon) (w : World) (t : IsTied canon w) (says : List Item) (said : List Item) (typed : List ℕ) (end : client.End)
     → SaysItems canon says said → end.decoder ≡ w.client.decoder
-    → Agrees canon typed w.taken (read_all canon (read_all canon w.server.core (server_items t.items)) says) end
+    → Agrees canon typed w.taken (read_all canon (read_all canon w.server.core t.items) says) end
     → IsTied canon (record w { typed = typed; client = end; to_server = w.to_server ++ spells said })
 says-tied_as canon w t says said typed end h decoder agrees =
     writes-tied canon w t said typed end t.messages w.to_client (record { fit = h.fit; calm = h.calm })
     (subst (λ d. InFlight d w.to_client t.messages) (sym decoder) t.back) t.calm_back
-    (subst (λ v. Agrees canon typed w.taken v end) (sym (h.says_so (read_all canon w.server.core (server_items t.items)))) agrees)
+    (subst (λ v. Agrees canon typed w.taken v end) (sym (h.says_so (read_all canon w.server.core t.items))) agrees)
 
 pub key-tied : (canon : Canon) (w : World) (k : ℕ) → ClientStays canon w.client → IsTied canon w
     → IsTied canon (record w {
@@ -72,14 +62,14 @@ pub key-tied : (canon : Canon) (w : World) (k : ℕ) → ClientStays canon w.cli
     })
 key-tied canon w k stays t =
     writes-tied canon w t (says_key w.client k) (w.typed ++ k ∷ []) (end_after_key w.client k) t.messages w.to_client (key_said canon w.client k) t.back t.calm_back
-    (key-agrees canon w.typed w.taken (read_all canon w.server.core (server_items t.items)) w.client k stays t.agrees)
+    (key-agrees canon w.typed w.taken (read_all canon w.server.core t.items) w.client k stays t.agrees)
 
 pub interrupt-tied : (canon : Canon) (w : World) (k : ℕ) (said : List Item) → role_of_key canon.settings k ≡ role.Signal Int
-    → SaysItems canon (machine.command Ip ∷ []) said → IsTied canon w
+    → SaysItems canon (Cmd Ip ∷ []) said → IsTied canon w
     → IsTied canon (record w { typed = w.typed ++ k ∷ []; to_server = w.to_server ++ spells said })
 interrupt-tied canon w k said interrupts writes t =
-    says-tied_as canon w t (machine.command Ip ∷ []) said (w.typed ++ k ∷ []) w.client writes refl
-    (interrupt-agrees canon w.typed w.taken (read_all canon w.server.core (server_items t.items)) w.client k interrupts t.agrees)
+    says-tied_as canon w t (Cmd Ip ∷ []) said (w.typed ++ k ∷ []) w.client writes refl
+    (interrupt-agrees canon w.typed w.taken (read_all canon w.server.core t.items) w.client k interrupts t.agrees)
 
 pub aside-tied : (canon : Canon) (w : World) (said : List Item) → SaysItems canon [] said → IsTied canon w
     → IsTied canon (record w { to_server = w.to_server ++ spells said })
@@ -93,7 +83,7 @@ pub resize-tied : (canon : Canon) (w : World) (width height : ℕ) → IsTied ca
 resize-tied canon w width height t =
     says-tied_as canon w t [] (says_resize w.client width height) w.typed (end_after_resize w.client width height)
     (resized-writes canon w.client width height) refl
-    (beside-agrees canon w.typed w.taken (read_all canon w.server.core (server_items t.items)) w.client (end_after_resize w.client width height) refl refl t.agrees)
+    (beside-agrees canon w.typed w.taken (read_all canon w.server.core t.items) w.client (end_after_resize w.client width height) refl refl t.agrees)
 
 pub client-tied : (canon : Canon) (w : World) (n : ℕ) (got : List Item) (end : client.End) → Advances w.client.decoder (take n w.to_client) got end.decoder
     → end ≡ record (end_after_items w.client got) { decoder = end.decoder } → ClientStays canon w.client → IsTied canon w
@@ -102,12 +92,12 @@ client-tied canon w n got end reads step stays t =
     let d = cut_at w.client.decoder end.decoder n w.to_client t.messages got t.back reads in
     let parts = all_parts (IsCalmToClient canon.settings) got d.left (subst (λ l. All (IsCalmToClient canon.settings) l) d.all t.calm_back) in
     let all = items-come canon w.client got stays parts.0 in
-    let v = read_all canon w.server.core (server_items t.items) in
+    let v = read_all canon w.server.core t.items in
     let k = all.stays in (
       subst (ClientStays canon) (sym step) (record { agreed = k.agreed; linemode = k.linemode; chars = k.chars; limit = k.limit }),
       writes-tied canon w t (says_items w.client got) w.typed end d.left (drop n w.to_client) all.said d.flight parts.1
-          (subst (Agrees canon w.typed w.taken (read_all canon v (server_items (says_items w.client got)))) (sym step)
-          (beside-agrees canon w.typed w.taken (read_all canon v (server_items (says_items w.client got))) (end_after_items w.client got)
+          (subst (Agrees canon w.typed w.taken (read_all canon v (says_items w.client got))) (sym step)
+          (beside-agrees canon w.typed w.taken (read_all canon v (says_items w.client got)) (end_after_items w.client got)
           (record (end_after_items w.client got) { decoder = end.decoder }) refl refl (all.agrees w.typed w.taken v t.agrees))),
     )
 
@@ -138,9 +128,9 @@ server-tied canon w n server said h t =
       calm_back = t.calm_back;
       agrees =
           subst (λ v. Agrees canon w.typed w.taken v w.client)
-          (ap (λ x. read_all canon w.server.core x) (ap server_items d.all ∙ map-append server_item h.got d.left)
-          ∙ read_all-append canon w.server.core (server_items h.got) (server_items d.left)
-          ∙ ap (λ v. read_all canon v (server_items d.left)) (sym h.core))
+          (ap (read_all canon w.server.core) d.all
+          ∙ read_all-append canon w.server.core h.got d.left
+          ∙ ap (λ v. read_all canon v d.left) (sym h.core))
           t.agrees;
     })
 
@@ -157,7 +147,7 @@ took-tied canon w t =
       messages = t.messages;
       back = t.back;
       calm_back = t.calm_back;
-      agrees = take-agrees canon w.typed w.taken w.server.core w.client (server_items t.items) t.agrees;
+      agrees = take-agrees canon w.typed w.taken w.server.core w.client t.items t.agrees;
     }
 
 no_count : (b : Bool) (n : ℕ) → (if b then n else n) ≡ n
@@ -188,12 +178,12 @@ rest-agrees canon c askable off held ahead trapped plain =
 pub tied-complete : (canon : Canon) (w : World) → IsTied canon w → w.to_server ≡ [] → made w ≡ local_entries canon w.typed
 tied-complete canon w t nothing =
     let none : t.items ≡ [] = no_items w.server.decoder t.items (subst (λ x. InFlight w.server.decoder x t.items) nothing t.flight) in
-    ap (λ l. w.taken ++ (read_all canon w.server.core (server_items l)).waiting) (sym none)
-    ∙ agreed canon w.typed w.taken (read_all canon w.server.core (server_items t.items)) w.client t.agrees
+    ap (λ l. w.taken ++ (read_all canon w.server.core l).waiting) (sym none)
+    ∙ agreed canon w.typed w.taken (read_all canon w.server.core t.items) w.client t.agrees
 
 pub tied-half : (canon : Canon) (w : World) → IsTied canon w → w.to_server ≡ [] → w.server.core.half ++ w.client.line.held ≡ typed_half canon w.typed
 tied-half canon w t nothing =
     let none : t.items ≡ [] = no_items w.server.decoder t.items (subst (λ x. InFlight w.server.decoder x t.items) nothing t.flight) in
-    ap (λ l. (read_all canon w.server.core (server_items l)).half ++ w.client.line.held) (sym none)
+    ap (λ l. (read_all canon w.server.core l).half ++ w.client.line.held) (sym none)
     ∙ ap (λ (v : Server). v.half ++ w.client.line.held) t.agrees.is
     ∙ sym t.agrees.line

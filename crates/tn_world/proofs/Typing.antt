@@ -15,7 +15,6 @@ use Rattle.tn_discipline.specs.declared.reads.Sig.TheVariants.{Int, Quit, Tstp}
 use Rattle.tn_discipline.specs.declared.keys.Role.{Role}
 use Rattle.tn_discipline.specs.declared.keys.Role.TheVariants as role
 use Rattle.tn_codes.specs.declared.codes.Command.TheVariants.{Eof}
-use Rattle.std.proofs.lemmas.List.{map-append}
 use Rattle.tn_codes.specs.declared.masks.Mask.{Mask}
 use Rattle.tn_discipline.specs.HalfLine.{HalfLine, is_full, has_held, has_ahead}
 use Rattle.tn_nvt.specs.declared.items.Item.{Item}
@@ -23,10 +22,7 @@ use Rattle.tn_nvt.specs.declared.items.Item.TheVariants.{Byte, Newline, Cmd}
 use Rattle.tn_client.specs.Lines.{is_forward}
 use Rattle.tn_client.specs.Replies.{byte_items, command_of, command_items, sent_ahead_items, edit_items}
 use Rattle.tn_client.specs.Steps.{line_sent, line_typed}
-use Rattle.tn_world.specs.relation.Machine as machine
-use Rattle.tn_world.specs.relation.Machine.{read_all, bytes}
-use Rattle.tn_world.specs.relation.Calm.{server_item}
-use Rattle.tn_world.specs.relation.Ends.{server_items}
+use Rattle.tn_world.specs.relation.Machine.{read, read_all}
 use Rattle.tn_world.proofs.Reading.{ordinary-append, ordinary-take, read-bytes, read-bytes_then}
 use Rattle.tn_world.specs.relation.Relation.{AreOrdinary, server_at}
 
@@ -82,21 +78,10 @@ literal_key s key = by_mapped s (mapped_key s.flags key)
 -- to what the client holds, and the client knows its length.
 pub record Follows (s : Canon) (l : Bool) (h : List ℕ) (w : List Entry) (held : List ℕ) (r : Role) (new : HalfLine) (said : List Item) : Type 0 where
   pub half : List ℕ
-  pub reads : read_all s (server_at l true h w) (server_items said) ≡ server_at l true half (w ++ gain_next s.limit (h ++ held) r)
+  pub reads : read_all s (server_at l true h w) said ≡ server_at l true half (w ++ gain_next s.limit (h ++ held) r)
   pub line : half_next s.limit (h ++ held) r ≡ half ++ new.held
   pub ahead : length half ≡ new.ahead
   pub plain : AreOrdinary s.settings.chars new.held
-
--- bytes of data as the server reads them, and one more item
-pub heard_bytes : (bs : List ℕ) → server_items (byte_items bs) ≡ bytes bs
-heard_bytes [] = refl
-heard_bytes (b ∷ bs) = ap (λ (xs : List machine.Item). machine.byte b ∷ xs) (heard_bytes bs)
-
-pub heard_then : (bs : List ℕ) (item : Item) → server_items (byte_items bs ++ item ∷ []) ≡ bytes bs ++ server_item item ∷ []
-heard_then bs item = map-append server_item (byte_items bs) (item ∷ []) ∙ ap (λ (xs : List machine.Item). xs ++ server_item item ∷ []) (heard_bytes bs)
-
-heard_close : (bs : List ℕ) (item : Item) → server_items ((byte_items bs ++ item ∷ []) ++ []) ≡ bytes bs ++ server_item item ∷ []
-heard_close bs item = ap server_items (append-nil (byte_items bs ++ item ∷ [])) ∙ heard_then bs item
 
 empty_of : (xs : List ℕ) → length xs ≡ 0 → xs ≡ []
 empty_of [] h = refl
@@ -145,8 +130,7 @@ module _ (s : Canon) (l : Bool) (h : List ℕ) (w : List Entry) (held : List ℕ
       record {
         half = h ++ (held ++ b ∷ []);
         reads =
-            ap (λ (xs : List machine.Item). read_all s (server_at l true h w) xs) (heard_bytes (held ++ b ∷ []))
-            ∙ read-bytes s l h w (held ++ b ∷ []) more (room (max_counted s.limit) h held b fits (full false test))
+            read-bytes s l h w (held ++ b ∷ []) more (room (max_counted s.limit) h held b fits (full false test))
             ∙ ap (λ x. server_at l true (h ++ (held ++ b ∷ [])) x) (sym (ap (λ (t : Bool). w ++ (if t then [] else [])) (full false test) ∙ append-nil w));
         line = ap (λ (t : Bool). if t then h ++ held else (h ++ held) ++ b ∷ []) (full false test) ∙ append_assoc h held (b ∷ [])
             ∙ sym (append-nil (h ++ (held ++ b ∷ [])));
@@ -212,13 +196,12 @@ module _ (s : Canon) (l : Bool) (h : List ℕ) (w : List Entry) (held : List ℕ
   signal-follows Tstp = record { half = h; reads = refl; line = refl; ahead = count; plain = plain }
 
   -- what closes a line
-  closed : (item : Item) → read_all s (server_at l true h w) (server_items ((byte_items held ++ item ∷ []) ++ []))
-      ≡ machine.read s (server_at l true (h ++ held) w) (server_item item)
+  closed : (item : Item) → read_all s (server_at l true h w) ((byte_items held ++ item ∷ []) ++ []) ≡ read s (server_at l true (h ++ held) w) item
   closed item =
-      ap (λ (xs : List machine.Item). read_all s (server_at l true h w) xs) (heard_close held item)
-      ∙ read-bytes_then s l h w held (server_item item) plain (omega (arith, fits, length-append h held))
+      ap (read_all s (server_at l true h w)) (append-nil (byte_items held ++ item ∷ []))
+      ∙ read-bytes_then s l h w held item plain (omega (arith, fits, length-append h held))
 
-  closed_by : (b : ℕ) (r : Role) → literal_role s.settings.chars b ≡ r → read_all s (server_at l true h w) (server_items ((byte_items held ++ Byte b ∷ []) ++ []))
+  closed_by : (b : ℕ) (r : Role) → literal_role s.settings.chars b ≡ r → read_all s (server_at l true h w) ((byte_items held ++ Byte b ∷ []) ++ [])
       ≡ server_at l true (half_next s.limit (h ++ held) r) (w ++ gain_next s.limit (h ++ held) r)
   closed_by b r literal = closed (Byte b) ∙ ap (λ r. server_at l true (half_next s.limit (h ++ held) r) (w ++ gain_next s.limit (h ++ held) r)) literal
 

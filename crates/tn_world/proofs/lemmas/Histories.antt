@@ -19,6 +19,7 @@ use Rattle.tn_discipline.specs.HalfLine.{HalfLine}
 use Rattle.tn_linemode.specs.Modes.{Modes, edits}
 use Rattle.tn_nvt.specs.Spelling.{Fits}
 use Rattle.tn_nvt.specs.declared.items.Item.{Item}
+use Rattle.tn_nvt.specs.declared.items.Item.TheVariants.{Cmd}
 use Rattle.tn_server.specs.Events as server
 use Rattle.tn_server.specs.Calls.{End as ServerEnd, LeadsTo}
 use Rattle.tn_server.specs.Lines.{entries, taken_count, waiting}
@@ -27,7 +28,6 @@ use Rattle.tn_server.specs.Steps.{end_after as server_after, says as server_said
 use Rattle.tn_server.specs.Terms as server_terms
 use Rattle.tn_server.specs.Terms.{Terms}
 use Rattle.tn_server.proofs.lemmas.Ends.{end_at as server_at, stands_there as server_there, taken_at, taken_got, taken_took, line_is, waits_are}
-use Rattle.tn_server.proofs.lemmas.Gathering.{call_keeps}
 use Rattle.tn_server.proofs.lemmas.Leading as server_leads
 use Rattle.tn_server.specs.declared.wishes.Editing.{Editing}
 use Rattle.tn_client.specs.Steps.{end_after, says}
@@ -41,25 +41,22 @@ use Rattle.tn_world.proofs.Opening.{opening_calm, server_kept, client_kept, begu
 use Rattle.tn_world.proofs.Prefixes.{prefix_after, agreed, read-more, take-agrees}
 use Rattle.tn_world.proofs.ServerSteps as server_steps
 use Rattle.tn_world.proofs.ServerSteps.{IsCall}
-use Rattle.tn_world.proofs.Reading.{all_parts}
-use Rattle.tn_world.proofs.Tied.{sent}
+use Rattle.tn_world.proofs.Reading.{all_parts, read_all-append}
 use Rattle.tn_streams.specs.Prefixes.{IsPrefixOf}
 use Rattle.tn_world.specs.Commands.{IsTypeable, key_for, interrupt_key}
 use Rattle.tn_world.specs.relation.Calm.{IsCalmToServer, IsCalmToClient}
-use Rattle.tn_world.specs.relation.Ends.{server_items, AreSaid, SaysItems}
+use Rattle.tn_world.specs.relation.Ends.{AreSaid, SaysItems}
 use Rattle.tn_world.specs.relation.Pictures.{server_core, ServerStays, ClientStays}
-use Rattle.tn_world.specs.relation.Machine as machine
 use Rattle.tn_world.specs.relation.Machine.{Server, read_all}
 use Rattle.tn_world.specs.relation.Relation.{Agrees}
 
 -- TWO ENDS that one history leads to
-same_core : (h : server.History) (a b : ServerEnd) → LeadsTo h a → LeadsTo h b → a.failed ≡ b.failed → server_core a ≡ server_core b
-same_core h a b s t works =
+same_core : (h : server.History) (a b : ServerEnd) → LeadsTo h a → LeadsTo h b → server_core a ≡ server_core b
+same_core h a b s t =
     ap (λ (x : Terms). record (server_core a) { linemode = server_terms.linemode x.options }) (s.terms ∙ sym t.terms)
     ∙ ap (λ (x : Modes). record (server_core a) { linemode = server_terms.linemode b.terms.options; edit = edits x.current }) (s.modes ∙ sym t.modes)
-    ∙ ap (λ (x : HalfLine). record (server_core b) { half = x.held; waiting = a.terminal.entries; failed = a.failed }) (line_is h a s ∙ sym (line_is h b t))
-    ∙ ap (λ (x : List Entry). record (server_core b) { waiting = x; failed = a.failed }) (sym (waits_are h a s) ∙ waits_are h b t)
-    ∙ ap (λ (x : Bool). record (server_core b) { failed = x }) works
+    ∙ ap (λ (x : HalfLine). record (server_core b) { half = x.held; waiting = a.terminal.entries }) (line_is h a s ∙ sym (line_is h b t))
+    ∙ ap (λ (x : List Entry). record (server_core b) { waiting = x }) (sym (waits_are h a s) ∙ waits_are h b t)
 
 same_stays : (canon : Canon) (h : server.History) (a b : ServerEnd) → LeadsTo h a → LeadsTo h b → ServerStays canon a → ServerStays canon b
 same_stays canon h a b s t k =
@@ -69,7 +66,7 @@ same_stays canon h a b s t k =
 next_core : (h : server.History) (e : server.Event) → server_core (server_at (server.next h e)) ≡ server_core (server_after (server_at h) e)
 next_core h e =
     same_core (server.next h e) (server_at (server.next h e)) (server_after (server_at h) e) (server_there (server.next h e))
-    (server_leads.stands h (server_at h) e (server_there h)) (sym (ap (λ (x : ServerEnd). x.failed) (call_keeps (server_at h) e)))
+    (server_leads.stands h (server_at h) e (server_there h))
 
 next_stays : (canon : Canon) (h : server.History) (e : server.Event) → ServerStays canon (server_after (server_at h) e)
     → ServerStays canon (server_at (server.next h e))
@@ -111,7 +108,7 @@ pub record TiedHistories (canon : Canon) (h : server.History) (k : client.Histor
   pub back : List Item
   pub told : server_says.items_said h ≡ client.items k ++ back
   pub calm_back : All (IsCalmToClient canon.settings) back
-  pub agrees : Agrees canon (keys_typed canon.settings k) (taken_at h) (read_all canon (server_core (server_at h)) (server_items there)) (end_at k)
+  pub agrees : Agrees canon (keys_typed canon.settings k) (taken_at h) (read_all canon (server_core (server_at h)) there) (end_at k)
   pub server : ServerStays canon (server_at h)
   pub client : ClientStays canon (end_at k)
 
@@ -131,7 +128,7 @@ reaches canon h k x p t =
     let fit = All-head Fits x n.0 (all_parts Fits (server.items h) (x ∷ n.0) (subst (λ (l : List Item). All Fits l) whole (sent-fits k))).1 in
     let keys = keys_typed canon.settings k in
     let v = server_at h in
-    let agrees = subst (λ (l : List Item). Agrees canon keys (taken_at h) (read_all canon (server_core v) (server_items l)) (end_at k)) n.1 t.agrees in
+    let agrees = subst (λ (l : List Item). Agrees canon keys (taken_at h) (read_all canon (server_core v) l) (end_at k)) n.1 t.agrees in
     record {
       there = n.0;
       said = whole ∙ sym (append_assoc (server.items h) (x ∷ []) n.0);
@@ -141,16 +138,16 @@ reaches canon h k x p t =
       calm_back = All-append (IsCalmToClient canon.settings) t.back r t.calm_back
           (subst (All (IsCalmToClient canon.settings)) (sym (next_said h (server.got x))) (server_steps.calm_got canon v x t.server first));
       agrees =
-          subst (λ (es : List Entry). Agrees canon keys es (read_all canon (server_core (server_at (server.next h (server.got x)))) (server_items n.0)) (end_at k))
+          subst (λ (es : List Entry). Agrees canon keys es (read_all canon (server_core (server_at (server.next h (server.got x)))) n.0) (end_at k))
           (sym (taken_got h x))
-          (subst (λ (u : Server). Agrees canon keys (taken_at h) (read_all canon u (server_items n.0)) (end_at k))
-          (sym (next_core h (server.got x) ∙ server_steps.core_got canon v x t.server refl fit first)) agrees);
+          (subst (λ (u : Server). Agrees canon keys (taken_at h) (read_all canon u n.0) (end_at k))
+          (sym (next_core h (server.got x) ∙ server_steps.core_got canon v x t.server fit first)) agrees);
       server = next_stays canon h (server.got x) (server_steps.stays_got canon v x t.server first);
       client = t.client;
     }
 
 -- a call that takes no entry, and one that takes the first
-agrees_called : (canon : Canon) (h : server.History) (e : server.Event) (keys : List ℕ) (items : List machine.Item) (c : End) → IsCall e
+agrees_called : (canon : Canon) (h : server.History) (e : server.Event) (keys : List ℕ) (items : List Item) (c : End) → IsCall e
     → Agrees canon keys (taken_at h) (read_all canon (server_core (server_at h)) items) c
     → Agrees canon keys (taken_at (server.next h e)) (read_all canon (server_core (server_after (server_at h) e)) items) c
 agrees_called canon h (server.got item) keys items c is a = absurd is
@@ -180,8 +177,8 @@ called canon h k e is t =
       calm_back = All-append (IsCalmToClient canon.settings) t.back r t.calm_back
           (subst (All (IsCalmToClient canon.settings)) (sym (next_said h e)) (server_steps.calm_call canon (server_at h) e is t.server));
       agrees =
-          subst (λ (u : Server). Agrees canon keys (taken_at (server.next h e)) (read_all canon u (server_items t.there)) (end_at k)) (sym (next_core h e))
-          (agrees_called canon h e keys (server_items t.there) (end_at k) is t.agrees);
+          subst (λ (u : Server). Agrees canon keys (taken_at (server.next h e)) (read_all canon u t.there) (end_at k)) (sym (next_core h e))
+          (agrees_called canon h e keys t.there (end_at k) is t.agrees);
       server = next_stays canon h e (server_steps.stays_call canon (server_at h) e is t.server);
       client = t.client;
     }
@@ -190,8 +187,8 @@ called canon h k e is t =
 says_more : (canon : Canon) (h : server.History) (k : client.History) (e : client.Event) (back : List Item) (t : TiedHistories canon h k)
     → AreSaid canon (says (end_at k) e) → server_says.items_said h ≡ client.items (client.next k e) ++ back
     → All (IsCalmToClient canon.settings) back → ClientStays canon (end_after (end_at k) e)
-    → Agrees canon (keys_typed canon.settings (client.next k e)) (taken_at h) (read_all canon (read_all canon (server_core (server_at h)) (server_items t.there))
-    (server_items (says (end_at k) e))) (end_after (end_at k) e) → TiedHistories canon h (client.next k e)
+    → Agrees canon (keys_typed canon.settings (client.next k e)) (taken_at h) (read_all canon (read_all canon (server_core (server_at h)) t.there)
+    (says (end_at k) e)) (end_after (end_at k) e) → TiedHistories canon h (client.next k e)
 says_more canon h k e back t s told calm kept agrees =
     let r = says (end_at k) e in
     let new = end_after (end_at k) e in
@@ -205,9 +202,9 @@ says_more canon h k e back t s told calm kept agrees =
       told = told;
       calm_back = calm;
       agrees =
-          subst (λ (u : Server). Agrees canon keys (taken_at h) u (end_at (client.next k e))) (sym (sent canon (server_core (server_at h)) t.there r (server_items r) (λ v. refl)))
-          (subst (Agrees canon keys (taken_at h) (read_all canon (read_all canon (server_core (server_at h)) (server_items t.there)) (server_items r))) (sym (end_next k e))
-          (beside-agrees canon keys (taken_at h) (read_all canon (read_all canon (server_core (server_at h)) (server_items t.there)) (server_items r)) new
+          subst (λ (u : Server). Agrees canon keys (taken_at h) u (end_at (client.next k e))) (sym (read_all-append canon (server_core (server_at h)) t.there r))
+          (subst (Agrees canon keys (taken_at h) (read_all canon (read_all canon (server_core (server_at h)) t.there) r)) (sym (end_next k e))
+          (beside-agrees canon keys (taken_at h) (read_all canon (read_all canon (server_core (server_at h)) t.there) r) new
           (record new { decoder = failed; failed = false }) refl refl agrees));
       server = t.server;
       client = subst (ClientStays canon) (sym (end_next k e))
@@ -215,22 +212,22 @@ says_more canon h k e back t s told calm kept agrees =
     }
 
 -- and what it says is read as these items
-says_as_read : (canon : Canon) (h : server.History) (k : client.History) (e : client.Event) (t : TiedHistories canon h k) (reads : List machine.Item)
+says_as_read : (canon : Canon) (h : server.History) (k : client.History) (e : client.Event) (t : TiedHistories canon h k) (reads : List Item)
     → SaysItems canon reads (says (end_at k) e) → server_says.items_said h ≡ client.items (client.next k e) ++ t.back
     → ClientStays canon (end_after (end_at k) e)
-    → Agrees canon (keys_typed canon.settings (client.next k e)) (taken_at h) (read_all canon (read_all canon (server_core (server_at h)) (server_items t.there)) reads)
+    → Agrees canon (keys_typed canon.settings (client.next k e)) (taken_at h) (read_all canon (read_all canon (server_core (server_at h)) t.there) reads)
     (end_after (end_at k) e) → TiedHistories canon h (client.next k e)
 says_as_read canon h k e t reads w told kept agrees =
     says_more canon h k e t.back t (record { fit = w.fit; calm = w.calm }) told t.calm_back kept
     (subst (λ (u : Server). Agrees canon (keys_typed canon.settings (client.next k e)) (taken_at h) u (end_after (end_at k) e))
-    (sym (w.says_so (read_all canon (server_core (server_at h)) (server_items t.there)))) agrees)
+    (sym (w.says_so (read_all canon (server_core (server_at h)) t.there))) agrees)
 
 pub types : (canon : Canon) (h : server.History) (k : client.History) (key : ℕ) → TiedHistories canon h k
     → TiedHistories canon h (client.next k (client.typed key))
 types canon h k key t =
     let c = end_at k in
     says_more canon h k (client.typed key) t.back t (client_steps.key_said canon c key) t.told t.calm_back (client_steps.key_stays canon c key t.client)
-    (key-agrees canon (keys_typed canon.settings k) (taken_at h) (read_all canon (server_core (server_at h)) (server_items t.there)) c key t.client t.agrees)
+    (key-agrees canon (keys_typed canon.settings k) (taken_at h) (read_all canon (server_core (server_at h)) t.there) c key t.client t.agrees)
 
 pub resizes : (canon : Canon) (h : server.History) (k : client.History) (width height : ℕ) → TiedHistories canon h k
     → TiedHistories canon h (client.next k (client.resized width height))
@@ -238,18 +235,18 @@ resizes canon h k width height t =
     let c = end_at k in
     says_as_read canon h k (client.resized width height) t [] (client_steps.resized-writes canon c width height) t.told
     (record { agreed = t.client.agreed; linemode = t.client.linemode; chars = t.client.chars; limit = t.client.limit })
-    (beside-agrees canon (keys_typed canon.settings k) (taken_at h) (read_all canon (server_core (server_at h)) (server_items t.there)) c
+    (beside-agrees canon (keys_typed canon.settings k) (taken_at h) (read_all canon (server_core (server_at h)) t.there) c
     (end_after c (client.resized width height)) refl refl t.agrees)
 
 -- a command that interrupts, as the key would
 interrupts : (canon : Canon) (h : server.History) (k : client.History) (sending : UserCommand) (key : ℕ) → key_for sending canon.settings ≡ Some key
-    → interrupt_key canon.settings ≡ Some key → SaysItems canon (machine.command command.Ip ∷ []) (client_says.replies k (client.sent sending))
+    → interrupt_key canon.settings ≡ Some key → SaysItems canon (Cmd command.Ip ∷ []) (client_says.replies k (client.sent sending))
     → TiedHistories canon h k → TiedHistories canon h (client.next k (client.sent sending))
 interrupts canon h k sending key is there writes t =
     let ks = keys_typed canon.settings k in
-    let v = read_all canon (server_core (server_at h)) (server_items t.there) in
-    says_as_read canon h k (client.sent sending) t (machine.command command.Ip ∷ []) writes t.told t.client
-    (subst (λ (o : Option ℕ). Agrees canon (ks ++ option_to_list o) (taken_at h) (read_all canon v (machine.command command.Ip ∷ [])) (end_at k)) (sym is)
+    let v = read_all canon (server_core (server_at h)) t.there in
+    says_as_read canon h k (client.sent sending) t (Cmd command.Ip ∷ []) writes t.told t.client
+    (subst (λ (o : Option ℕ). Agrees canon (ks ++ option_to_list o) (taken_at h) (read_all canon v (Cmd command.Ip ∷ [])) (end_at k)) (sym is)
     (interrupt-agrees canon ks (taken_at h) v (end_at k) key (interrupts_there canon.settings canon.settings.chars.intr key there) t.agrees))
 
 -- and one that is no input
@@ -257,7 +254,7 @@ passes : (canon : Canon) (h : server.History) (k : client.History) (sending : Us
     → SaysItems canon [] (client_says.replies k (client.sent sending)) → TiedHistories canon h k → TiedHistories canon h (client.next k (client.sent sending))
 passes canon h k sending is writes t =
     let ks = keys_typed canon.settings k in
-    let v = read_all canon (server_core (server_at h)) (server_items t.there) in
+    let v = read_all canon (server_core (server_at h)) t.there in
     says_as_read canon h k (client.sent sending) t [] writes t.told t.client
     (subst (λ (o : Option ℕ). Agrees canon (ks ++ option_to_list o) (taken_at h) v (end_at k)) (sym is)
     (subst (λ (l : List ℕ). Agrees canon l (taken_at h) v (end_at k)) (sym (append-nil ks)) t.agrees))
@@ -279,7 +276,7 @@ returns canon h k x p t =
     says_more canon h k (client.got x) n.0 t one.said
     (t.told ∙ ap (λ (l : List Item). client.items k ++ l) n.1 ∙ sym (append_assoc (client.items k) (x ∷ []) n.0))
     (All-tail P x n.0 calm) one.stays
-    (one.agrees (keys_typed canon.settings k) (taken_at h) (read_all canon (server_core (server_at h)) (server_items t.there)) t.agrees)
+    (one.agrees (keys_typed canon.settings k) (taken_at h) (read_all canon (server_core (server_at h)) t.there) t.agrees)
 
 -- THE OPENING
 begun : (canon : Canon) (width height : ℕ) → canon.settings.chars ≡ standard_characters
@@ -292,7 +289,7 @@ begun canon width height standard = record {
   told = refl;
   calm_back = opening_calm canon.settings standard;
   agrees = begun_agrees canon width height (server_at (server.begun canon)) (end_at (client.begun width height canon.limit)) (server_there (server.begun canon))
-      refl (stands_there (client.begun width height canon.limit));
+      (stands_there (client.begun width height canon.limit));
   server = server_kept canon (server_at (server.begun canon)) (server_there (server.begun canon));
   client = client_kept canon width height (end_at (client.begun width height canon.limit)) (stands_there (client.begun width height canon.limit)) standard;
 }
@@ -310,8 +307,8 @@ begins canon editing width height n standard =
 pub prefix : (canon : Canon) (h : server.History) (k : client.History) → TiedHistories canon h k
     → IsPrefixOf (entries h) (typed_entries canon (keys_typed canon.settings k))
 prefix canon h k t =
-    let v = read_all canon (server_core (server_at h)) (server_items t.there) in
-    let more = prefix_after (taken_at h) (waiting h) v.waiting (read-more canon (server_core (server_at h)) (server_items t.there)) in (
+    let v = read_all canon (server_core (server_at h)) t.there in
+    let more = prefix_after (taken_at h) (waiting h) v.waiting (read-more canon (server_core (server_at h)) t.there) in (
       more.0,
       ap (λ (es : List Entry). es ++ more.0) (sym (take-append-drop (taken_count h) (entries h))) ∙ more.1
           ∙ agreed canon (keys_typed canon.settings k) (taken_at h) v (end_at k) t.agrees,
@@ -322,6 +319,6 @@ pub complete : (canon : Canon) (h : server.History) (k : client.History) → Tie
 complete canon h k t all =
     let none = append_cancel_left (server.items h) t.there [] (sym t.said ∙ sym all ∙ sym (append-nil (server.items h))) in
     sym (take-append-drop (taken_count h) (entries h))
-    ∙ subst (λ (l : List Item). taken_at h ++ (read_all canon (server_core (server_at h)) (server_items l)).waiting
+    ∙ subst (λ (l : List Item). taken_at h ++ (read_all canon (server_core (server_at h)) l).waiting
     ≡ typed_entries canon (keys_typed canon.settings k)) none
-    (agreed canon (keys_typed canon.settings k) (taken_at h) (read_all canon (server_core (server_at h)) (server_items t.there)) (end_at k) t.agrees)
+    (agreed canon (keys_typed canon.settings k) (taken_at h) (read_all canon (server_core (server_at h)) t.there) (end_at k) t.agrees)

@@ -1,6 +1,6 @@
 -- What is in flight after a mark, and from the opening on: nothing that turns LINEMODE off or changes a
 -- special character, and nothing that turns it on but where the special characters are the standard ones.
-use Rattle.std.specs.Prelude.{◌≡◌, ◌⊎◌, ℕ, ◌==◌, Bool, true, IsTrue, false, IsFalse, Option, Some}
+use Rattle.std.specs.Prelude.{◌≡◌, ◌⊎◌, ℕ, ◌==◌, IsTrue, IsFalse, Option, Some}
 use Rattle.tn_codes.specs.declared.codes.Verb.{Verb}
 use Rattle.tn_codes.specs.declared.codes.Verb.TheVariants.{Will, DoIt}
 use Rattle.tn_codes.specs.OptionCodes as option_code
@@ -10,15 +10,10 @@ use Rattle.tn_codes.specs.declared.payloads.Payload.TheVariants as payload
 use Rattle.tn_discipline.specs.Characters.{standard_characters}
 use Rattle.tn_discipline.specs.declared.termios.Settings.{Settings}
 use Rattle.tn_linemode.specs.Exchange.{announcement}
-use Rattle.tn_linemode.specs.Modes.{edits, is_acknowledged, traps}
+use Rattle.tn_linemode.specs.Modes.{is_acknowledged}
 use Rattle.tn_nvt.specs.declared.items.Item.{Item}
-use Rattle.tn_nvt.specs.declared.items.Item.TheVariants.{Byte, Newline, Cmd, Neg, Sub}
-use Rattle.tn_world.specs.relation.Machine as machine
-use Rattle.tn_world.specs.relation.Machine.{Mode, byte, newline, command, mode_ack, linemode_on, other, IsAskable}
-
--- RFC 1184, section 2.2: the two bits of a mask that both ends keep
-abbrev pub bits : ℕ → Mode
-bits mask = record { edit = edits mask; trapsig = traps mask }
+use Rattle.tn_nvt.specs.declared.items.Item.TheVariants.{Neg, Sub}
+use Rattle.tn_world.specs.relation.Machine.{bits, IsAskable}
 
 -- to the server: no MODE but one that acknowledges, and no list of characters
 abbrev pub SaysCalmly : Option Payload → Type 0
@@ -47,19 +42,3 @@ abbrev pub IsCalmToClient : Settings → Item → Type 0
 IsCalmToClient s (Neg verb option) = IsFalse (option == option_code.linemode) ⊎ TurnsOn s DoIt verb option
 IsCalmToClient s (Sub option params) = AsksCalmly s (payload_of option params)
 IsCalmToClient s _ = Unit {0}
-
--- what a calm item says to the server
-abbrev pub seen_payload : Option Payload → machine.Item
-seen_payload (Some (payload.Mode mask)) = mode_ack (bits mask)
-seen_payload _ = other
-
-abbrev pub seen_word : Bool → machine.Item
-seen_word true = linemode_on
-seen_word false = other
-
-abbrev pub server_item : Item → machine.Item
-server_item (Byte b) = byte b
-server_item Newline = newline
-server_item (Cmd c) = command c
-server_item (Neg verb option) = seen_word (option == option_code.linemode)
-server_item (Sub option params) = seen_payload (payload_of option params)

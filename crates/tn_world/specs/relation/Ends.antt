@@ -1,22 +1,17 @@
 -- Both ends as the relation between them sees them, and the two flights between them as bytes.
-use Rattle.std.specs.Prelude.{◌≡◌, ℕ, List, ◌++◌, map, All}
+use Rattle.std.specs.Prelude.{◌≡◌, ℕ, List, ◌++◌, All}
 use Rattle.tn_nvt.specs.declared.items.Item.{Item}
 use Rattle.tn_nvt.specs.Spelling.{Fits}
 use Rattle.tn_nvt.specs.Feeding.{DecoderState, Advances}
 use Rattle.tn_discipline.specs.Canon.{Canon}
 use Rattle.tn_discipline.specs.declared.reads.Entry.{Entry}
-use Rattle.tn_world.specs.relation.Machine as machine
 use Rattle.tn_client.specs.Calls as client
-use Rattle.tn_world.specs.relation.Machine.{command, Server, read_all}
-use Rattle.tn_world.specs.relation.Calm.{IsCalmToServer, IsCalmToClient, server_item}
+use Rattle.tn_world.specs.relation.Machine.{Server, read_all}
+use Rattle.tn_world.specs.relation.Calm.{IsCalmToServer, IsCalmToClient}
 
 pub record ServerEnd : Type 0 where
   pub decoder : DecoderState
   pub core : Server
-
--- what these items say to the server
-abbrev pub server_items : List Item → List machine.Item
-server_items items = map server_item items
 
 -- what the server says: items that fit a stream and are calm
 pub record AreReplies (canon : Canon) (said : List Item) : Type 0 where
@@ -27,7 +22,7 @@ pub record ServerFeeds (canon : Canon) (old : ServerEnd) (piece : List ℕ) (sai
     (new : ServerEnd) : Type 0 where
   pub got : List Item
   pub reads : Advances old.decoder piece got new.decoder
-  pub core : new.core ≡ read_all canon old.core (server_items got)
+  pub core : new.core ≡ read_all canon old.core got
   pub replies : AreReplies canon said
 
 -- what the client says of lines: items that fit a stream and are calm
@@ -35,11 +30,11 @@ pub record AreSaid (canon : Canon) (said : List Item) : Type 0 where
   pub fit : All Fits said
   pub calm : All (IsCalmToServer canon.settings) said
 
--- and these say this to any server
-pub record SaysItems (canon : Canon) (says : List machine.Item) (said : List Item) : Type 0 where
+-- and any server reads them as these
+pub record SaysItems (canon : Canon) (says : List Item) (said : List Item) : Type 0 where
   pub fit : All Fits said
   pub calm : All (IsCalmToServer canon.settings) said
-  pub says_so : (v : Server) → read_all canon v (server_items said) ≡ read_all canon v says
+  pub says_so : (v : Server) → read_all canon v said ≡ read_all canon v says
 
 pub record World : Type 0 where
   pub typed : List ℕ

@@ -1,40 +1,19 @@
 -- The server as far as lines go: what it makes of what comes.
-use Rattle.std.specs.Prelude.{◌≡◌, ◌⊎◌, ℕ, Bool, true, IsTrue, false, ◌&&◌}
-use Rattle.std.specs.Prelude.{List}
-use Rattle.std.specs.Prelude.{[], ◌∷◌, ◌++◌, map, if◌then◌else◌}
-use Rattle.tn_codes.specs.declared.codes.Command.{Command}
-use Rattle.tn_codes.specs.declared.codes.Command.TheVariants.{Susp, Abort, Ip}
-use Rattle.tn_discipline.specs.declared.reads.Entry.{Entry}
+use Rattle.std.specs.Prelude.{◌≡◌, ◌⊎◌, ℕ, ◌==◌, Bool, true, IsTrue, false, ◌&&◌, ◌||◌, Option, Some}
+use Rattle.std.specs.Prelude.{List, [], ◌∷◌, ◌++◌, if◌then◌else◌}
+use Rattle.tn_codes.specs.OptionCodes as option_code
+use Rattle.tn_codes.specs.PayloadOf.{payload_of}
+use Rattle.tn_codes.specs.declared.payloads.Payload.{Payload}
+use Rattle.tn_codes.specs.declared.payloads.Payload.TheVariants as payload
 use Rattle.tn_discipline.specs.Canon.{Canon}
 use Rattle.tn_discipline.specs.Steps.{half_next, gain_next}
+use Rattle.tn_discipline.specs.declared.reads.Entry.{Entry}
 use Rattle.tn_discipline.specs.declared.termios.Settings.{Settings}
-use Rattle.tn_discipline.specs.declared.reads.Sig.{Sig}
-use Rattle.tn_discipline.specs.declared.reads.Sig.TheVariants.{Int, Quit, Tstp}
-use Rattle.tn_discipline.specs.declared.keys.Role.{Role}
-use Rattle.tn_discipline.specs.declared.keys.Role.TheVariants as role
-use Rattle.tn_pty.specs.Typing.{command_role}
-use Rattle.tn_server.specs.Lines.{role_of_byte}
+use Rattle.tn_linemode.specs.Modes.{edits, traps}
+use Rattle.tn_nvt.specs.declared.items.Item.{Item}
+use Rattle.tn_nvt.specs.declared.items.Item.TheVariants.{Neg, Sub}
+use Rattle.tn_server.specs.Lines.{role_at}
 use Rattle.tn_server.specs.Terms.{allows_local}
-
--- the two bits of a mode
-pub record Mode : Type 0 where
-  pub edit : Bool
-  pub trapsig : Bool
-
--- what is in flight to the server
-pub data Item : Type 0 where
-  byte : ℕ → Item
-  newline : Item
-  command : Command → Item
-  mode_ack : Mode → Item
-  linemode_on : Item
-  other : Item
-
--- the command of a signal
-abbrev pub command_of : Sig → Command
-command_of Int = Ip
-command_of Quit = Abort
-command_of Tstp = Susp
 
 -- The server: whether LINEMODE is on, whether it takes bytes as edited, its half line, and the entries that
 -- wait.
@@ -43,55 +22,45 @@ pub record Server : Type 0 where
   pub edit : Bool
   pub half : List ℕ
   pub waiting : List Entry
-  pub failed : Bool
 
-abbrev pub item_role : Settings → Bool → Item → Role
-item_role s edit (byte b) = role_of_byte s edit b
-item_role s edit newline = role_of_byte s edit 10
-item_role s edit (command c) = command_role c
-item_role s edit (mode_ack m) = role.Ignored
-item_role s edit linemode_on = role.Ignored
-item_role s edit other = role.Ignored
-
--- LINEMODE comes on once
+-- a calm word on LINEMODE turns it on
 abbrev pub linemode_after : Bool → Item → Bool
-linemode_after linemode linemode_on = true
-linemode_after linemode (mode_ack m) = linemode
-linemode_after linemode (byte b) = linemode
-linemode_after linemode newline = linemode
-linemode_after linemode (command c) = linemode
-linemode_after linemode other = linemode
+linemode_after on (Neg verb option) = (option == option_code.linemode) || on
+linemode_after on _ = on
 
--- a mode counts where LINEMODE is on, and LINEMODE begins without EDIT
+-- a mode counts where LINEMODE is on
+abbrev pub edit_by : Bool → Bool → Option Payload → Bool
+edit_by on edit (Some (payload.Mode mask)) = if on then edits mask else edit
+edit_by on edit _ = edit
+
+-- and LINEMODE begins without EDIT
 abbrev pub edit_after : Bool → Bool → Item → Bool
-edit_after linemode edit (mode_ack m) = if linemode then m.edit else edit
-edit_after linemode edit linemode_on = linemode && edit
-edit_after linemode edit (byte b) = edit
-edit_after linemode edit newline = edit
-edit_after linemode edit (command c) = edit
-edit_after linemode edit other = edit
+edit_after on edit (Neg verb option) = if option == option_code.linemode then on && edit else edit
+edit_after on edit (Sub option params) = edit_by on edit (payload_of option params)
+edit_after on edit _ = edit
 
-abbrev pub read_item : Canon → Server → Item → Server
-read_item canon v item =
+-- the server after one calm item
+abbrev pub read : Canon → Server → Item → Server
+read canon v item =
     record {
       linemode = linemode_after v.linemode item;
       edit = edit_after v.linemode v.edit item;
-      half = half_next canon.limit v.half (item_role canon.settings v.edit item);
-      waiting = v.waiting ++ gain_next canon.limit v.half (item_role canon.settings v.edit item);
-      failed = false;
+      half = half_next canon.limit v.half (role_at canon.settings v.edit item);
+      waiting = v.waiting ++ gain_next canon.limit v.half (role_at canon.settings v.edit item);
     }
-
--- the server after one item
-abbrev pub read : Canon → Server → Item → Server
-read canon v item = if v.failed then v else read_item canon v item
 
 -- the server after these items
 abbrev pub read_all : Canon → Server → List Item → Server
 read_all canon v [] = v
 read_all canon v (item ∷ items) = read_all canon (read canon v item) items
 
-abbrev pub bytes : List ℕ → List Item
-bytes bs = map (λ b. byte b) bs
+-- RFC 1184, section 2.2: the two bits of a mask that both ends keep
+pub record Mode : Type 0 where
+  pub edit : Bool
+  pub trapsig : Bool
+
+abbrev pub bits : ℕ → Mode
+bits mask = record { edit = edits mask; trapsig = traps mask }
 
 abbrev pub remote_mode : Mode
 remote_mode = record { edit = false; trapsig = false }

@@ -24,7 +24,6 @@ server_core end =
       edit = edits end.modes.current;
       half = end.terminal.line.held;
       waiting = end.terminal.entries;
-      failed = end.failed;
     }
 
 abbrev pub server_picture : server.End → ServerEnd

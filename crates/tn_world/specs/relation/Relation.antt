@@ -14,19 +14,17 @@ use Rattle.tn_linemode.specs.Modes.{edits}
 use Rattle.tn_world.specs.Headline.{local_entries}
 use Rattle.tn_streams.specs.Prefixes.{IsPrefixOf}
 use Rattle.tn_world.specs.Past.{HasPast}
-use Rattle.tn_world.specs.relation.Calm.{bits, IsCalmToServer, IsCalmToClient}
+use Rattle.tn_world.specs.relation.Calm.{IsCalmToServer, IsCalmToClient}
 use Rattle.tn_world.specs.relation.Ends as ends
-use Rattle.tn_world.specs.relation.Ends.{server_items}
 use Rattle.tn_world.specs.Flight.{InFlight}
-use Rattle.tn_world.specs.relation.Machine.{Server, read_all, IsAskable}
+use Rattle.tn_world.specs.relation.Machine.{bits, Server, read_all, IsAskable}
 use Rattle.tn_world.specs.relation.Pictures.{server_core, server_picture, ServerStays}
 use Rattle.tn_world.specs.relation.Pictures.{ClientStays}
 use Rattle.tn_world.specs.Worlds.{World}
 
--- a server that goes on
 abbrev pub server_at : Bool → Bool → List ℕ → List Entry → Server
 server_at linemode edit half waiting =
-    record { linemode = linemode; edit = edit; half = half; waiting = waiting; failed = false }
+    record { linemode = linemode; edit = edit; half = half; waiting = waiting }
 
 -- bytes that are ordinary as they are
 abbrev pub AreOrdinary : Characters → List ℕ → Type 0
@@ -61,7 +59,7 @@ pub record IsTied (canon : Canon) (w : ends.World) : Type 0 where
   pub messages : List Item
   pub back : InFlight w.client.decoder w.to_client messages
   pub calm_back : All (IsCalmToClient canon.settings) messages
-  pub agrees : Agrees canon w.typed w.taken (read_all canon w.server.core (server_items items))
+  pub agrees : Agrees canon w.typed w.taken (read_all canon w.server.core items)
       w.client
 
 abbrev pub picture : World → ends.World
@@ -89,7 +87,7 @@ pub record IsBehind (canon : Canon) (w : World) : Type 0 where
   pub flight : InFlight w.server.decoder w.to_server items
   pub calm : All (IsCalmToServer canon.settings) items
   pub begins : IsPrefixOf (w.taken
-      ++ (read_all canon (server_core w.server) (server_items items)).waiting)
+      ++ (read_all canon (server_core w.server) items).waiting)
       (local_entries canon w.typed)
   pub server : ServerStays canon w.server
   pub past : HasPast w
