@@ -3,7 +3,7 @@ use Rattle.std.proofs.Common.{◌≡◌, ◌⊎◌, inl, inr, ◌<◌, ℕ, zero
 use Rattle.std.proofs.Common.{[], ◌∷◌, ◌++◌, length, refl, sym, ap, ◌∙◌, if◌then◌else◌, subst, arith, append-nil, append_assoc}
 use Rattle.std.specs.Prelude.{All, bit_or}
 use Rattle.std.proofs.lemmas.Bool.{eqb-true}
-use Rattle.std.proofs.lemmas.List.Elements.{All-nil, All-cons, All-head, All-tail, All-append}
+use Rattle.std.proofs.lemmas.List.Elements.{All-nil, All-head, All-tail, All-append}
 use Rattle.std.proofs.lemmas.Nat.{and_assoc}
 use Rattle.tn_codes.specs.Payloads.{parameters_of}
 use Rattle.tn_codes.specs.PayloadOf.{payload_of}
@@ -35,7 +35,7 @@ use Rattle.tn_client.proofs.lemmas.Gathering.{says_both}
 use Rattle.tn_client.proofs.lemmas.Standings.{typed_limit, left_limit}
 use Rattle.tn_client.proofs.lemmas.Stopping.{front_said}
 use Rattle.tn_nvt.specs.Feeding.{DecoderState}
-use Rattle.tn_world.specs.relation.Machine.{Mode, Server, bits, read, read_all, IsAskable}
+use Rattle.tn_world.specs.relation.Machine.{Server, bits, read_all, IsAskable}
 use Rattle.tn_world.specs.relation.Calm.{IsCalmToServer, IsCalmToClient}
 use Rattle.tn_world.specs.relation.Ends.{AreSaid, SaysItems}
 use Rattle.tn_world.specs.relation.Pictures.{IsOffOrOn, ClientStays}

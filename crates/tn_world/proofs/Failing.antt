@@ -44,10 +44,10 @@ use Rattle.tn_world.specs.declared.events.Event.TheVariants.{Key, Send, ToServer
 use Rattle.tn_world.specs.declared.events.Event.TheVariants.{ServerStops, ClientStops}
 use Rattle.tn_world.proofs.ClientSteps.{items-come, stops_front}
 use Rattle.tn_world.proofs.Cut.{said_behind, cut_at}
-use Rattle.tn_world.proofs.Following.{calls, flight_fits, holds_does, does_keeps}
+use Rattle.tn_world.proofs.Following.{flight_fits, holds_does, does_keeps}
 use Rattle.tn_world.proofs.Prefixes.{prefix_trans, prefix_after, prefix_same, read-more, agreed, taken-waits}
 use Rattle.tn_world.proofs.Reading.{read_all-append, entries-typed}
-use Rattle.tn_world.proofs.ServerSteps.{KeepsEntries, goes_on, stays_fed, core_call, stays_call}
+use Rattle.tn_world.proofs.ServerSteps.{KeepsEntries, calls, goes_on, stays_fed, core_call, stays_call}
 use Rattle.tn_world.proofs.Soundness.{opposite, call_goes_on, halts_sound, breaks_sound, again_sound, sound_does, Refusal, unchanged, by_server}
 use Rattle.tn_world.proofs.Soundness.{by_client, refusal_of}
 use Rattle.tn_world.proofs.Reading.{all_parts}
@@ -95,13 +95,13 @@ server_goes_on end e = by_test end.failed refl
 -- THE CLIENT SAYS NOTHING MORE
 pub related_behind : (s : Canon) (w : World) → IsRelated s w → IsBehind s w
 related_behind s w h =
-    let v = read_all s (server_core w.server) h.tied.items in
+    let v = read_all s (server_core w.server) h.items in
     record {
-      items = h.tied.items;
-      flight = h.tied.flight;
+      items = h.items;
+      flight = h.flight;
       calm = h.tied.calm;
       begins = prefix_same (w.taken ++ v.waiting) (local_entries s w.typed) (agreed s w.typed w.taken v w.client h.tied.agrees);
-      server = h.server;
+      server = h.tied.server;
       past = h.past;
     }
 
@@ -116,20 +116,14 @@ behind_begins s w h =
 -- an event that has no part in it
 behind_as : (s : Canon) (old new : World) → new.server ≡ old.server → new.to_server ≡ old.to_server → new.typed ≡ old.typed → new.taken ≡ old.taken
     → HasPast new → IsBehind s old → IsBehind s new
-behind_as s old new a b c d sound h =
-    let Goes : List Entry → List ℕ → server.End → Type 0 = λ taken typed end.
-    IsPrefixOf (taken ++ (read_all s (server_core end) h.items).waiting) (local_entries s typed) in
-    record {
-      items = h.items;
-      flight =
-          subst (λ (x : List ℕ). InFlight new.server.decoder x h.items) (sym b)
-          (subst (λ (e : server.End). InFlight e.decoder old.to_server h.items) (sym a) h.flight);
-      calm = h.calm;
-      begins = subst (λ x. Goes x new.typed new.server) (sym d) (subst (λ x. Goes old.taken x new.server) (sym c)
-          (subst (λ x. Goes old.taken old.typed x) (sym a) h.begins));
-      server = subst (λ (e : server.End). ServerStays s e) (sym a) h.server;
-      past = sound;
-    }
+behind_as s old new a b c d sound h = record {
+  items = h.items;
+  flight = rw (a, b) h.flight;
+  calm = h.calm;
+  begins = rw (a, c, d) h.begins;
+  server = rw a h.server;
+  past = sound;
+}
 
 -- reading in two parts
 read_two : (s : Canon) (v : Server) (all xs ys : List Item) → all ≡ xs ++ ys
@@ -148,50 +142,41 @@ behind_reaches s old new n sound t h =
     let same : read_all s (server_core old.server) h.items ≡ read_all s (server_core new.server) d.left =
     read_two s (server_core old.server) h.items f.items d.left d.all
     ∙ ap (λ v. read_all s v d.left) (sym (ap server_core f.step ∙ later.core)) in
-    record {
+    subst (λ (w : World). HasPast w → IsBehind s w) (sym t.rest) (λ past. record {
       items = d.left;
-      flight = subst (λ (x : List ℕ). InFlight new.server.decoder x d.left) (ap (λ (w : World). w.to_server) (sym t.rest)) d.flight;
+      flight = d.flight;
       calm = calm.1;
-      begins =
-          subst (λ (w : World). IsPrefixOf (w.taken ++ (read_all s (server_core new.server) d.left).waiting) (local_entries s w.typed))
-          (sym t.rest)
-          (subst (λ (v : Server). IsPrefixOf (old.taken ++ v.waiting) (local_entries s old.typed)) same h.begins);
+      begins = subst (λ (v : Server). IsPrefixOf (old.taken ++ v.waiting) (local_entries s old.typed)) same h.begins;
       server = stays_fed s (end_all_there old.server f.items) new.server f.step later.stays;
-      past = sound;
-    }
+      past = past;
+    }) sound
 
 -- a call of the server that makes no entry and takes none
 behind_asks : (s : Canon) (old new : World) (e : server_calls.Event) → KeepsEntries e → HasPast new → CallsServer old e new → IsBehind s old → IsBehind s new
 behind_asks s old new e plain sound t h =
-    record {
+    subst (λ (w : World). HasPast w → IsBehind s w) (sym t.step) (λ past. record {
       items = h.items;
-      flight =
-          subst (λ (w : World). InFlight w.server.decoder w.to_server h.items) (sym t.step)
-          (subst (λ d. InFlight d old.to_server h.items) (sym (ap (λ (x : server.End). x.decoder) (call_keeps old.server e))) h.flight);
+      flight = subst (λ d. InFlight d old.to_server h.items) (sym (ap (λ (x : server.End). x.decoder) (call_keeps old.server e))) h.flight;
       calm = h.calm;
       begins =
-          subst (λ (w : World). IsPrefixOf (w.taken ++ (read_all s (server_core w.server) h.items).waiting) (local_entries s w.typed))
-          (sym t.step)
-          (subst (λ (v : Server). IsPrefixOf (old.taken ++ (read_all s v h.items).waiting) (local_entries s old.typed))
-          (sym (core_call old.server e plain)) h.begins);
-      server = subst (λ (w : World). ServerStays s w.server) (sym t.step) (stays_call s old.server e (calls e plain) h.server);
-      past = sound;
-    }
+          subst (λ (v : Server). IsPrefixOf (old.taken ++ (read_all s v h.items).waiting) (local_entries s old.typed))
+          (sym (core_call old.server e plain)) h.begins;
+      server = stays_call s old.server e (calls e plain) h.server;
+      past = past;
+    }) sound
 
 -- an entry is asked for
 behind_takes : (s : Canon) (old new : World) → HasPast new → TakesEntry old new → IsBehind s old → IsBehind s new
 behind_takes s old new sound t h =
-    let items = h.items in
-    record {
+    subst (λ (w : World). HasPast w → IsBehind s w) (sym t) (λ past. record {
       items = h.items;
-      flight = subst (λ (w : World). InFlight w.server.decoder w.to_server h.items) (sym t) h.flight;
+      flight = h.flight;
       calm = h.calm;
       begins =
-          subst (λ (w : World). IsPrefixOf (w.taken ++ (read_all s (server_core w.server) items).waiting) (local_entries s w.typed)) (sym t)
-          (subst (λ (xs : List Entry). IsPrefixOf xs (local_entries s old.typed)) (sym (taken-waits s (server_core old.server) old.taken items)) h.begins);
-      server = subst (λ (w : World). ServerStays s w.server) (sym t) (stays_call s old.server server_calls.took tt h.server);
-      past = sound;
-    }
+          subst (λ (xs : List Entry). IsPrefixOf xs (local_entries s old.typed)) (sym (taken-waits s (server_core old.server) old.taken h.items)) h.begins;
+      server = stays_call s old.server server_calls.took tt h.server;
+      past = past;
+    }) sound
 
 -- A REFUSED DELIVERY
 -- the items of a prefix of a piece are the first of those in flight
@@ -246,13 +231,13 @@ behind_breaks s old new n fault none r h =
     let had = client_calls.items at.history in
     let got = x.done ++ x.left in
     let said = says_items old.client x.done ++ x.part in
-    let f = front_at old.client.decoder x.here n old.to_client x.front x.back h.tied.messages got h.tied.back x.whole x.reads in
+    let f = front_at old.client.decoder x.here n old.to_client x.front x.back h.messages got h.back x.whole x.reads in
     let calm = (all_parts (IsCalmToClient s.settings) got f.0 (subst (λ l. All (IsCalmToClient s.settings) l) f.1 h.tied.calm_back)).0 in
-    let all = items-come s old.client got h.client calm in
+    let all = items-come s old.client got h.tied.client calm in
     let w = stops_front old.client x.done x.left x.part x.here x.back (x.cause bytes had at.reads) in
     let fit = (all_parts Fits said w.0 (subst (λ l. All Fits l) w.1 all.said.fit)).0 in
     let hushed = (all_parts (IsCalmToServer s.settings) said w.0 (subst (λ l. All (IsCalmToServer s.settings) l) w.1 all.said.calm)).0 in
-    let v = read_all s (server_core old.server) h.tied.items in
+    let v = read_all s (server_core old.server) h.items in
     let here = read_all s v said in
     let there = read_all s here w.0 in
     let made : old.taken ++ there.waiting ≡ local_entries s old.typed =
@@ -260,22 +245,22 @@ behind_breaks s old new n fault none r h =
     ∙ agreed s old.typed old.taken (read_all s v (says_items old.client got)) (end_after_items old.client got)
     (all.agrees old.typed old.taken v h.tied.agrees) in
     let end : new.server ≡ old.server = ap (λ (u : World). u.server) r.rest in
-    let begins : IsPrefixOf (old.taken ++ (read_all s (server_core old.server) (h.tied.items ++ said)).waiting) (local_entries s old.typed) =
+    let begins : IsPrefixOf (old.taken ++ (read_all s (server_core old.server) (h.items ++ said)).waiting) (local_entries s old.typed) =
     subst (λ (u : Server). IsPrefixOf (old.taken ++ u.waiting) (local_entries s old.typed))
-    (sym (read_two s (server_core old.server) (h.tied.items ++ said) h.tied.items said refl))
+    (sym (read_two s (server_core old.server) (h.items ++ said) h.items said refl))
     (prefix_trans (old.taken ++ here.waiting) (old.taken ++ there.waiting) (local_entries s old.typed)
     (prefix_after old.taken here.waiting there.waiting (read-more s here w.0))
     (prefix_same (old.taken ++ there.waiting) (local_entries s old.typed) made)) in
     record {
-      items = h.tied.items ++ said;
+      items = h.items ++ said;
       flight =
-          subst (λ (e : server.End). InFlight e.decoder new.to_server (h.tied.items ++ said)) (sym end)
-          (said_behind old.server.decoder old.to_server new.to_server h.tied.items said x.said fit h.tied.flight);
-      calm = All-append (IsCalmToServer s.settings) h.tied.items said h.tied.calm hushed;
+          subst (λ (e : server.End). InFlight e.decoder new.to_server (h.items ++ said)) (sym end)
+          (said_behind old.server.decoder old.to_server new.to_server h.items said x.said fit h.flight);
+      calm = All-append (IsCalmToServer s.settings) h.items said h.tied.calm hushed;
       begins =
-          subst (λ (u : World). IsPrefixOf (u.taken ++ (read_all s (server_core u.server) (h.tied.items ++ said)).waiting)
+          subst (λ (u : World). IsPrefixOf (u.taken ++ (read_all s (server_core u.server) (h.items ++ said)).waiting)
           (local_entries s u.typed)) (sym r.rest) begins;
-      server = subst (λ (e : server.End). ServerStays s e) (sym end) h.server;
+      server = subst (λ (e : server.End). ServerStays s e) (sym end) h.tied.server;
       past = sound_breaks old new n fault r h.past;
     }
 

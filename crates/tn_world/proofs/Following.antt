@@ -29,10 +29,10 @@ use Rattle.tn_client.specs.declared.commands.UserCommand.TheVariants as user
 use Rattle.tn_world.proofs.Interrupting.{interrupts_there}
 use Rattle.tn_world.specs.Past.{HasPast}
 use Rattle.tn_world.specs.Headline.{RunsQuietly, IsQuietEvent, PassesQuietly, NoneFailed}
-use Rattle.tn_world.specs.relation.Calm.{IsCalmToServer}
-use Rattle.tn_world.specs.relation.Ends.{AreReplies, SaysItems}
+use Rattle.tn_world.specs.relation.Calm.{IsCalmToClient}
+use Rattle.tn_world.specs.relation.Ends.{SaysItems}
 use Rattle.tn_world.specs.Flight.{InFlight}
-use Rattle.tn_world.specs.relation.Pictures.{server_core, server_picture, ServerStays, ClientStays}
+use Rattle.tn_world.specs.relation.Pictures.{server_core, ServerStays}
 use Rattle.tn_world.specs.Worlds.{World, canon_of, UnlessStopped, TypesKey, key_sent, SendsCommand, CallsClient, DeliversToServer, DeliversToClient}
 use Rattle.tn_world.specs.Worlds.{CallsServer, Pulls, TakesEntry, RunsEvent, Refuses}
 use Rattle.tn_world.specs.declared.events.Event.{Event}
@@ -40,25 +40,17 @@ use Rattle.tn_world.specs.declared.events.Event.TheVariants.{Key, Send, ToServer
 use Rattle.tn_world.specs.declared.events.Event.TheVariants.{ServerStops, ClientStops}
 use Rattle.tn_world.specs.declared.faults.Cause.{Cause}
 use Rattle.tn_world.proofs.ClientSteps as client_steps
-use Rattle.tn_world.proofs.ClientSteps.{key_stays}
+use Rattle.tn_world.proofs.ClientSteps.{key_said, items-come, resized-writes}
+use Rattle.tn_client.specs.Calls as client
+use Rattle.tn_client.specs.Steps.{end_after_key, says_key, shows_key, end_after_resize, says_resize, end_after_items, says_items}
+use Rattle.tn_discipline.specs.declared.reads.Entry.{Entry}
 use Rattle.tn_world.proofs.ServerSteps as server_steps
-use Rattle.tn_world.proofs.ServerSteps.{KeepsEntries, IsCall}
+use Rattle.tn_world.proofs.ServerSteps.{KeepsEntries}
 use Rattle.tn_world.proofs.Soundness.{asked_fit, feeds_fit, opposite, Refusal, unchanged, by_server, by_client, refusal_of, sound_does}
-use Rattle.tn_world.proofs.Cut.{cut_at}
+use Rattle.tn_world.proofs.Cut.{behind, cut_at}
 use Rattle.tn_world.proofs.Reading.{all_parts}
-use Rattle.tn_world.proofs.Tied.{key-tied, interrupt-tied, aside-tied, resize-tied, client-tied, says-tied, server-tied, took-tied}
-use Rattle.tn_world.specs.relation.Relation.{IsRelated, IsTied, picture}
-
--- a call that makes no entry and takes none changes no character either
-pub calls : (e : server_calls.Event) → KeepsEntries e → IsCall e
-calls (server_calls.wrote bytes) p = tt
-calls (server_calls.pulled n) p = tt
-calls (server_calls.wished editing) p = tt
-calls (server_calls.echo_set on) p = tt
-calls (server_calls.mask_set mask) p = tt
-calls (server_calls.got item) p = absurd (p)
-calls server_calls.took p = absurd (p)
-calls (server_calls.char_set func value) p = absurd (p)
+use Rattle.tn_world.proofs.Tied.{key-tied, interrupt-tied, aside-tied, resize-tied, return-tied, client-as, reach-tied, call-tied, take-tied, server-as}
+use Rattle.tn_world.specs.relation.Relation.{IsRelated, IsTied}
 
 -- the items of a reading fit
 segments_fit : (segments : List Segment) (rest stream : List ℕ) → Splits segments rest stream → All Fits (flat_map gives segments)
@@ -75,15 +67,39 @@ reading_fits stream items rest r = subst (λ l. All Fits l) (sym r.read) (segmen
 pub flight_fits : (d : DecoderState) (flight : List ℕ) (items : List Item) → InFlight d flight items → All Fits items
 flight_fits d flight items f = (all_parts Fits f.had items (reading_fits (f.stream ++ flight) (f.had ++ items) [] f.reads)).1
 
+-- what the client says joins what is in flight to the server
+module _ (s : Canon) (old : World) (h : IsRelated s old) (new : World) (sound : HasPast new) where
+  client_says : (said : List Item) (keys echoed : List ℕ) (end : client.End) → All Fits said → end.decoder ≡ old.client.decoder
+      → IsTied s keys old.taken (h.items ++ said) h.messages old.server end
+      → new ≡ record old { client = end; to_server = old.to_server ++ spells said; echoed = echoed; typed = keys } → IsRelated s new
+  client_says said keys echoed end fit decoder tied is =
+      subst (λ (w : World). HasPast w → IsRelated s w) (sym is) (λ past. record {
+        items = h.items ++ said;
+        flight = behind old.server.decoder old.to_server h.items said fit h.flight;
+        messages = h.messages;
+        back = subst (λ d. InFlight d old.to_client h.messages) (sym decoder) h.back;
+        tied = tied;
+        past = past;
+      }) sound
+
+  server_says : (said : List Item) (taken : List Entry) (end : server.End) → All Fits said → end.decoder ≡ old.server.decoder
+      → IsTied s old.typed taken h.items (h.messages ++ said) end old.client
+      → new ≡ record old { server = end; to_client = old.to_client ++ spells said; taken = taken } → IsRelated s new
+  server_says said taken end fit decoder tied is =
+      subst (λ (w : World). HasPast w → IsRelated s w) (sym is) (λ past. record {
+        items = h.items;
+        flight = subst (λ d. InFlight d old.to_server h.items) (sym decoder) h.flight;
+        messages = h.messages ++ said;
+        back = behind old.client.decoder old.to_client h.messages said fit h.back;
+        tied = tied;
+        past = past;
+      }) sound
+
 -- a key
 holds_types : (s : Canon) (old new : World) (key : ℕ) → HasPast new → TypesKey old key new → IsRelated s old → IsRelated s new
 holds_types s old new key sound t h =
-    record {
-      tied = subst (λ w. IsTied s (picture w)) (sym t.step) (key-tied s (picture old) key h.client h.tied);
-      server = subst (λ (w : World). ServerStays s w.server) (sym t.step) h.server;
-      client = subst (λ (w : World). ClientStays s w.client) (sym t.step) (key_stays s old.client key h.client);
-      past = sound;
-    }
+    client_says s old h new sound (says_key old.client key) (old.typed ++ key ∷ []) (old.echoed ++ shows_key old.client key) (end_after_key old.client key)
+    (key_said s old.client key).fit refl (key-tied h.tied key) t.step
 
 -- a command: the key that it stands for interrupts at the beginning, too
 role_kept : (s : Canon) (w : World) (key : ℕ) → HasPast w → ServerStays s w.server → role_of_key (canon_of w).settings key ≡ role_of_key s.settings key
@@ -99,31 +115,18 @@ holds_interrupts : (s : Canon) (old new : World) (sending : UserCommand) (key : 
     → SaysItems s (Cmd command.Ip ∷ []) (Cmd (command_sent sending) ∷ []) → IsRelated s old → IsRelated s new
 holds_interrupts s old new sending key sound t is interrupts writes h =
     let said = Cmd (command_sent sending) ∷ [] in
-    record {
-      tied =
-          subst (λ w. IsTied s (picture w)) (sym t.step)
-          (subst (λ (k : Option ℕ). IsTied s (record (picture old) { typed = old.typed ++ option_to_list k; to_server = old.to_server ++ spells said }))
-          (sym is) (interrupt-tied s (picture old) key said (sym (role_kept s old key h.past h.server) ∙ interrupts) writes h.tied));
-      server = subst (λ (w : World). ServerStays s w.server) (sym t.step) h.server;
-      client = subst (λ (w : World). ClientStays s w.client) (sym t.step) h.client;
-      past = sound;
-    }
+    client_says s old h new sound said (old.typed ++ key ∷ []) old.echoed old.client writes.fit refl
+    (interrupt-tied h.tied key said (sym (role_kept s old key h.past h.tied.server) ∙ interrupts) writes)
+    (t.step ∙ ap (λ (k : Option ℕ). record old { to_server = old.to_server ++ spells said; typed = old.typed ++ option_to_list k }) is)
 
 -- a command that is no input
 holds_asides : (s : Canon) (old new : World) (sending : UserCommand) → HasPast new → SendsCommand old sending new → key_sent old sending ≡ None
     → SaysItems s [] (Cmd (command_sent sending) ∷ []) → IsRelated s old → IsRelated s new
 holds_asides s old new sending sound t is writes h =
     let said = Cmd (command_sent sending) ∷ [] in
-    record {
-      tied =
-          subst (λ w. IsTied s (picture w)) (sym t.step)
-          (subst (λ (k : Option ℕ). IsTied s (record (picture old) { typed = old.typed ++ option_to_list k; to_server = old.to_server ++ spells said }))
-          (sym is) (subst (λ (x : List ℕ). IsTied s (record (picture old) { typed = x; to_server = old.to_server ++ spells said })) (sym (append-nil old.typed))
-          (aside-tied s (picture old) said writes h.tied)));
-      server = subst (λ (w : World). ServerStays s w.server) (sym t.step) h.server;
-      client = subst (λ (w : World). ClientStays s w.client) (sym t.step) h.client;
-      past = sound;
-    }
+    client_says s old h new sound said old.typed old.echoed old.client writes.fit refl (aside-tied h.tied said writes)
+    (t.step ∙ ap (λ (k : Option ℕ). record old { to_server = old.to_server ++ spells said; typed = old.typed ++ option_to_list k }) is
+    ∙ ap (λ (keys : List ℕ). record old { to_server = old.to_server ++ spells said; typed = keys }) (append-nil old.typed))
 
 holds_sends : (s : Canon) (old new : World) (command : UserCommand) → HasPast new → IsQuietEvent old (Send command)
     → SendsCommand old command new → IsRelated s old → IsRelated s new
@@ -140,86 +143,59 @@ holds_sends s old new user.Nop sound quiet t h = holds_asides s old new user.Nop
 holds_resizes : (s : Canon) (old new : World) (width height : ℕ) → HasPast new → CallsClient old (client_calls.resized width height) new
     → IsRelated s old → IsRelated s new
 holds_resizes s old new width height sound t h =
-    record {
-      tied = subst (λ w. IsTied s (picture w)) (sym t.step) (resize-tied s (picture old) width height h.tied);
-      server = subst (λ (w : World). ServerStays s w.server) (sym t.step) h.server;
-      client = subst (λ (w : World). ClientStays s w.client) (sym t.step)
-          (record { agreed = h.client.agreed; linemode = h.client.linemode; chars = h.client.chars; limit = h.client.limit });
-      past = sound;
-    }
-
--- what a call of the server says
-replies_of : (s : Canon) (w : World) (e : server_calls.Event) → IsCall e → HasPast w → ServerStays s w.server → AreReplies s (says_there w.server e)
-replies_of s w e is past k = record { fit = asked_fit past.history w.server e past.server; calm = server_steps.calm_call s w.server e is k }
+    client_says s old h new sound (says_resize old.client width height) old.typed old.echoed (end_after_resize old.client width height)
+    (resized-writes s old.client width height).fit refl (resize-tied h.tied width height) t.step
 
 -- a call of the server that makes no entry and takes none
 holds_asks : (s : Canon) (old new : World) (e : server_calls.Event) → KeepsEntries e → HasPast new → CallsServer old e new → IsRelated s old → IsRelated s new
 holds_asks s old new e plain sound t h =
-    let end = end_there old.server e in
-    let said = says_there old.server e in
-    record {
-      tied =
-          subst (λ w. IsTied s (picture w)) (sym t.step)
-          (subst (λ v. IsTied s (record (picture old) { server = v; to_client = old.to_client ++ spells said }))
-          (sym (ap (λ d. record { decoder = d; core = server_core end }) (ap (λ (x : server.End). x.decoder) (call_keeps old.server e))
-          ∙ ap (λ c. record { decoder = old.server.decoder; core = c }) (server_steps.core_call old.server e plain)))
-          (says-tied s (picture old) said (replies_of s old e (calls e plain) h.past h.server) h.tied));
-      server = subst (λ (w : World). ServerStays s w.server) (sym t.step) (server_steps.stays_call s old.server e (calls e plain) h.server);
-      client = subst (λ (w : World). ClientStays s w.client) (sym t.step) h.client;
-      past = sound;
-    }
+    server_says s old h new sound (says_there old.server e) old.taken (end_there old.server e) (asked_fit h.past.history old.server e h.past.server)
+    (ap (λ (x : server.End). x.decoder) (call_keeps old.server e)) (call-tied h.tied e plain) t.step
 
 -- an entry is asked for
 holds_takes : (s : Canon) (old new : World) → HasPast new → TakesEntry old new → IsRelated s old → IsRelated s new
 holds_takes s old new sound t h =
-    let said = says_there old.server server_calls.took in
-    let taken = old.taken ++ take 1 old.server.terminal.entries in
-    record {
-      tied =
-          subst (λ w. IsTied s (picture w)) (sym t)
-          (says-tied s (record (picture old) { taken = taken; server = server_picture (end_there old.server server_calls.took) }) said
-          (replies_of s old server_calls.took tt h.past h.server) (took-tied s (picture old) h.tied));
-      server = subst (λ (w : World). ServerStays s w.server) (sym t) (server_steps.stays_call s old.server server_calls.took tt h.server);
-      client = subst (λ (w : World). ClientStays s w.client) (sym t) h.client;
-      past = sound;
-    }
+    let e = server_calls.took in
+    server_says s old h new sound (says_there old.server e) (old.taken ++ take 1 old.server.terminal.entries) (end_there old.server e)
+    (asked_fit h.past.history old.server e h.past.server) refl (take-tied h.tied) t
 
 -- a delivery to the server
 holds_reaches : (s : Canon) (old new : World) (n : ℕ) → HasPast new → DeliversToServer old n new → IsRelated s old → IsRelated s new
 holds_reaches s old new n sound t h =
     let f = t.feeds in
-    let d = cut_at old.server.decoder new.server.decoder n old.to_server h.tied.items f.items h.tied.flight f.reads in
-    let fit = (all_parts Fits f.items d.left (subst (λ l. All Fits l) d.all (flight_fits old.server.decoder old.to_server h.tied.items h.tied.flight))).0 in
-    let calm = (all_parts (IsCalmToServer s.settings) f.items d.left (subst (λ l. All (IsCalmToServer s.settings) l) d.all h.tied.calm)).0 in
-    let later = server_steps.goes_on s old.server f.items h.server fit calm in
-    let said = says_all_there old.server f.items in
-    record {
-      tied =
-          subst (IsTied s) (sym (ap picture t.rest
-          ∙ ap (λ x. record (picture old) { server = server_picture new.server; to_server = drop n old.to_server; to_client = x }) f.said))
-          (server-tied s (picture old) n (server_picture new.server) said (record {
-            got = f.items;
-            reads = f.reads;
-            core = ap server_core f.step ∙ later.core;
-            replies = record { fit = feeds_fit h.past.history old.server f.items h.past.server; calm = later.calm };
-          }) h.tied);
-      server = server_steps.stays_fed s (end_all_there old.server f.items) new.server f.step later.stays;
-      client = subst (λ (w : World). ClientStays s w.client) (sym t.rest) h.client;
-      past = sound;
-    }
+    let d = cut_at old.server.decoder new.server.decoder n old.to_server h.items f.items h.flight f.reads in
+    let fit = (all_parts Fits f.items d.left (subst (λ l. All Fits l) d.all (flight_fits old.server.decoder old.to_server h.items h.flight))).0 in
+    let tied = reach-tied h.tied f.items d.left d.all fit in
+    subst (λ (w : World). HasPast w → IsRelated s w)
+    (sym (t.rest ∙ ap (λ (x : List ℕ). record old { server = new.server; to_server = drop n old.to_server; to_client = x }) f.said)) (λ past. record {
+      items = d.left;
+      flight = d.flight;
+      messages = h.messages ++ says_all_there old.server f.items;
+      back = behind old.client.decoder old.to_client h.messages (says_all_there old.server f.items)
+          (feeds_fit h.past.history old.server f.items h.past.server) h.back;
+      tied = server-as tied new.server (ap server_core f.step)
+          (server_steps.stays_fed s (end_all_there old.server f.items) new.server f.step tied.server);
+      past = past;
+    }) sound
 
 -- a delivery to the client
 holds_returns : (s : Canon) (old new : World) (n : ℕ) → HasPast new → DeliversToClient old n new → IsRelated s old → IsRelated s new
 holds_returns s old new n sound t h =
     let f = t.feeds in
-    let k = client-tied s (picture old) n f.items new.client f.reads f.step h.client h.tied in
-    record {
-      tied = subst (IsTied s) (sym (ap picture t.rest
-          ∙ ap (λ x. record (picture old) { client = new.client; to_client = drop n old.to_client; to_server = x }) f.said)) k.1;
-      server = subst (λ (w : World). ServerStays s w.server) (sym t.rest) h.server;
-      client = k.0;
-      past = sound;
-    }
+    let d = cut_at old.client.decoder new.client.decoder n old.to_client h.messages f.items h.back f.reads in
+    let said = says_items old.client f.items in
+    let tied = return-tied h.tied f.items d.left d.all in
+    subst (λ (w : World). HasPast w → IsRelated s w)
+    (sym (t.rest ∙ ap (λ (x : List ℕ). record old { client = new.client; to_client = drop n old.to_client; to_server = x; shown = new.shown }) f.said)) (λ past. record {
+      items = h.items ++ said;
+      flight = behind old.server.decoder old.to_server h.items said (items-come s old.client f.items h.tied.client
+          (all_parts (IsCalmToClient s.settings) f.items d.left (subst (All (IsCalmToClient s.settings)) d.all h.tied.calm_back)).0).said.fit h.flight;
+      messages = d.left;
+      back = d.flight;
+      tied = subst (IsTied s old.typed old.taken (h.items ++ said) d.left old.server) (sym f.step)
+          (client-as tied new.client.decoder (end_after_items old.client f.items).failed);
+      past = past;
+    }) sound
 
 holds_as : (s : Canon) (old new : World) → new ≡ old → IsRelated s old → IsRelated s new
 holds_as s old new is h = subst (λ w. IsRelated s w) (sym is) h
@@ -233,12 +209,8 @@ unless s false old new happens done is h = done is h
 holds_stops : (s : Canon) (old new : World) (a b : Bool) → new ≡ record old { server_stopped = a; client_stopped = b } → HasPast new → IsRelated s old
     → IsRelated s new
 holds_stops s old new a b is sound h =
-    record {
-      tied = subst (λ w. IsTied s (picture w)) (sym is) h.tied;
-      server = subst (λ (w : World). ServerStays s w.server) (sym is) h.server;
-      client = subst (λ (w : World). ClientStays s w.client) (sym is) h.client;
-      past = sound;
-    }
+    subst (λ (w : World). HasPast w → IsRelated s w) (sym is)
+    (λ past. record { items = h.items; flight = h.flight; messages = h.messages; back = h.back; tied = h.tied; past = past }) sound
 
 -- an event that is done
 pub holds_does : (s : Canon) (old new : World) (e : Event) → HasPast new → IsQuietEvent old e → RunsEvent old e new → IsRelated s old

@@ -115,23 +115,23 @@ mark_holds s w m =
     let none : there.0 ≡ [] = no_items w.server.decoder there.0 (subst (λ x. InFlight w.server.decoder x there.0) m.settled.idle.to_server there.1) in
     let silent : back.0 ≡ [] = no_items w.client.decoder back.0 (subst (λ x. InFlight w.client.decoder x back.0) m.settled.idle.to_client back.1) in
     record {
+      items = [];
+      flight = subst (λ x. InFlight w.server.decoder w.to_server x) none there.1;
+      messages = [];
+      back = subst (λ x. InFlight w.client.decoder w.to_client x) silent back.1;
       tied = record {
-        items = [];
-        flight = subst (λ x. InFlight w.server.decoder w.to_server x) none there.1;
         calm = All-nil (IsCalmToServer s.settings);
-        messages = [];
-        back = subst (λ x. InFlight w.client.decoder w.to_client x) silent back.1;
         calm_back = All-nil (IsCalmToClient s.settings);
         agrees = mark_agrees s w m;
-      };
-      server = stays_at s m.past.history w.server stands (server_never w m.settled.agreed.linemode) (ap (λ (x : Settings). x.chars) is_settings)
-          (subst (λ (x : Settings). w.server.terminal.settings.flags ≡ record (x.flags) { echo = w.server.terminal.settings.flags.echo }) is_settings refl) is_limit;
-      client = record {
-        agreed = let c = (m.past.client_course m.settled.idle.client_failed).1 in
-            subst (λ (o : Options). agrees_to o Us 34 ≡ true) (sym c.leads.options) (client_agrees c.history);
-        linemode = client_never w m.settled.agreed.linemode;
-        chars = sym m.settled.agreed.chars ∙ chars;
-        limit = m.past.limit m.settled.idle.client_failed ∙ is_limit;
+        server = stays_at s m.past.history w.server stands (server_never w m.settled.agreed.linemode) (ap (λ (x : Settings). x.chars) is_settings)
+            (subst (λ (x : Settings). w.server.terminal.settings.flags ≡ record (x.flags) { echo = w.server.terminal.settings.flags.echo }) is_settings refl) is_limit;
+        client = record {
+          agreed = let c = (m.past.client_course m.settled.idle.client_failed).1 in
+              subst (λ (o : Options). agrees_to o Us 34 ≡ true) (sym c.leads.options) (client_agrees c.history);
+          linemode = client_never w m.settled.agreed.linemode;
+          chars = sym m.settled.agreed.chars ∙ chars;
+          limit = m.past.limit m.settled.idle.client_failed ∙ is_limit;
+        };
       };
       past = m.past;
     }

@@ -29,7 +29,7 @@ use Rattle.tn_world.specs.Worlds.{World}
 use Rattle.tn_world.specs.relation.Calm.{IsCalmToServer, IsCalmToClient}
 use Rattle.tn_world.specs.relation.Machine.{Server, bits}
 use Rattle.tn_world.specs.relation.Pictures.{server_core, NeverEnds, IsFlagged, IsOffOrOn, ServerStays, ClientStays}
-use Rattle.tn_world.specs.relation.Relation.{Agrees, IsRelated}
+use Rattle.tn_world.specs.relation.Relation.{Agrees, IsTied, IsRelated}
 use Rattle.tn_world.proofs.Bodies.{open_sound}
 use Rattle.tn_world.proofs.Engines.{client_agrees}
 use Rattle.tn_world.proofs.Cut.{said_behind, start}
@@ -55,7 +55,7 @@ off_here : client_terms.linemode (new_options client_terms.agreement) ≡ false
 unfolding new_options state_of
 off_here = refl
 
-pub opening_calm : (s : Settings) → s.chars ≡ standard_characters → All (IsCalmToClient s) opening
+opening_calm : (s : Settings) → s.chars ≡ standard_characters → All (IsCalmToClient s) opening
 opening_calm s is =
     let P = IsCalmToClient s in
     All-cons P (Neg DoIt 34) (Neg DoIt 31 ∷ Neg Will 3 ∷ Neg DoIt 3 ∷ Neg Will 1 ∷ []) (inr (refl, refl, is))
@@ -65,12 +65,12 @@ opening_calm s is =
     (All-cons P (Neg Will 1) [] (inl refl) (All-nil P)))))
 
 -- what is so before anything came
-pub server_kept : (s : Canon) (end : server.End) → server.LeadsTo (server_calls.begun s) end → ServerStays s end
+server_kept : (s : Canon) (end : server.End) → server.LeadsTo (server_calls.begun s) end → ServerStays s end
 server_kept s end begins =
     stays_at s (server_calls.begun s) end begins (subst (λ (t : server_terms.Terms). NeverEnds (state_of t.options Them 34)) (sym begins.terms) asked_for)
     (ap (λ (x : Settings). x.chars) begins.settings) (subst (λ (x : Settings). IsFlagged s x) (sym begins.settings) refl) begins.limit
 
-pub client_kept : (s : Canon) (width height : ℕ) (c : client.End) → client.LeadsTo (client_calls.begun width height s.limit) c
+client_kept : (s : Canon) (width height : ℕ) (c : client.End) → client.LeadsTo (client_calls.begun width height s.limit) c
     → s.settings.chars ≡ standard_characters → ClientStays s c
 client_kept s width height c begins standard = record {
   agreed = ap (λ (o : Options). agrees_to o Us 34) begins.options ∙ client_agrees (client_calls.begun width height s.limit);
@@ -79,7 +79,7 @@ client_kept s width height c begins standard = record {
   limit = begins.limit;
 }
 
-pub begun_agrees : (s : Canon) (width height : ℕ) (v : server.End) (c : client.End) → server.LeadsTo (server_calls.begun s) v
+begun_agrees : (s : Canon) (width height : ℕ) (v : server.End) (c : client.End) → server.LeadsTo (server_calls.begun s) v
     → client.LeadsTo (client_calls.begun width height s.limit) c → Agrees s [] [] (server_core v) c
 begun_agrees s width height v c stands begins =
     let h = client_calls.begun width height s.limit in
@@ -92,6 +92,16 @@ begun_agrees s width height v c stands begins =
     v.terminal.line.held v.terminal.entries (none ∙ sym off) (ap (λ (m : Modes). edits m.current) stands.modes ∙ sym raw)
     (ap (λ (l : HalfLine). l.held) (line_is start v stands)) (sym (waits_are start v stands))))
     (rest-agrees s c (inl (ap bits begins.mode)) (λ e. raw) (held_is h c begins) begins.ahead begins.trapped begins.plain)
+
+pub begun_tied : (s : Canon) (width height : ℕ) (v : server.End) (c : client.End) → s.settings.chars ≡ standard_characters
+    → server.LeadsTo (server_calls.begun s) v → client.LeadsTo (client_calls.begun width height s.limit) c → IsTied s [] [] [] opening v c
+begun_tied s width height v c standard stands begins = record {
+  calm = All-nil (IsCalmToServer s.settings);
+  calm_back = opening_calm s.settings standard;
+  agrees = begun_agrees s width height v c stands begins;
+  server = server_kept s v stands;
+  client = client_kept s width height c begins standard;
+}
 
 -- the ends of a world that was just opened
 pub record Fresh (s : Canon) (width height : ℕ) (w : World) : Type 0 where
@@ -116,28 +126,17 @@ opened_past s width height w o =
     let f = fresh s width height w o in
     open_sound s width height w f.there f.reads f.here f.hears (ap (λ (x : World). x.to_server) o.rest) (ap (λ (x : World). x.to_client) o.rest) o.takes_keys
 
-opened_agrees : (s : Canon) (width height : ℕ) (w : World) → IsOpened s width height w → Agrees s w.typed w.taken (server_core w.server) w.client
-opened_agrees s width height w o =
-    let f = fresh s width height w o in
-    subst (λ x. Agrees s x w.taken (server_core w.server) w.client) (sym (ap (λ (x : World). x.typed) o.rest))
-    (subst (λ x. Agrees s [] x (server_core w.server) w.client) (sym (ap (λ (x : World). x.taken) o.rest))
-    (begun_agrees s width height w.server w.client f.there f.here))
-
 pub opened_holds : (s : Canon) (width height : ℕ) (w : World) → s.settings.chars ≡ standard_characters → IsOpened s width height w → IsRelated s w
 opened_holds s width height w standard o =
     let f = fresh s width height w o in
     record {
-      tied = record {
-        items = [];
-        flight = subst (λ (x : List ℕ). InFlight w.server.decoder x []) (sym (ap (λ (x : World). x.to_server) o.rest)) (start w.server.decoder f.reads);
-        calm = All-nil (IsCalmToServer s.settings);
-        messages = opening;
-        back = said_behind w.client.decoder [] w.to_client [] opening (ap (λ (x : World). x.to_client) o.rest) (sent-fit (server_calls.begun s))
-            (start w.client.decoder f.hears);
-        calm_back = opening_calm s.settings standard;
-        agrees = opened_agrees s width height w o;
-      };
-      server = server_kept s w.server f.there;
-      client = client_kept s width height w.client f.here standard;
+      items = [];
+      flight = subst (λ (x : List ℕ). InFlight w.server.decoder x []) (sym (ap (λ (x : World). x.to_server) o.rest)) (start w.server.decoder f.reads);
+      messages = opening;
+      back = said_behind w.client.decoder [] w.to_client [] opening (ap (λ (x : World). x.to_client) o.rest) (sent-fit (server_calls.begun s))
+          (start w.client.decoder f.hears);
+      tied = subst (λ x. IsTied s x w.taken [] opening w.server w.client) (sym (ap (λ (x : World). x.typed) o.rest))
+          (subst (λ x. IsTied s [] x [] opening w.server w.client) (sym (ap (λ (x : World). x.taken) o.rest))
+          (begun_tied s width height w.server w.client standard f.there f.here));
       past = opened_past s width height w o;
     }

@@ -19,14 +19,20 @@ use Rattle.tn_world.proofs.Marking.{mark_holds}
 use Rattle.tn_world.proofs.Failing.{both, stage_begins, stage_passes}
 use Rattle.tn_world.proofs.Opening.{opened_holds}
 use Rattle.tn_world.proofs.Tied.{tied-complete, tied-half}
-use Rattle.tn_world.specs.relation.Relation.{IsRelated, picture}
+use Rattle.tn_world.specs.relation.Relation.{IsRelated}
+use Rattle.tn_world.specs.Flight.{InFlight}
+use Rattle.tn_world.proofs.Cut.{no_items}
 
 -- the headline, from where the relation holds and no end has failed
 related_headline : (s : Canon) (start w : World) (events : List Event) → NoneFailed start → IsRelated s start → PassesQuietly start events w → Headline s w
 related_headline s start w events runs h p = record {
   prefix = stage_begins s w (stage_passes s start w events p (both runs h));
-  complete = λ none nothing. tied-complete s (picture w) (holds_passes s start w events none p h).tied nothing;
-  half = λ none nothing. tied-half s (picture w) (holds_passes s start w events none p h).tied nothing;
+  complete = λ none nothing.
+      let r = holds_passes s start w events none p h in
+      tied-complete r.tied (no_items w.server.decoder r.items (subst (λ x. InFlight w.server.decoder x r.items) nothing r.flight));
+  half = λ none nothing.
+      let r = holds_passes s start w events none p h in
+      tied-half r.tied (no_items w.server.decoder r.items (subst (λ x. InFlight w.server.decoder x r.items) nothing r.flight));
 }
 
 -- the relation holds at each beginning

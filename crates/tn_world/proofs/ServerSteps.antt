@@ -1,8 +1,8 @@
 -- What a server end does after a mark: with items that are calm, and with its owner's calls.
-use Rattle.std.proofs.Common.{◌≡◌, ◌≢◌, ◌≤◌, inl, inr, ℕ, ◌+◌, ◌==◌, nat_lt, nat_le, Bool, true, false, not, ◌&&◌, ◌||◌, Option, Some, None, Result, Ok, Err, List, []}
+use Rattle.std.proofs.Common.{◌≡◌, ◌≤◌, inl, inr, ℕ, ◌+◌, ◌==◌, nat_lt, nat_le, Bool, true, false, not, ◌&&◌, ◌||◌, Option, Some, None, Result, Ok, Err, List, []}
 use Rattle.std.proofs.Common.{◌∷◌, ◌++◌, length, take, map, refl, sym, ap, ◌∙◌, if◌then◌else◌, subst, arith, append-nil}
 use Rattle.std.specs.Prelude.{All}
-use Rattle.std.proofs.lemmas.Bool.{eqb-false, lt-ltb}
+use Rattle.std.proofs.lemmas.Bool.{lt-ltb}
 use Rattle.std.proofs.lemmas.Bool.Decides.{nat_tests}
 use Rattle.std.proofs.lemmas.List.Elements.{All-nil, All-cons, All-head, All-tail, All-append}
 use Rattle.std.proofs.lemmas.Nat.{and_assoc}
@@ -44,7 +44,7 @@ use Rattle.tn_option.specs.declared.q_method.Answer.{Answer}
 use Rattle.tn_option.specs.declared.q_method.Answer.TheVariants as answer
 use Rattle.tn_option.specs.declared.q_method.AskFault.{AskFault}
 use Rattle.tn_option.specs.declared.q_method.OptionEvent.{OptionEvent}
-use Rattle.tn_option.specs.declared.q_method.OptionEvent.TheVariants.{HeardOn, HeardOff, WishOn, WishOff}
+use Rattle.tn_option.specs.declared.q_method.OptionEvent.TheVariants.{HeardOn}
 use Rattle.tn_option.specs.declared.q_method.Side.{Side}
 use Rattle.tn_option.specs.declared.q_method.QState.TheVariants.{Yes}
 use Rattle.tn_option.specs.declared.q_method.Side.TheVariants.{Us, Them}
@@ -61,10 +61,9 @@ use Rattle.tn_server.specs.Terms.{Terms, linemode, echoes, payload_at, mask_for,
 use Rattle.tn_server.specs.declared.terms.Negotiation.{Negotiation}
 use Rattle.tn_server.specs.declared.wishes.Editing.{Editing}
 use Rattle.tn_server.specs.declared.wishes.Editing.TheVariants.{Remote, Local}
-use Rattle.tn_server.proofs.lemmas.Gathering.{call_keeps}
 use Rattle.tn_server.proofs.lemmas.Terms.{differ_self, table_again, echo_keeps_linemode}
 use Rattle.tn_world.specs.relation.Calm.{SaysCalmly, IsCalmToServer, AsksCalmly, IsCalmToClient}
-use Rattle.tn_world.specs.relation.Machine.{Server, bits, edit_by, read, read_all, local_mode, IsAskable}
+use Rattle.tn_world.specs.relation.Machine.{Server, bits, edit_by, read, read_all, IsAskable}
 use Rattle.tn_world.specs.relation.Pictures.{server_core, NeverEnds, IsAllowed, IsFlagged, ServerStays}
 use Rattle.tn_world.proofs.Engines.{server_turned, server_asks, echo_keeps_state, word_keeps_state, echo_agrees, word_agrees}
 use Rattle.tn_world.proofs.Wishes.{allowed_wish}
@@ -538,6 +537,12 @@ KeepsEntries (got item) = ⊥
 KeepsEntries (char_set func value) = ⊥
 KeepsEntries took = ⊥
 KeepsEntries _ = Unit {0}
+
+pub calls : (e : Event) → KeepsEntries e → IsCall e
+calls (got item) p = absurd p
+calls took p = absurd p
+calls (char_set func value) p = absurd p
+calls _ p = tt
 
 wished_calm : (canon : Canon) (old : End) (ed : Editing) (mask : Option ℕ) → mask_for old.terminal.settings.flags ed ≡ mask → ServerStays canon old
     → All (IsCalmToClient canon.settings) (says_wished old mask)

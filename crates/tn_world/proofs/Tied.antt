@@ -1,154 +1,155 @@
--- The bytes in flight are whole items, over which the relation of the ends holds.
-use Rattle.std.proofs.Common.{◌≡◌, ℕ, Bool, true, false, List, [], ◌∷◌, ◌++◌, take, drop, refl, sym, ap, ◌∙◌, if◌then◌else◌, subst}
+-- What each step of an end does to two ends that are tied by the items between them.
+use Rattle.std.proofs.Common.{◌≡◌, ℕ, Bool, true, false, List, [], ◌∷◌, ◌++◌, take, refl, sym, ap, ◌∙◌, if◌then◌else◌, subst}
 use Rattle.std.specs.Prelude.{All}
 use Rattle.std.proofs.lemmas.List.Elements.{All-append}
 use Rattle.tn_codes.specs.declared.codes.Command.TheVariants.{Ip}
 use Rattle.tn_nvt.specs.declared.items.Item.{Item}
 use Rattle.tn_nvt.specs.declared.items.Item.TheVariants.{Cmd}
-use Rattle.tn_nvt.specs.Spelling.{spells}
-use Rattle.tn_discipline.specs.Canon.{Canon, typed_half}
+use Rattle.tn_nvt.specs.Feeding.{DecoderState}
+use Rattle.tn_nvt.specs.Spelling.{Fits}
+use Rattle.tn_discipline.specs.Canon.{Canon, typed_entries, typed_half}
 use Rattle.tn_discipline.specs.Keys.{role_of_key}
 use Rattle.tn_discipline.specs.declared.keys.Role.TheVariants as role
+use Rattle.tn_discipline.specs.declared.reads.Entry.{Entry}
 use Rattle.tn_discipline.specs.declared.reads.Sig.TheVariants.{Int}
 use Rattle.tn_linemode.specs.Modes.{edits}
-use Rattle.tn_nvt.specs.Feeding.{Advances}
 use Rattle.tn_client.specs.Calls as client
 use Rattle.tn_client.specs.Steps.{end_after_key, says_key, end_after_resize, says_resize, end_after_items, says_items}
 use Rattle.tn_client.specs.Terms.{linemode}
+use Rattle.tn_server.specs.Calls as server
+use Rattle.tn_server.specs.Events as server_calls
+use Rattle.tn_server.specs.Steps as server_steps
+use Rattle.tn_streams.specs.Prefixes.{IsPrefixOf}
 use Rattle.tn_world.specs.relation.Calm.{IsCalmToServer, IsCalmToClient}
-use Rattle.tn_world.specs.Flight.{InFlight}
-use Rattle.tn_world.specs.Headline.{local_entries}
+use Rattle.tn_world.specs.relation.Ends.{SaysItems}
 use Rattle.tn_world.specs.relation.Machine.{Server, bits, read_all, IsAskable}
-use Rattle.tn_world.specs.relation.Pictures.{ClientStays}
-use Rattle.tn_world.proofs.ClientSteps.{key_said, items-come, resized-writes}
-use Rattle.tn_world.proofs.Cut.{behind, cut_at, no_items}
+use Rattle.tn_world.specs.relation.Pictures.{server_core, ServerStays, ClientStays}
+use Rattle.tn_world.specs.relation.Relation.{Agrees, AreOrdinary, IsTied, server_at}
+use Rattle.tn_world.proofs.ClientSteps.{key_said, key_stays, items-come, resized-writes}
+use Rattle.tn_world.proofs.ServerSteps.{KeepsEntries, calls, goes_on, calm_call, stays_call, core_call}
 use Rattle.tn_world.proofs.Reading.{all_parts, read_all-append}
 use Rattle.tn_world.proofs.Changing.{key-agrees, interrupt-agrees, beside-agrees}
-use Rattle.tn_world.proofs.Prefixes.{without_first, take-agrees, agreed}
-use Rattle.tn_world.specs.relation.Ends.{ServerEnd, AreReplies, AreSaid, ServerFeeds, SaysItems, World, made}
-use Rattle.tn_world.specs.relation.Relation.{Agrees, AreOrdinary, IsTied, server_at}
+use Rattle.tn_world.proofs.Prefixes.{take-agrees, agreed, prefix_after, prefix_trans, prefix_same, read-more}
 
--- the flight to the server, once the client has written
-writes-tied : (canon : Canon) (w : World) (t : IsTied canon w) (said : List Item) (typed : List ℕ) (end : client.End)
-    (messages : List Item) (later : List ℕ) → AreSaid canon said → InFlight end.decoder later messages → All (IsCalmToClient canon.settings) messages
-    → Agrees canon typed w.taken (read_all canon (read_all canon w.server.core t.items) said) end
-    → IsTied canon (record w { typed = typed; client = end; to_client = later; to_server = w.to_server ++ spells said })
-writes-tied canon w t said typed end messages later h back asked agrees =
-    record {
-      items = t.items ++ said;
-      flight = behind w.server.decoder w.to_server t.items said h.fit t.flight;
-      calm = All-append (IsCalmToServer canon.settings) t.items said t.calm h.calm;
-      messages = messages;
-      back = back;
-      calm_back = asked;
-      agrees = subst (λ v. Agrees canon typed w.taken v end) (sym (read_all-append canon w.server.core t.items said)) agrees;
-    }
+module _ {canon : Canon} {typed : List ℕ} {taken : List Entry} {there back : List Item} {s : server.End} {c : client.End}
+    (t : IsTied canon typed taken there back s c) where
+  abbrev v : Server
+  v = read_all canon (server_core s) there
 
--- what says no more than these
-says-tied_as : (canon : Canon) (w : World) (t : IsTied canon w) (says : List Item) (said : List Item) (typed : List ℕ) (end : client.End)
-    → SaysItems canon says said → end.decoder ≡ w.client.decoder
-    → Agrees canon typed w.taken (read_all canon (read_all canon w.server.core t.items) says) end
-    → IsTied canon (record w { typed = typed; client = end; to_server = w.to_server ++ spells said })
-says-tied_as canon w t says said typed end h decoder agrees =
-    writes-tied canon w t said typed end t.messages w.to_client (record { fit = h.fit; calm = h.calm })
-    (subst (λ d. InFlight d w.to_client t.messages) (sym decoder) t.back) t.calm_back
-    (subst (λ v. Agrees canon typed w.taken v end) (sym (h.says_so (read_all canon w.server.core t.items))) agrees)
+  -- THE CLIENT says these
+  client-says : (later said : List Item) (keys : List ℕ) (new : client.End) → All (IsCalmToServer canon.settings) said
+      → All (IsCalmToClient canon.settings) later → ClientStays canon new → Agrees canon keys taken (read_all canon v said) new
+      → IsTied canon keys taken (there ++ said) later s new
+  client-says later said keys new calm asked stays agrees = record {
+    calm = All-append (IsCalmToServer canon.settings) there said t.calm calm;
+    calm_back = asked;
+    agrees = subst (λ u. Agrees canon keys taken u new) (sym (read_all-append canon (server_core s) there said)) agrees;
+    server = t.server;
+    client = stays;
+  }
 
-pub key-tied : (canon : Canon) (w : World) (k : ℕ) → ClientStays canon w.client → IsTied canon w
-    → IsTied canon (record w {
-      typed = w.typed ++ k ∷ [];
-      client = end_after_key w.client k;
-      to_server = w.to_server ++ spells (says_key w.client k);
-    })
-key-tied canon w k stays t =
-    writes-tied canon w t (says_key w.client k) (w.typed ++ k ∷ []) (end_after_key w.client k) t.messages w.to_client (key_said canon w.client k) t.back t.calm_back
-    (key-agrees canon w.typed w.taken (read_all canon w.server.core t.items) w.client k stays t.agrees)
+  -- which a server reads as these
+  client-writes : (says said : List Item) (keys : List ℕ) (new : client.End) → SaysItems canon says said → ClientStays canon new
+      → Agrees canon keys taken (read_all canon v says) new → IsTied canon keys taken (there ++ said) back s new
+  client-writes says said keys new w stays agrees =
+      client-says back said keys new w.calm t.calm_back stays (subst (λ u. Agrees canon keys taken u new) (sym (w.says_so v)) agrees)
 
-pub interrupt-tied : (canon : Canon) (w : World) (k : ℕ) (said : List Item) → role_of_key canon.settings k ≡ role.Signal Int
-    → SaysItems canon (Cmd Ip ∷ []) said → IsTied canon w
-    → IsTied canon (record w { typed = w.typed ++ k ∷ []; to_server = w.to_server ++ spells said })
-interrupt-tied canon w k said interrupts writes t =
-    says-tied_as canon w t (Cmd Ip ∷ []) said (w.typed ++ k ∷ []) w.client writes refl
-    (interrupt-agrees canon w.typed w.taken (read_all canon w.server.core t.items) w.client k interrupts t.agrees)
+  pub key-tied : (key : ℕ) → IsTied canon (typed ++ key ∷ []) taken (there ++ says_key c key) back s (end_after_key c key)
+  key-tied key =
+      client-says back (says_key c key) (typed ++ key ∷ []) (end_after_key c key) (key_said canon c key).calm t.calm_back (key_stays canon c key t.client)
+      (key-agrees canon typed taken v c key t.client t.agrees)
 
-pub aside-tied : (canon : Canon) (w : World) (said : List Item) → SaysItems canon [] said → IsTied canon w
-    → IsTied canon (record w { to_server = w.to_server ++ spells said })
-aside-tied canon w said writes t = says-tied_as canon w t [] said w.typed w.client writes refl t.agrees
+  pub interrupt-tied : (key : ℕ) (said : List Item) → role_of_key canon.settings key ≡ role.Signal Int → SaysItems canon (Cmd Ip ∷ []) said
+      → IsTied canon (typed ++ key ∷ []) taken (there ++ said) back s c
+  interrupt-tied key said is w =
+      client-writes (Cmd Ip ∷ []) said (typed ++ key ∷ []) c w t.client (interrupt-agrees canon typed taken v c key is t.agrees)
 
-pub resize-tied : (canon : Canon) (w : World) (width height : ℕ) → IsTied canon w
-    → IsTied canon (record w {
-      client = end_after_resize w.client width height;
-      to_server = w.to_server ++ spells (says_resize w.client width height);
-    })
-resize-tied canon w width height t =
-    says-tied_as canon w t [] (says_resize w.client width height) w.typed (end_after_resize w.client width height)
-    (resized-writes canon w.client width height) refl
-    (beside-agrees canon w.typed w.taken (read_all canon w.server.core t.items) w.client (end_after_resize w.client width height) refl refl t.agrees)
+  pub aside-tied : (said : List Item) → SaysItems canon [] said → IsTied canon typed taken (there ++ said) back s c
+  aside-tied said w = client-writes [] said typed c w t.client t.agrees
 
-pub client-tied : (canon : Canon) (w : World) (n : ℕ) (got : List Item) (end : client.End) → Advances w.client.decoder (take n w.to_client) got end.decoder
-    → end ≡ record (end_after_items w.client got) { decoder = end.decoder } → ClientStays canon w.client → IsTied canon w
-    → ClientStays canon end × IsTied canon (record w { client = end; to_client = drop n w.to_client; to_server = w.to_server ++ spells (says_items w.client got) })
-client-tied canon w n got end reads step stays t =
-    let d = cut_at w.client.decoder end.decoder n w.to_client t.messages got t.back reads in
-    let parts = all_parts (IsCalmToClient canon.settings) got d.left (subst (λ l. All (IsCalmToClient canon.settings) l) d.all t.calm_back) in
-    let all = items-come canon w.client got stays parts.0 in
-    let v = read_all canon w.server.core t.items in
-    let k = all.stays in (
-      subst (ClientStays canon) (sym step) (record { agreed = k.agreed; linemode = k.linemode; chars = k.chars; limit = k.limit }),
-      writes-tied canon w t (says_items w.client got) w.typed end d.left (drop n w.to_client) all.said d.flight parts.1
-          (subst (Agrees canon w.typed w.taken (read_all canon v (says_items w.client got))) (sym step)
-          (beside-agrees canon w.typed w.taken (read_all canon v (says_items w.client got)) (end_after_items w.client got)
-          (record (end_after_items w.client got) { decoder = end.decoder }) refl refl (all.agrees w.typed w.taken v t.agrees))),
-    )
+  pub resize-tied : (width height : ℕ) → IsTied canon typed taken (there ++ says_resize c width height) back s (end_after_resize c width height)
+  resize-tied width height =
+      client-writes [] (says_resize c width height) typed (end_after_resize c width height) (resized-writes canon c width height)
+      (record { agreed = t.client.agreed; linemode = t.client.linemode; chars = t.client.chars; limit = t.client.limit })
+      (beside-agrees canon typed taken v c (end_after_resize c width height) refl refl t.agrees)
 
--- the flight to the client, once the server has written
-pub says-tied : (canon : Canon) (w : World) (said : List Item) → AreReplies canon said → IsTied canon w
-    → IsTied canon (record w { to_client = w.to_client ++ spells said })
-says-tied canon w said h t =
-    record {
-      items = t.items;
-      flight = t.flight;
-      calm = t.calm;
-      messages = t.messages ++ said;
-      back = behind w.client.decoder w.to_client t.messages said h.fit t.back;
-      calm_back = All-append (IsCalmToClient canon.settings) t.messages said t.calm_back h.calm;
-      agrees = t.agrees;
-    }
+  -- the first items arrive
+  pub return-tied : (got later : List Item) → back ≡ got ++ later → IsTied canon typed taken (there ++ says_items c got) later s (end_after_items c got)
+  return-tied got later is =
+      let parts = all_parts (IsCalmToClient canon.settings) got later (subst (All (IsCalmToClient canon.settings)) is t.calm_back) in
+      let all = items-come canon c got t.client parts.0 in
+      client-says later (says_items c got) typed (end_after_items c got) all.said.calm parts.1 all.stays (all.agrees typed taken v t.agrees)
 
-pub server-tied : (canon : Canon) (w : World) (n : ℕ) (server : ServerEnd) (said : List Item) → ServerFeeds canon w.server (take n w.to_server) said server
-    → IsTied canon w → IsTied canon (record w { server = server; to_server = drop n w.to_server; to_client = w.to_client ++ spells said })
-server-tied canon w n server said h t =
-    let d = cut_at w.server.decoder server.decoder n w.to_server t.items h.got t.flight h.reads in
-    says-tied canon (record w { server = server; to_server = drop n w.to_server }) said h.replies (record {
-      items = d.left;
-      flight = d.flight;
-      calm = (all_parts (IsCalmToServer canon.settings) h.got d.left (subst (λ l. All (IsCalmToServer canon.settings) l) d.all t.calm)).1;
-      messages = t.messages;
-      back = t.back;
-      calm_back = t.calm_back;
-      agrees =
-          subst (λ v. Agrees canon w.typed w.taken v w.client)
-          (ap (read_all canon w.server.core) d.all
-          ∙ read_all-append canon w.server.core h.got d.left
-          ∙ ap (λ v. read_all canon v d.left) (sym h.core))
-          t.agrees;
-    })
+  -- its decoder and its failure have no part in it
+  pub client-as : (d : DecoderState) (failed : Bool) → IsTied canon typed taken there back s (record c { decoder = d; failed = failed })
+  client-as d failed = record {
+    calm = t.calm;
+    calm_back = t.calm_back;
+    agrees = beside-agrees canon typed taken v c (record c { decoder = d; failed = failed }) refl refl t.agrees;
+    server = t.server;
+    client = record { agreed = t.client.agreed; linemode = t.client.linemode; chars = t.client.chars; limit = t.client.limit };
+  }
 
--- an entry is taken
-pub took-tied : (canon : Canon) (w : World) → IsTied canon w → IsTied canon (record w {
-  taken = w.taken ++ take 1 w.server.core.waiting;
-  server = record w.server { core = without_first w.server.core };
-})
-took-tied canon w t =
-    record {
-      items = t.items;
-      flight = t.flight;
-      calm = t.calm;
-      messages = t.messages;
-      back = t.back;
-      calm_back = t.calm_back;
-      agrees = take-agrees canon w.typed w.taken w.server.core w.client t.items t.agrees;
-    }
+  -- THE SERVER says these
+  server-says : (later said : List Item) (entries : List Entry) (new : server.End) → All (IsCalmToServer canon.settings) later
+      → All (IsCalmToClient canon.settings) said → ServerStays canon new → Agrees canon typed entries (read_all canon (server_core new) later) c
+      → IsTied canon typed entries later (back ++ said) new c
+  server-says later said entries new calm asked stays agrees = record {
+    calm = calm;
+    calm_back = All-append (IsCalmToClient canon.settings) back said t.calm_back asked;
+    agrees = agrees;
+    server = stays;
+    client = t.client;
+  }
+
+  -- the first items arrive
+  pub reach-tied : (got later : List Item) → there ≡ got ++ later → All Fits got
+      → IsTied canon typed taken later (back ++ server_steps.says_items s got) (server_steps.end_after_items s got) c
+  reach-tied got later is fit =
+      let parts = all_parts (IsCalmToServer canon.settings) got later (subst (All (IsCalmToServer canon.settings)) is t.calm) in
+      let after = goes_on canon s got t.server fit parts.0 in
+      server-says later (server_steps.says_items s got) taken (server_steps.end_after_items s got) parts.1 after.calm after.stays
+      (subst (λ u. Agrees canon typed taken u c)
+      (ap (read_all canon (server_core s)) is ∙ read_all-append canon (server_core s) got later ∙ ap (λ u. read_all canon u later) (sym after.core)) t.agrees)
+
+  -- the owner's calls
+  pub call-tied : (e : server_calls.Event) → KeepsEntries e → IsTied canon typed taken there (back ++ server_steps.says s e) (server_steps.end_after s e) c
+  call-tied e plain =
+      server-says there (server_steps.says s e) taken (server_steps.end_after s e) t.calm (calm_call canon s e (calls e plain) t.server)
+      (stays_call canon s e (calls e plain) t.server)
+      (subst (λ u. Agrees canon typed taken (read_all canon u there) c) (sym (core_call s e plain)) t.agrees)
+
+  pub take-tied : IsTied canon typed (taken ++ take 1 s.terminal.entries) there (back ++ server_steps.says s server_calls.took)
+      (server_steps.end_after s server_calls.took) c
+  take-tied =
+      server-says there (server_steps.says s server_calls.took) (taken ++ take 1 s.terminal.entries) (server_steps.end_after s server_calls.took) t.calm
+      (calm_call canon s server_calls.took tt t.server) (stays_call canon s server_calls.took tt t.server)
+      (take-agrees canon typed taken (server_core s) c there t.agrees)
+
+  -- only what it has of lines has a part in it
+  pub server-as : (new : server.End) → server_core new ≡ server_core s → ServerStays canon new → IsTied canon typed taken there back new c
+  server-as new core stays = record {
+    calm = t.calm;
+    calm_back = t.calm_back;
+    agrees = subst (λ u. Agrees canon typed taken (read_all canon u there) c) (sym core) t.agrees;
+    server = stays;
+    client = t.client;
+  }
+
+  -- WHAT IT SAYS OF ENTRIES and of the half line
+  pub tied-begins : IsPrefixOf (taken ++ s.terminal.entries) (typed_entries canon typed)
+  tied-begins =
+      prefix_trans (taken ++ s.terminal.entries) (taken ++ v.waiting) (typed_entries canon typed)
+      (prefix_after taken s.terminal.entries v.waiting (read-more canon (server_core s) there))
+      (prefix_same (taken ++ v.waiting) (typed_entries canon typed) (agreed canon typed taken v c t.agrees))
+
+  pub tied-complete : there ≡ [] → taken ++ s.terminal.entries ≡ typed_entries canon typed
+  tied-complete none = subst (λ l. taken ++ (read_all canon (server_core s) l).waiting ≡ typed_entries canon typed) none (agreed canon typed taken v c t.agrees)
+
+  pub tied-half : there ≡ [] → s.terminal.line.held ++ c.line.held ≡ typed_half canon typed
+  tied-half none =
+      subst (λ l. (read_all canon (server_core s) l).half ++ c.line.held ≡ typed_half canon typed) none
+      (ap (λ (u : Server). u.half ++ c.line.held) t.agrees.is ∙ sym t.agrees.line)
 
 no_count : (b : Bool) (n : ℕ) → (if b then n else n) ≡ n
 no_count true n = refl
@@ -174,16 +175,3 @@ rest-agrees canon c askable off held ahead trapped plain =
           ∙ ap (λ n. if canon.settings.flags.isig then 0 else n) plain
           ∙ no_count canon.settings.flags.isig 0;
     }
-
-pub tied-complete : (canon : Canon) (w : World) → IsTied canon w → w.to_server ≡ [] → made w ≡ local_entries canon w.typed
-tied-complete canon w t nothing =
-    let none : t.items ≡ [] = no_items w.server.decoder t.items (subst (λ x. InFlight w.server.decoder x t.items) nothing t.flight) in
-    ap (λ l. w.taken ++ (read_all canon w.server.core l).waiting) (sym none)
-    ∙ agreed canon w.typed w.taken (read_all canon w.server.core t.items) w.client t.agrees
-
-pub tied-half : (canon : Canon) (w : World) → IsTied canon w → w.to_server ≡ [] → w.server.core.half ++ w.client.line.held ≡ typed_half canon w.typed
-tied-half canon w t nothing =
-    let none : t.items ≡ [] = no_items w.server.decoder t.items (subst (λ x. InFlight w.server.decoder x t.items) nothing t.flight) in
-    ap (λ l. (read_all canon w.server.core l).half ++ w.client.line.held) (sym none)
-    ∙ ap (λ (v : Server). v.half ++ w.client.line.held) t.agrees.is
-    ∙ sym t.agrees.line

@@ -15,7 +15,6 @@ use Rattle.tn_server.specs.Terms as server_terms
 use Rattle.tn_server.specs.declared.wishes.Editing.TheVariants.{Local}
 use Rattle.tn_client.specs.Calls as client
 use Rattle.tn_world.specs.relation.Machine.{Server}
-use Rattle.tn_world.specs.relation.Ends.{ServerEnd}
 
 abbrev pub server_core : server.End → Server
 server_core end =
@@ -25,9 +24,6 @@ server_core end =
       half = end.terminal.line.held;
       waiting = end.terminal.entries;
     }
-
-abbrev pub server_picture : server.End → ServerEnd
-server_picture end = record { decoder = end.decoder; core = server_core end }
 
 -- LINEMODE is off, on or asked for, and never on its way off
 abbrev pub NeverEnds : QState → Type 0

@@ -1,5 +1,5 @@
 -- The relation between both ends that every quiet event keeps, while no end has failed.
-use Rattle.std.specs.Prelude.{◌≡◌, ℕ, Bool, IsTrue, false, IsFalse, All, List, [], ◌∷◌, ◌++◌, length}
+use Rattle.std.specs.Prelude.{◌≡◌, ℕ, Bool, IsTrue, IsFalse, All, List, [], ◌∷◌, ◌++◌, length}
 use Rattle.std.specs.Prelude.{if◌then◌else◌}
 use Rattle.tn_discipline.specs.Characters.{Characters}
 use Rattle.tn_discipline.specs.Canon.{Canon, typed_entries, typed_half}
@@ -9,17 +9,16 @@ use Rattle.tn_discipline.specs.declared.reads.Entry.{Entry}
 use Rattle.tn_nvt.specs.declared.items.Item.{Item}
 use Rattle.tn_server.specs.Terms.{allows_local}
 use Rattle.tn_client.specs.Calls as client
+use Rattle.tn_server.specs.Calls as server
 use Rattle.tn_client.specs.Terms.{linemode}
 use Rattle.tn_linemode.specs.Modes.{edits}
 use Rattle.tn_world.specs.Headline.{local_entries}
 use Rattle.tn_streams.specs.Prefixes.{IsPrefixOf}
 use Rattle.tn_world.specs.Past.{HasPast}
 use Rattle.tn_world.specs.relation.Calm.{IsCalmToServer, IsCalmToClient}
-use Rattle.tn_world.specs.relation.Ends as ends
 use Rattle.tn_world.specs.Flight.{InFlight}
 use Rattle.tn_world.specs.relation.Machine.{bits, Server, read_all, IsAskable}
-use Rattle.tn_world.specs.relation.Pictures.{server_core, server_picture, ServerStays}
-use Rattle.tn_world.specs.relation.Pictures.{ClientStays}
+use Rattle.tn_world.specs.relation.Pictures.{server_core, ServerStays, ClientStays}
 use Rattle.tn_world.specs.Worlds.{World}
 
 abbrev pub server_at : Bool → Bool → List ℕ → List Entry → Server
@@ -51,33 +50,23 @@ pub record Agrees (canon : Canon) (typed : List ℕ) (taken : List Entry) (v : S
   pub count : IsFalse (edits c.mode) → IsTrue (allows_local canon.settings.flags)
       → (if canon.settings.flags.isig then c.trapped else c.plain) ≡ length half
 
--- The same of both ends and the bytes between them, which are whole items and calm.
-pub record IsTied (canon : Canon) (w : ends.World) : Type 0 where
+-- The same of two ends and the items between them, which are calm, with what stays as it was.
+pub record IsTied (canon : Canon) (typed : List ℕ) (taken : List Entry) (there back : List Item)
+    (s : server.End) (c : client.End) : Type 0 where
+  pub calm : All (IsCalmToServer canon.settings) there
+  pub calm_back : All (IsCalmToClient canon.settings) back
+  pub agrees : Agrees canon typed taken (read_all canon (server_core s) there) c
+  pub server : ServerStays canon s
+  pub client : ClientStays canon c
+
+-- The relation of a world, with the server's settings and line limit at its mark: the bytes in flight are whole
+-- items, and the ends are tied by these.
+pub record IsRelated (canon : Canon) (w : World) : Type 0 where
   pub items : List Item
   pub flight : InFlight w.server.decoder w.to_server items
-  pub calm : All (IsCalmToServer canon.settings) items
   pub messages : List Item
   pub back : InFlight w.client.decoder w.to_client messages
-  pub calm_back : All (IsCalmToClient canon.settings) messages
-  pub agrees : Agrees canon w.typed w.taken (read_all canon w.server.core items)
-      w.client
-
-abbrev pub picture : World → ends.World
-picture w =
-    record {
-      typed = w.typed;
-      taken = w.taken;
-      server = server_picture w.server;
-      client = w.client;
-      to_server = w.to_server;
-      to_client = w.to_client;
-    }
-
--- The relation of a world, with the server's settings and line limit at its mark.
-pub record IsRelated (canon : Canon) (w : World) : Type 0 where
-  pub tied : IsTied canon (picture w)
-  pub server : ServerStays canon w.server
-  pub client : ClientStays canon w.client
+  pub tied : IsTied canon w.typed w.taken items messages w.server w.client
   pub past : HasPast w
 
 -- What is left of it where the client has failed, and says nothing more: the entries taken, followed by those
