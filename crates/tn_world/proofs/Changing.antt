@@ -16,19 +16,21 @@ use Rattle.tn_discipline.specs.Keys.{role_of_key, roles_of}
 use Rattle.tn_discipline.specs.declared.termios.Settings.{Settings}
 use Rattle.tn_discipline.proofs.lemmas.Histories.{half_of-fits, length_by_test}
 use Rattle.tn_server.specs.Terms.{allows_local}
+use Rattle.tn_nvt.specs.Spelling.{lf}
 use Rattle.tn_client.specs.Lines.{settings_by}
 use Rattle.tn_discipline.specs.Admitted.{next_count, count_after}
 use Rattle.tn_discipline.specs.Characters.{Characters, is_set_to}
+use Rattle.tn_codes.specs.declared.masks.Mask.{Mask}
 use Rattle.tn_discipline.specs.HalfLine.{HalfLine}
 use Rattle.tn_discipline.specs.Keys.{standard_flags, mapped_key, signal_of, role_by_signal, role_or_ignored, roles_from}
 use Rattle.tn_discipline.specs.declared.keys.Role.{Role}
 use Rattle.tn_discipline.specs.declared.reads.Sig.{Sig}
 use Rattle.tn_linemode.specs.Modes.{edits, traps}
-use Rattle.tn_nvt.specs.declared.items.Item.TheVariants.{Byte, Cmd, Neg, Sub}
+use Rattle.tn_nvt.specs.declared.items.Item.TheVariants.{Byte, Newline, Cmd, Neg, Sub}
 use Rattle.tn_client.specs.Calls.{End}
 use Rattle.tn_client.specs.Lines.{role_of_typed}
-use Rattle.tn_client.specs.Replies.{raw_key_items, edit_items, byte_items, end_of_edit_items}
-use Rattle.tn_client.specs.Steps.{role_now, line_typed, end_after_key, says_key, with_mode, line_left, count_left, count_told}
+use Rattle.tn_client.specs.Replies.{raw_items, typed_items, edit_items, byte_items, end_of_edit_items}
+use Rattle.tn_client.specs.Steps.{role_now, line_typed, end_after_key, says_key, says_new_line, with_mode, line_left, count_left, count_told}
 use Rattle.tn_client.specs.Terms.{linemode}
 use Rattle.tn_client.proofs.lemmas.Keying.{end_by, says_by}
 use Rattle.tn_world.specs.relation.Machine.{Mode, bits, Server, read, read_all, remote_mode, local_mode, IsAskable}
@@ -75,8 +77,8 @@ fits_at s typed half held line = subst (λ x. length x ≤ max_counted s.limit) 
 
 -- A KEY that is sent at once: it is a byte, where no signal is trapped
 raw-tests : (b key : ℕ) (sig : Option Sig) (t u v w x y : Bool) →
-    raw_key_items (if t then role.Nl else (if u then role.Eol b else
-    (if y then role.Eol2 b else (if v then role.Eof else (if w then role.Erase else (if x then role.Kill else role_by_signal false sig b)))))) key ≡ Byte key
+    raw_items (if t then role.Nl else (if u then role.Eol b else
+    (if y then role.Eol2 b else (if v then role.Eof else (if w then role.Erase else (if x then role.Kill else role_by_signal false sig b)))))) (Byte key) ≡ Byte key
     ∷ []
 raw-tests b key sig true u v w x y = refl
 raw-tests b key sig false true v w x y = refl
@@ -86,15 +88,15 @@ raw-tests b key sig false false false true x false = refl
 raw-tests b key sig false false false false true false = refl
 raw-tests b key sig false false false false false false = refl
 
-raw-mapped : (c : Characters) (key : ℕ) (mapped : Option ℕ) → raw_key_items
-    (role_or_ignored (record { flags = record standard_flags { isig = false }; chars = c }) mapped) key ≡ Byte key ∷ []
+raw-mapped : (c : Characters) (key : ℕ) (mapped : Option ℕ) → raw_items
+    (role_or_ignored (record { flags = record standard_flags { isig = false }; chars = c }) mapped) (Byte key) ≡ Byte key ∷ []
 raw-mapped c key None = refl
 raw-mapped c key (Some b) = raw-tests b key (signal_of c b) (b == 10) (is_set_to c.eol b) (is_set_to c.eof b) (is_set_to c.erase b) (is_set_to c.kill b)
     (is_set_to c.eol2 b)
 
-raw-key : (mask : ℕ) (c : Characters) (key : ℕ) → traps mask ≡ false → raw_key_items (role_of_typed mask c key) key ≡ Byte key ∷ []
+raw-key : (mask : ℕ) (c : Characters) (key : ℕ) → traps mask ≡ false → raw_items (role_of_typed mask c key) (Byte key) ≡ Byte key ∷ []
 raw-key mask c key e =
-    ap (λ (b : Bool). raw_key_items (role_of_key (record { flags = record standard_flags { isig = b }; chars = c }) key) key) e
+    ap (λ (b : Bool). raw_items (role_of_key (record { flags = record standard_flags { isig = b }; chars = c }) key) (Byte key)) e
     ∙ raw-mapped c key (mapped_key (record standard_flags { isig = false }) key)
 
 -- the count at the client, after one more key
@@ -125,7 +127,7 @@ count-step limit s key trapped plain half false isig allowed count = count-one l
 
 -- a key, by whether it is edited here
 key_by : (canon : Canon) (typed : List ℕ) (taken : List Entry) (v : Server) (c : End) (key : ℕ) (e : Bool) → edits c.mode ≡ e → ClientStays canon c
-    → Agrees canon typed taken v c → Agrees canon (typed ++ key ∷ []) taken (read_all canon v (says_by e c key)) (end_by e c key)
+    → Agrees canon typed taken v c → Agrees canon (typed ++ key ∷ []) taken (read_all canon v (says_by e c key (Byte key))) (end_by e c key)
 key_by canon typed taken v c key true is_edit stays a =
     let ok = local_of canon.settings (bits c.mode) a.askable is_edit in
     let l = linemode c.options in
@@ -145,8 +147,8 @@ key_by canon typed taken v c key true is_edit stays a =
       half = f.half;
       waiting = a.waiting ++ gain_next canon.limit (a.half ++ c.line.held) r;
       is =
-          ap (λ x. read_all canon x (says_by true c key)) a.is
-          ∙ ap (λ e. read_all canon (server_at l e a.half a.waiting) (says_by true c key)) is_edit
+          ap (λ x. read_all canon x (says_by true c key (Byte key))) a.is
+          ∙ ap (λ e. read_all canon (server_at l e a.half a.waiting) (says_by true c key (Byte key))) is_edit
           ∙ f.reads
           ∙ ap (λ e. server_at l e f.half (a.waiting ++ gain_next canon.limit (a.half ++ c.line.held) r)) (sym is_edit);
       off = a.off;
@@ -204,6 +206,26 @@ key_by canon typed taken v c key false is_remote stays a =
 pub key-agrees : (canon : Canon) (typed : List ℕ) (taken : List Entry) (v : Server) (c : End) (key : ℕ) → ClientStays canon c → Agrees canon typed taken v c
     → Agrees canon (typed ++ key ∷ []) taken (read_all canon v (says_key c key)) (end_after_key c key)
 key-agrees canon typed taken v c key stays a = key_by canon typed taken v c key (edits c.mode) refl stays a
+
+-- a new line is read as the key LF
+same-line : (canon : Canon) (v : Server) (edit : Bool) (forward : Option Mask) (r : Role) (l : HalfLine)
+    → read_all canon v (typed_items edit forward r l Newline) ≡ read_all canon v (typed_items edit forward r l (Byte lf))
+same-line canon v true forward r l = refl
+same-line canon v false forward (role.Signal sig) l = refl
+same-line canon v false forward role.Nl l = refl
+same-line canon v false forward (role.Eol b) l = refl
+same-line canon v false forward (role.Eol2 b) l = refl
+same-line canon v false forward role.Eof l = refl
+same-line canon v false forward role.Erase l = refl
+same-line canon v false forward role.Kill l = refl
+same-line canon v false forward role.Ignored l = refl
+same-line canon v false forward (role.Ordinary b) l = refl
+
+pub line-agrees : (canon : Canon) (typed : List ℕ) (taken : List Entry) (v : Server) (c : End) → ClientStays canon c → Agrees canon typed taken v c
+    → Agrees canon (typed ++ lf ∷ []) taken (read_all canon v (says_new_line c)) (end_after_key c lf)
+line-agrees canon typed taken v c stays a =
+    subst (λ (u : Server). Agrees canon (typed ++ lf ∷ []) taken u (end_after_key c lf))
+    (sym (same-line canon v (edits c.mode) c.forward (role_now c lf) c.line)) (key-agrees canon typed taken v c lf stays a)
 
 -- a command by which the server interrupts, as a key would
 pub interrupt-agrees : (canon : Canon) (typed : List ℕ) (taken : List Entry) (v : Server) (c : End) (key : ℕ)

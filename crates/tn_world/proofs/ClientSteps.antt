@@ -18,7 +18,7 @@ use Rattle.tn_discipline.specs.Characters.{standard_characters}
 use Rattle.tn_discipline.specs.declared.reads.Entry.{Entry}
 use Rattle.tn_linemode.specs.Modes.{edits, mode_of, is_acknowledged, client_mask_after, mode_answer, traps}
 use Rattle.tn_linemode.specs.Words.{differ, word_items, payload_items, mode_items}
-use Rattle.tn_nvt.specs.Spelling.{Fits}
+use Rattle.tn_nvt.specs.Spelling.{lf, Fits}
 use Rattle.tn_nvt.specs.declared.items.Item.{Item}
 use Rattle.tn_nvt.specs.declared.items.Item.TheVariants.{Byte, Newline, Cmd, Neg, Sub}
 use Rattle.tn_option.specs.Options.{Options, options_after_word, reply_to, state_of, is_yes}
@@ -27,9 +27,9 @@ use Rattle.tn_option.specs.declared.q_method.Side.TheVariants.{Us}
 use Rattle.tn_server.proofs.lemmas.Terms.{differ_self}
 use Rattle.tn_client.specs.Answering.{IsStopCause}
 use Rattle.tn_client.specs.Calls.{End}
-use Rattle.tn_client.specs.Replies.{size_items}
+use Rattle.tn_client.specs.Replies.{sent_as, size_items}
 use Rattle.tn_client.specs.Replies.{new_size_items, payload_answers, answer_items, end_of_edit_items, is_same_size}
-use Rattle.tn_client.specs.Steps.{role_now, end_after_key, says_key, with_mode, end_after_item, says_got, says_resize, end_after_items, says_items}
+use Rattle.tn_client.specs.Steps.{role_now, end_after_key, says_typed, says_key, says_new_line, with_mode, end_after_item, says_got, says_resize, end_after_items, says_items}
 use Rattle.tn_client.specs.Terms.{linemode, tells_size, payload_at, options_after, mode_by, mode_at, chars_by}
 use Rattle.tn_client.proofs.lemmas.Gathering.{says_both}
 use Rattle.tn_client.proofs.lemmas.Standings.{typed_limit, left_limit}
@@ -65,11 +65,17 @@ edits-ack (suc (suc (suc zero))) h = refl
 edits-ack (suc (suc (suc (suc n)))) h = absurd (omega arith)
 
 -- A KEY says bytes of data, new lines and commands.
-pub key_said : (canon : Canon) (c : End) (key : ℕ) → AreSaid canon (says_key c key)
-key_said canon c key = record {
-  fit = key_all Fits (λ b. tt) tt (λ c. tt) (edits c.mode) c.forward (role_now c key) c.line key;
-  calm = key_all (IsCalmToServer canon.settings) (λ b. tt) tt (λ c. tt) (edits c.mode) c.forward (role_now c key) c.line key;
+typed_said : (canon : Canon) (c : End) (is_line : Bool) (key : ℕ) → AreSaid canon (says_typed c key (sent_as is_line key))
+typed_said canon c is_line key = record {
+  fit = key_all Fits (λ b. tt) tt (λ c. tt) (edits c.mode) c.forward (role_now c key) c.line is_line key;
+  calm = key_all (IsCalmToServer canon.settings) (λ b. tt) tt (λ c. tt) (edits c.mode) c.forward (role_now c key) c.line is_line key;
 }
+
+pub key_said : (canon : Canon) (c : End) (key : ℕ) → AreSaid canon (says_key c key)
+key_said canon c key = typed_said canon c false key
+
+pub line_said : (canon : Canon) (c : End) → AreSaid canon (says_new_line c)
+line_said canon c = typed_said canon c true lf
 
 pub key_stays : (canon : Canon) (c : End) (key : ℕ) → ClientStays canon c → ClientStays canon (end_after_key c key)
 key_stays canon c key k =

@@ -160,6 +160,7 @@ pub client_agrees : (h : client_calls.History) → agrees_to (client_terms.optio
 client_agrees (client_calls.begun width height limit) = client_begun
 client_agrees (client_calls.next h (client_calls.got item)) = client_heard (client_terms.options h) item ∙ client_agrees h
 client_agrees (client_calls.next h (client_calls.typed key)) = client_agrees h
+client_agrees (client_calls.next h client_calls.entered) = client_agrees h
 client_agrees (client_calls.next h (client_calls.resized width height)) = client_agrees h
 client_agrees (client_calls.next h (client_calls.proposed func value)) = client_agrees h
 client_agrees (client_calls.next h (client_calls.sent command)) = client_agrees h

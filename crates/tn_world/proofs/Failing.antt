@@ -10,7 +10,7 @@ use Rattle.tn_discipline.specs.Steps.{gain_next}
 use Rattle.tn_discipline.specs.Canon.{typed_half}
 use Rattle.tn_discipline.specs.declared.reads.Entry.{Entry}
 use Rattle.tn_nvt.specs.declared.items.Item.{Item}
-use Rattle.tn_nvt.specs.Spelling.{Fits}
+use Rattle.tn_nvt.specs.Spelling.{lf, Fits}
 use Rattle.tn_nvt.specs.Stream.{Reading}
 use Rattle.tn_nvt.specs.Feeding.{DecoderState, Advances}
 use Rattle.tn_nvt.proofs.lemmas.Reading.{delivers}
@@ -36,11 +36,11 @@ use Rattle.tn_client.specs.Steps.{end_after_items, says_items}
 use Rattle.tn_world.specs.relation.Machine.{Server, read_all}
 use Rattle.tn_world.specs.relation.Pictures.{server_core, ServerStays}
 use Rattle.tn_world.specs.relation.Relation.{IsRelated, IsBehind}
-use Rattle.tn_world.specs.Worlds.{World, UnlessStopped, TypesKey, SendsCommand, key_sent, CallsClient, DeliversToServer, DeliversToClient, CallsServer, Pulls}
+use Rattle.tn_world.specs.Worlds.{World, UnlessStopped, Types, TypesKey, EntersLine, SendsCommand, key_sent, CallsClient, DeliversToServer, DeliversToClient, CallsServer, Pulls}
 use Rattle.tn_world.specs.Worlds.{TakesEntry, RunsEvent, ServerRefusesDelivery, ClientRefusesDelivery}
 use Rattle.tn_client.specs.declared.commands.UserCommand.{UserCommand}
 use Rattle.tn_world.specs.declared.events.Event.{Event}
-use Rattle.tn_world.specs.declared.events.Event.TheVariants.{Key, Send, ToServer, ToClient, Write, Pull, Take, Wish, Resize, SetChar, Propose, Echo, Mask}
+use Rattle.tn_world.specs.declared.events.Event.TheVariants.{Key, NewLine, Send, ToServer, ToClient, Write, Pull, Take, Wish, Resize, SetChar, Propose, Echo, Mask}
 use Rattle.tn_world.specs.declared.events.Event.TheVariants.{ServerStops, ClientStops}
 use Rattle.tn_world.proofs.ClientSteps.{items-come, stops_front}
 use Rattle.tn_world.proofs.Cut.{said_behind, cut_at}
@@ -277,6 +277,8 @@ behind_does : (s : Canon) (old new : World) (e : Event) → old.client.failed �
     → RunsEvent old e new → IsBehind s old → IsBehind s new
 behind_does s old new (Key key) failed sound quiet d h =
     behind_unless s old.client_stopped old new (TypesKey old key new) sound (λ t. gone_silent s old new failed (call_goes_on old.client t.accepted)) d h
+behind_does s old new NewLine failed sound quiet d h =
+    behind_unless s old.client_stopped old new (EntersLine old new) sound (λ t. gone_silent s old new failed (call_goes_on old.client t.accepted)) d h
 behind_does s old new (Send command) failed sound quiet d h =
     behind_unless s old.client_stopped old new (SendsCommand old command new) sound (λ t. gone_silent s old new failed (call_goes_on old.client t.accepted)) d h
 behind_does s old new (ToServer n) failed sound quiet d h =
@@ -319,8 +321,8 @@ begins_unless : (s : Canon) (stopped : Bool) (old new : World) (happens : Type 0
 begins_unless s true old new happens done is p = subst (λ w. Begins s w) (sym is) p
 begins_unless s false old new happens done is p = done is
 
-begins_types : (s : Canon) (old new : World) (key : ℕ) → TypesKey old key new → Begins s old → Begins s new
-begins_types s old new key t p =
+begins_types : (s : Canon) (old new : World) (e : client_calls.Event) (key : ℕ) → Types old e key new → Begins s old → Begins s new
+begins_types s old new e key t p =
     let gain = gain_next s.limit (typed_half s old.typed) (role_of_key s.settings key) in
     subst (λ (w : World). Begins s w) (sym t.step)
     (prefix_trans (entries_made old) (local_entries s old.typed) (local_entries s (old.typed ++ key ∷ [])) p (gain, sym (entries-typed s old.typed key)))
@@ -351,7 +353,9 @@ begins_takes s old new sound t p =
 begins_does : (s : Canon) (old new : World) (e : Event) → old.server.failed ≡ true → HasPast old → IsQuietEvent old e → RunsEvent old e new → Begins s old
     → Begins s new
 begins_does s old new (Key key) failed sound quiet d p = begins_unless s old.client_stopped old new (TypesKey old key new)
-    (λ t. begins_types s old new key t p) d p
+    (λ t. begins_types s old new (client_calls.typed key) key t p) d p
+begins_does s old new NewLine failed sound quiet d p = begins_unless s old.client_stopped old new (EntersLine old new)
+    (λ t. begins_types s old new client_calls.entered lf t p) d p
 begins_does s old new (Send command) failed sound quiet d p = begins_unless s old.client_stopped old new (SendsCommand old command new)
     (λ t. begins_sends s old new command t p) d p
 begins_does s old new (ToServer n) failed sound quiet d p =

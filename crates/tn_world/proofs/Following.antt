@@ -10,7 +10,7 @@ use Rattle.tn_discipline.specs.declared.keys.Role.TheVariants as role
 use Rattle.tn_discipline.specs.declared.reads.Sig.TheVariants.{Int}
 use Rattle.tn_discipline.specs.declared.termios.Flags.{Flags}
 use Rattle.tn_discipline.specs.declared.termios.Settings.{Settings}
-use Rattle.tn_nvt.specs.Spelling.{spells, Fits}
+use Rattle.tn_nvt.specs.Spelling.{lf, spells, Fits}
 use Rattle.tn_nvt.specs.Feeding.{DecoderState}
 use Rattle.tn_nvt.specs.Stream.{Segment, spelled, lone_cr, escaped, unread, cut, Splits, gives, Reading}
 use Rattle.tn_codes.specs.declared.codes.Command.TheVariants as command
@@ -33,23 +33,23 @@ use Rattle.tn_world.specs.relation.Calm.{IsCalmToClient}
 use Rattle.tn_world.specs.relation.Ends.{SaysItems}
 use Rattle.tn_world.specs.Flight.{InFlight}
 use Rattle.tn_world.specs.relation.Pictures.{server_core, ServerStays}
-use Rattle.tn_world.specs.Worlds.{World, canon_of, UnlessStopped, TypesKey, key_sent, SendsCommand, CallsClient, DeliversToServer, DeliversToClient}
+use Rattle.tn_world.specs.Worlds.{World, canon_of, UnlessStopped, TypesKey, EntersLine, key_sent, SendsCommand, CallsClient, DeliversToServer, DeliversToClient}
 use Rattle.tn_world.specs.Worlds.{CallsServer, Pulls, TakesEntry, RunsEvent, Refuses}
 use Rattle.tn_world.specs.declared.events.Event.{Event}
-use Rattle.tn_world.specs.declared.events.Event.TheVariants.{Key, Send, ToServer, ToClient, Write, Pull, Take, Wish, Resize, SetChar, Propose, Echo, Mask}
+use Rattle.tn_world.specs.declared.events.Event.TheVariants.{Key, NewLine, Send, ToServer, ToClient, Write, Pull, Take, Wish, Resize, SetChar, Propose, Echo, Mask}
 use Rattle.tn_world.specs.declared.events.Event.TheVariants.{ServerStops, ClientStops}
 use Rattle.tn_world.specs.declared.faults.Cause.{Cause}
 use Rattle.tn_world.proofs.ClientSteps as client_steps
-use Rattle.tn_world.proofs.ClientSteps.{key_said, items-come, resized-writes}
+use Rattle.tn_world.proofs.ClientSteps.{key_said, line_said, items-come, resized-writes}
 use Rattle.tn_client.specs.Calls as client
-use Rattle.tn_client.specs.Steps.{end_after_key, says_key, shows_key, end_after_resize, says_resize, end_after_items, says_items}
+use Rattle.tn_client.specs.Steps.{end_after_key, says_key, says_new_line, shows_key, end_after_resize, says_resize, end_after_items, says_items}
 use Rattle.tn_discipline.specs.declared.reads.Entry.{Entry}
 use Rattle.tn_world.proofs.ServerSteps as server_steps
 use Rattle.tn_world.proofs.ServerSteps.{KeepsEntries}
 use Rattle.tn_world.proofs.Soundness.{asked_fit, feeds_fit, opposite, Refusal, unchanged, by_server, by_client, refusal_of, sound_does}
 use Rattle.tn_world.proofs.Cut.{behind, cut_at}
 use Rattle.tn_world.proofs.Reading.{all_parts}
-use Rattle.tn_world.proofs.Tied.{key-tied, interrupt-tied, aside-tied, resize-tied, return-tied, client-as, reach-tied, call-tied, take-tied, server-as}
+use Rattle.tn_world.proofs.Tied.{key-tied, line-tied, interrupt-tied, aside-tied, resize-tied, return-tied, client-as, reach-tied, call-tied, take-tied, server-as}
 use Rattle.tn_world.specs.relation.Relation.{IsRelated, IsTied}
 
 -- the items of a reading fit
@@ -100,6 +100,11 @@ holds_types : (s : Canon) (old new : World) (key : ℕ) → HasPast new → Type
 holds_types s old new key sound t h =
     client_says s old h new sound (says_key old.client key) (old.typed ++ key ∷ []) (old.echoed ++ shows_key old.client key) (end_after_key old.client key)
     (key_said s old.client key).fit refl (key-tied h.tied key) t.step
+
+holds_enters : (s : Canon) (old new : World) → HasPast new → EntersLine old new → IsRelated s old → IsRelated s new
+holds_enters s old new sound t h =
+    client_says s old h new sound (says_new_line old.client) (old.typed ++ lf ∷ []) (old.echoed ++ shows_key old.client lf) (end_after_key old.client lf)
+    (line_said s old.client).fit refl (line-tied h.tied) t.step
 
 -- a command: the key that it stands for interrupts at the beginning, too
 role_kept : (s : Canon) (w : World) (key : ℕ) → HasPast w → ServerStays s w.server → role_of_key (canon_of w).settings key ≡ role_of_key s.settings key
@@ -216,6 +221,7 @@ holds_stops s old new a b is sound h =
 pub holds_does : (s : Canon) (old new : World) (e : Event) → HasPast new → IsQuietEvent old e → RunsEvent old e new → IsRelated s old
     → IsRelated s new
 holds_does s old new (Key key) sound quiet d h = unless s old.client_stopped old new (TypesKey old key new) (holds_types s old new key sound) d h
+holds_does s old new NewLine sound quiet d h = unless s old.client_stopped old new (EntersLine old new) (holds_enters s old new sound) d h
 holds_does s old new (Send command) sound quiet d h = unless s old.client_stopped old new (SendsCommand old command new)
     (holds_sends s old new command sound quiet) d h
 holds_does s old new (ToServer n) sound quiet d h = unless s old.server_stopped old new (DeliversToServer old n new)
@@ -262,6 +268,8 @@ tells_keeps old new e t = (ap (λ (w : World). w.server.failed) t.step, ap (λ (
 
 pub does_keeps : (old new : World) (e : Event) → RunsEvent old e new → FailsNone old new
 does_keeps old new (Key key) d = unless_keeps old.client_stopped old new (TypesKey old key new)
+    (λ t. (ap (λ (w : World). w.server.failed) t.step, ap (λ (w : World). w.client.failed) t.step)) d
+does_keeps old new NewLine d = unless_keeps old.client_stopped old new (EntersLine old new)
     (λ t. (ap (λ (w : World). w.server.failed) t.step, ap (λ (w : World). w.client.failed) t.step)) d
 does_keeps old new (Send command) d = unless_keeps old.client_stopped old new (SendsCommand old command new)
     (λ t. (ap (λ (w : World). w.server.failed) t.step, ap (λ (w : World). w.client.failed) t.step)) d

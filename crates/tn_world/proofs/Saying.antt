@@ -25,9 +25,10 @@ use Rattle.tn_nvt.specs.declared.items.Item.{Item}
 use Rattle.tn_nvt.specs.declared.items.Item.TheVariants.{Byte, Newline, Cmd, Neg, Sub}
 use Rattle.tn_option.specs.Options.{Options, reply_to}
 use Rattle.tn_linemode.specs.Words.{word_items, mode_items, list_items}
-use Rattle.tn_client.specs.Events.{Event, History, begun, next, typed, got, resized, proposed, sent}
+use Rattle.tn_nvt.specs.Spelling.{lf}
+use Rattle.tn_client.specs.Events.{Event, History, begun, next, typed, entered, got, resized, proposed, sent}
 use Rattle.tn_client.specs.Lines.{role_at, sends_ahead, line}
-use Rattle.tn_client.specs.Replies.{byte_items, command_of, command_items, raw_key_items, edited_key_items, sent_ahead_items, key_items, size_items}
+use Rattle.tn_client.specs.Replies.{byte_items, command_of, command_items, raw_items, sent_as, edited_key_items, sent_ahead_items, typed_items, size_items}
 use Rattle.tn_client.specs.Replies.{new_size_items, payload_answers, answer_items, end_of_edit_items, is_same_size, command_sent, replies, items_said}
 use Rattle.tn_client.specs.Terms.{options, mode, forward, chars, size, tells_size, payload_at, options_after, mode_at}
 use Rattle.tn_world.specs.Past.{IsNoWish, WishesNothing}
@@ -70,26 +71,31 @@ module _ (P : Item → Type 0) (byte : (b : ℕ) → P (Byte b)) (newline : P Ne
   edited_all role.Ignored l = All-nil P
   edited_all (role.Ordinary b) l = All-nil P
 
-  raw_all : (r : Role) (key : ℕ) → All P (raw_key_items r key)
-  raw_all (role.Signal sig) key = command_all (command_of (role.Signal sig))
-  raw_all role.Nl key = one_all (Byte key) (byte key)
-  raw_all (role.Eol b) key = one_all (Byte key) (byte key)
-  raw_all (role.Eol2 b) key = one_all (Byte key) (byte key)
-  raw_all role.Eof key = one_all (Byte key) (byte key)
-  raw_all role.Erase key = one_all (Byte key) (byte key)
-  raw_all role.Kill key = one_all (Byte key) (byte key)
-  raw_all role.Ignored key = one_all (Byte key) (byte key)
-  raw_all (role.Ordinary b) key = one_all (Byte key) (byte key)
+  as_all : (is_line : Bool) (key : ℕ) → All P (sent_as is_line key ∷ [])
+  as_all true key = one_all Newline newline
+  as_all false key = one_all (Byte key) (byte key)
+
+  raw_all : (r : Role) (is_line : Bool) (key : ℕ) → All P (raw_items r (sent_as is_line key))
+  raw_all (role.Signal sig) is_line key = command_all (command_of (role.Signal sig))
+  raw_all role.Nl is_line key = as_all is_line key
+  raw_all (role.Eol b) is_line key = as_all is_line key
+  raw_all (role.Eol2 b) is_line key = as_all is_line key
+  raw_all role.Eof is_line key = as_all is_line key
+  raw_all role.Erase is_line key = as_all is_line key
+  raw_all role.Kill is_line key = as_all is_line key
+  raw_all role.Ignored is_line key = as_all is_line key
+  raw_all (role.Ordinary b) is_line key = as_all is_line key
 
   ahead_all : (sends : Bool) (l : HalfLine) → All P (sent_ahead_items sends l)
   ahead_all true l = bytes_all l.held
   ahead_all false l = All-nil P
 
-  pub key_all : (edit : Bool) (forward : Option Mask) (r : Role) (l : HalfLine) (key : ℕ) → All P (key_items edit forward r l key)
-  key_all true forward r l key =
+  pub key_all : (edit : Bool) (forward : Option Mask) (r : Role) (l : HalfLine) (is_line : Bool) (key : ℕ)
+      → All P (typed_items edit forward r l (sent_as is_line key))
+  key_all true forward r l is_line key =
       let sends = sends_ahead forward l.limit (line_length l) r in
       All-append P (edited_key_items r l) (sent_ahead_items sends (line_after l r)) (edited_all r l) (ahead_all sends (line_after l r))
-  key_all false forward r l key = raw_all r key
+  key_all false forward r l is_line key = raw_all r is_line key
 
 -- WHATEVER HOLDS OF EACH KIND OF ITEM
 module _ (P : Item → Type 0) (byte : (b : ℕ) → P (Byte b)) (newline : P Newline) (command : (c : Command) → P (Cmd c)) (word : (v : Verb) (o : ℕ) → P (Neg v o))
@@ -142,7 +148,8 @@ module _ (P : Item → Type 0) (byte : (b : ℕ) → P (Byte b)) (newline : P Ne
       (ending_all (edits (mode h)) (edits (mode_at (options h) (mode h) item)) (line h).held) (answer_all (options h) (mode h) (chars h) (size h) item)
 
   replies_all : (h : History) (e : Event) → ((f : Func) (v : Option ℕ) → P (Sub 34 (parameters_of (payload.Slc (triple_of f v ∷ []))))) → All P (replies h e)
-  replies_all h (typed key) p = key_all P byte newline command (edits (mode h)) (forward h) (role_at h key) (line h) key
+  replies_all h (typed key) p = key_all P byte newline command (edits (mode h)) (forward h) (role_at h key) (line h) false key
+  replies_all h entered p = key_all P byte newline command (edits (mode h)) (forward h) (role_at h lf) (line h) true lf
   replies_all h (got item) p = answers_all h item
   replies_all h (resized width height) p = if_all P byte newline command (tells_size (options h) && not (is_same_size (size h) (width, height))) (size_items (width, height))
       (size_all (width, height))

@@ -117,6 +117,7 @@ propose_goes_on end (client_calls.proposed func value) e = by_test end.failed re
     by_test true is = absurd (let f = ap (λ (b : Bool). client.propose_fault (record end { failed = b }) func value) (sym is) ∙ e in cc)
     by_test false is = is
 propose_goes_on end (client_calls.typed key) e = call_goes_on end e
+propose_goes_on end client_calls.entered e = call_goes_on end e
 propose_goes_on end (client_calls.got item) e = call_goes_on end e
 propose_goes_on end (client_calls.resized width height) e = call_goes_on end e
 propose_goes_on end (client_calls.sent command) e = call_goes_on end e

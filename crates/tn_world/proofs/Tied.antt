@@ -6,7 +6,7 @@ use Rattle.tn_codes.specs.declared.codes.Command.TheVariants.{Ip}
 use Rattle.tn_nvt.specs.declared.items.Item.{Item}
 use Rattle.tn_nvt.specs.declared.items.Item.TheVariants.{Cmd}
 use Rattle.tn_nvt.specs.Feeding.{DecoderState}
-use Rattle.tn_nvt.specs.Spelling.{Fits}
+use Rattle.tn_nvt.specs.Spelling.{lf, Fits}
 use Rattle.tn_discipline.specs.Canon.{Canon, typed_entries, typed_half}
 use Rattle.tn_discipline.specs.Keys.{role_of_key}
 use Rattle.tn_discipline.specs.declared.keys.Role.TheVariants as role
@@ -14,7 +14,7 @@ use Rattle.tn_discipline.specs.declared.reads.Entry.{Entry}
 use Rattle.tn_discipline.specs.declared.reads.Sig.TheVariants.{Int}
 use Rattle.tn_linemode.specs.Modes.{edits}
 use Rattle.tn_client.specs.Calls as client
-use Rattle.tn_client.specs.Steps.{end_after_key, says_key, end_after_resize, says_resize, end_after_items, says_items}
+use Rattle.tn_client.specs.Steps.{end_after_key, says_key, says_new_line, end_after_resize, says_resize, end_after_items, says_items}
 use Rattle.tn_client.specs.Terms.{linemode}
 use Rattle.tn_server.specs.Calls as server
 use Rattle.tn_server.specs.Events as server_calls
@@ -25,10 +25,10 @@ use Rattle.tn_world.specs.relation.Ends.{SaysItems}
 use Rattle.tn_world.specs.relation.Machine.{Server, bits, read_all, IsAskable}
 use Rattle.tn_world.specs.relation.Pictures.{server_core, ServerStays, ClientStays}
 use Rattle.tn_world.specs.relation.Relation.{Agrees, AreOrdinary, IsTied, server_at}
-use Rattle.tn_world.proofs.ClientSteps.{key_said, key_stays, items-come, resized-writes}
+use Rattle.tn_world.proofs.ClientSteps.{key_said, line_said, key_stays, items-come, resized-writes}
 use Rattle.tn_world.proofs.ServerSteps.{KeepsEntries, calls, goes_on, calm_call, stays_call, core_call}
 use Rattle.tn_world.proofs.Reading.{all_parts, read_all-append}
-use Rattle.tn_world.proofs.Changing.{key-agrees, interrupt-agrees, beside-agrees}
+use Rattle.tn_world.proofs.Changing.{key-agrees, line-agrees, interrupt-agrees, beside-agrees}
 use Rattle.tn_world.proofs.Prefixes.{take-agrees, agreed, prefix_after, prefix_trans, prefix_same, read-more}
 
 module _ {canon : Canon} {typed : List ℕ} {taken : List Entry} {there back : List Item} {s : server.End} {c : client.End}
@@ -58,6 +58,11 @@ module _ {canon : Canon} {typed : List ℕ} {taken : List Entry} {there back : L
   key-tied key =
       client-says back (says_key c key) (typed ++ key ∷ []) (end_after_key c key) (key_said canon c key).calm t.calm_back (key_stays canon c key t.client)
       (key-agrees canon typed taken v c key t.client t.agrees)
+
+  pub line-tied : IsTied canon (typed ++ lf ∷ []) taken (there ++ says_new_line c) back s (end_after_key c lf)
+  line-tied =
+      client-says back (says_new_line c) (typed ++ lf ∷ []) (end_after_key c lf) (line_said canon c).calm t.calm_back (key_stays canon c lf t.client)
+      (line-agrees canon typed taken v c t.client t.agrees)
 
   pub interrupt-tied : (key : ℕ) (said : List Item) → role_of_key canon.settings key ≡ role.Signal Int → SaysItems canon (Cmd Ip ∷ []) said
       → IsTied canon (typed ++ key ∷ []) taken (there ++ said) back s c

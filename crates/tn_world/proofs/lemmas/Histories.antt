@@ -16,7 +16,7 @@ use Rattle.tn_discipline.specs.declared.termios.Settings.{Settings}
 use Rattle.tn_discipline.specs.declared.reads.Entry.{Entry}
 use Rattle.tn_discipline.specs.HalfLine.{HalfLine}
 use Rattle.tn_linemode.specs.Modes.{Modes, edits}
-use Rattle.tn_nvt.specs.Spelling.{Fits}
+use Rattle.tn_nvt.specs.Spelling.{lf, Fits}
 use Rattle.tn_nvt.specs.declared.items.Item.{Item}
 use Rattle.tn_nvt.specs.declared.items.Item.TheVariants.{Cmd}
 use Rattle.tn_server.specs.Events as server
@@ -33,7 +33,7 @@ use Rattle.tn_client.specs.Steps.{end_after, says}
 use Rattle.tn_client.proofs.lemmas.Standings.{says_as}
 use Rattle.tn_client.proofs.lemmas.Lines.{end_at, end_next, stands_there}
 use Rattle.tn_nvt.specs.Feeding.{failed}
-use Rattle.tn_world.proofs.Tied.{key-tied, interrupt-tied, aside-tied, resize-tied, return-tied, client-as, reach-tied, call-tied, take-tied, server-as, tied-begins, tied-complete}
+use Rattle.tn_world.proofs.Tied.{key-tied, line-tied, interrupt-tied, aside-tied, resize-tied, return-tied, client-as, reach-tied, call-tied, take-tied, server-as, tied-begins, tied-complete}
 use Rattle.tn_world.proofs.ClientSteps as client_steps
 use Rattle.tn_world.proofs.Interrupting.{interrupts_there}
 use Rattle.tn_world.proofs.Opening.{begun_tied}
@@ -83,10 +83,11 @@ items_call h (server.wished editing) is = refl
 items_call h (server.echo_set on) is = refl
 items_call h (server.mask_set mask) is = refl
 
--- what was typed at a client, a command as the key that it stands for at a terminal with these settings
+-- what was typed at a client, a new line as LF and a command as the key that it stands for at a terminal with these settings
 abbrev pub keys_typed : Settings → client.History → List ℕ
 keys_typed s (client.begun width height limit) = []
 keys_typed s (client.next h (client.typed key)) = keys_typed s h ++ key ∷ []
+keys_typed s (client.next h client.entered) = keys_typed s h ++ lf ∷ []
 keys_typed s (client.next h (client.sent command)) = keys_typed s h ++ option_to_list (key_for command s)
 keys_typed s (client.next h _) = keys_typed s h
 
@@ -183,6 +184,9 @@ says_more canon h k e back t told tied =
 pub types : (canon : Canon) (h : server.History) (k : client.History) (key : ℕ) → TiedHistories canon h k
     → TiedHistories canon h (client.next k (client.typed key))
 types canon h k key t = says_more canon h k (client.typed key) t.back t t.told (key-tied t.tied key)
+
+pub enters : (canon : Canon) (h : server.History) (k : client.History) → TiedHistories canon h k → TiedHistories canon h (client.next k client.entered)
+enters canon h k t = says_more canon h k client.entered t.back t t.told (line-tied t.tied)
 
 pub resizes : (canon : Canon) (h : server.History) (k : client.History) (width height : ℕ) → TiedHistories canon h k
     → TiedHistories canon h (client.next k (client.resized width height))
