@@ -154,11 +154,7 @@ impl ClientEnd {
 
     /// Enters a new line: types the key LF, which goes to the server as CR LF, also if keys go one at a time
     /// (RFC 1123, section 3.3.1). It shows and refuses what `key` does.
-    pub fn new_line(
-        &mut self,
-        out: &mut Vec<u8>,
-        screen: &mut Vec<u8>,
-    ) -> Result<(), ClientFault>
+    pub fn new_line(&mut self, out: &mut Vec<u8>, screen: &mut Vec<u8>) -> Result<(), ClientFault>
         ensures step { OnOk result (self.new ≡ end_after_key self.old lf) }
         ensures out { OnOk result
             (out.new.items ≡ out.old.items ++ spells (says_new_line self.old)) }

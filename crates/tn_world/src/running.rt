@@ -102,8 +102,7 @@ impl World {
             return Ok(());
         }
         self.typed.reserve(1)?;
-        self.client
-            .new_line(&mut self.to_server, &mut self.echoed)?;
+        self.client.new_line(&mut self.to_server, &mut self.echoed)?;
         self.typed.push_reserved(b'\n');
         Ok(())
     }

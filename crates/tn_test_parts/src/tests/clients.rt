@@ -62,6 +62,7 @@ impl Client {
     fn call(&mut self, words: Words<'_>, page: &mut Page) -> bool {
         let ended = match words.verb {
             "keys" => self.keys(words),
+            "enter" => self.enter(),
             "feed" => self.feed(words),
             "resize" => self.resize(words),
             "send" => self.send(words),
@@ -86,6 +87,14 @@ impl Client {
             ended = ended.and(typed);
         }
         ended
+    }
+
+    fn enter(&mut self) -> Result<(), ClientFault> {
+        let entered = self.end.new_line(&mut self.sent, &mut self.shown);
+        if entered == Err(ClientFault::Memory) {
+            return self.end.new_line(&mut self.sent, &mut self.shown);
+        }
+        entered
     }
 
     fn feed(&mut self, words: Words<'_>) -> Result<(), ClientFault> {
@@ -138,6 +147,12 @@ const ANSWERS: &[(&str, &str)] = &[
     (
         "join; feed fffb63; feed fffb63; feed fffd01; feed fffb22; feed fffd22; feed fffc01",
         "sent fffe63; sent fffe63; sent fffc01; sent fffe22; sent fffe01",
+    ),
+    // A new line is CR LF, RETURN is CR NUL, and both end a line that is edited here.
+    (
+        "enter; keys 0d; join; enter; edit; keys 61; enter; keys 610d; keys 62; half; enter; half",
+        "sent 0d0a; shown 0d0a; sent 0d00; shown 0d0a; sent 0d0a; shown 61; sent 610d0a; shown 0d0a; \
+         sent 610d0a; shown 610d0a; shown 62; half 62; sent 620d0a; shown 0d0a; half",
     ),
     // A client acknowledges a mode that is new.
     (

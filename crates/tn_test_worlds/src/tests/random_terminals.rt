@@ -28,13 +28,14 @@ fn editing(random: &mut Random) -> Editing {
 
 // Anything but a change of the mode or of a character.
 fn event(random: &mut Random) -> Event {
-    match random.roll(12) {
+    match random.roll(13) {
         0 => Event::Take,
         1 => Event::Pull(random.roll(9)),
         2 => Event::Resize(80, height(random)),
         3 => Event::Echo(random.flips()),
         4..=6 => Event::ToServer(random.roll(7)),
         7 | 8 => Event::ToClient(random.roll(7)),
+        9 => Event::NewLine,
         _ => Event::Key(random.pick(&KEYS)),
     }
 }
