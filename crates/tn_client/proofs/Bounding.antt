@@ -89,17 +89,11 @@ size-payload m c on option params (Some (Slc ts)) e names =
       answers-size client_next client_answer (λ d. Unit {0}) (λ d t h. tt) (λ d t a h. names d t a) c ts tt,
       size-came option params ts says,
     )
-size-payload m c on option params (Some (Naws width height)) e names = omega arith
-size-payload m c on option params (Some ForwardYes) e names = omega arith
-size-payload m c on option params (Some ForwardNo) e names = omega arith
-size-payload m c on option params None e names = omega arith
+size-payload m c on option params _ e names = omega arith
 
 -- AN ITEM
 module _ (names : (c : Characters) (t a : Triple) → client_answer c t ≡ Some a → Answers t a) where
   size-answer : (o : Options) (m : ℕ) (c : Characters) (z : ℕ × ℕ) (item : Item) → size (answer_items o m c z item) ≤ max_answered item
-  size-answer o m c z (Byte b) = omega arith
-  size-answer o m c z Newline = omega arith
-  size-answer o m c z (Cmd command) = omega arith
   size-answer o m c z (Neg verb option) =
       let back : List Item = new_size_items (tells_size o) (tells_size (options_after o (Neg verb option))) z in
       omega (
@@ -110,6 +104,7 @@ module _ (names : (c : Characters) (t a : Triple) → client_answer c t ≡ Some
       )
   size-answer o m c z (Sub option params) =
       size-payload m c ((option == 34) && linemode o) option params (payload_at o (Sub option params)) refl names
+  size-answer o m c z _ = omega arith
 
   pub said_at_most : (h : History) (item : Item) → size (replies h (got item)) ≤ size (held_sent h item) + max_answered item
   said_at_most h item =
@@ -151,14 +146,7 @@ size-sent false key = omega (arith, size-one (Byte key), size-byte key)
 
 size-raw : (r : Role) (is_line : Bool) (key : ℕ) → size (raw_items r (sent_as is_line key)) ≤ 2
 size-raw (role.Signal sig) is_line key = size-command (command_of (role.Signal sig))
-size-raw role.Ignored is_line key = size-sent is_line key
-size-raw role.Nl is_line key = size-sent is_line key
-size-raw (role.Eol b) is_line key = size-sent is_line key
-size-raw (role.Eol2 b) is_line key = size-sent is_line key
-size-raw role.Eof is_line key = size-sent is_line key
-size-raw role.Erase is_line key = size-sent is_line key
-size-raw role.Kill is_line key = size-sent is_line key
-size-raw (role.Ordinary b) is_line key = size-sent is_line key
+size-raw _ is_line key = size-sent is_line key
 
 size-bytes-push : (bytes : List ℕ) (byte : ℕ) → size (byte_items (bytes ++ byte ∷ [])) ≤ size (byte_items bytes) + 2
 size-bytes-push bytes byte =
@@ -263,9 +251,6 @@ size-new_window false true z = omega (arith, size-window z)
 module _ (names : (c : Characters) (t a : Triple) → client_answer c t ≡ Some a → Answers t a) where
   answer_pays : (h : History) (item : Item) → size (answer_items (options h) (mode h) (chars h) (window h) item)
       + credit (tells_size (options (next h (got item)))) ≤ weight item + credit (tells_size (options h))
-  answer_pays h (Byte b) = omega arith
-  answer_pays h Newline = omega arith
-  answer_pays h (Cmd command) = omega arith
   answer_pays h (Neg verb option) =
       let o : Options = options_after_word (options h) verb option in
       omega (
@@ -275,6 +260,7 @@ module _ (names : (c : Characters) (t a : Triple) → client_answer c t ≡ Some
         size-new_window (tells_size (options h)) (tells_size o) (window h),
       )
   answer_pays h (Sub option params) = omega (arith, size-answer names (options h) (mode h) (chars h) (window h) (Sub option params))
+  answer_pays h _ = omega arith
 
   item_pays : (h : History) (item : Item) → size (replies h (got item)) + size (byte_items (held_bytes (next h (got item))))
       + credit (tells_size (options (next h (got item)))) ≤ size (byte_items (held_bytes h)) + weight item + credit (tells_size (options h))
@@ -323,10 +309,7 @@ bounded names (next h (sent command)) =
 -- WEIGHTS OF A STREAM
 weight-most : (item : Item) → Fits item → weight item ≤ 4 * length (spelling item)
 weight-most (Byte b) fits = omega arith
-weight-most Newline fits = omega arith
-weight-most (Cmd command) fits = omega arith
-weight-most (Neg verb option) fits = omega arith
-weight-most (Sub option params) fits = omega arith
+weight-most _ fits = omega arith
 
 -- what is sent, or held, for the bytes of a stream
 pub sent_at_most : ((c : Characters) (t a : Triple) → client_answer c t ≡ Some a → Answers t a) → (h : History) (bytes : List ℕ) → IsRead bytes (items h)

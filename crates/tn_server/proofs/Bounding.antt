@@ -200,13 +200,7 @@ module _ (stays : (c : Characters) (ts : List Triple) → AreAllowed c → AreAl
         size-list_replies c ts allowed,
         size-came option params ts (says_under (is_yes (state_of t.options Them option)) option params (Slc ts) e),
       )
-  said_to f c t option params (Some (Mode mask)) allowed e = said_besides f c t option params (ap (list_replies c) e)
-  said_to f c t option params (Some (Naws width height)) allowed e = said_besides f c t option params (ap (list_replies c) e)
-  said_to f c t option params (Some (ForwardOn mask)) allowed e = said_besides f c t option params (ap (list_replies c) e)
-  said_to f c t option params (Some ForwardOff) allowed e = said_besides f c t option params (ap (list_replies c) e)
-  said_to f c t option params (Some ForwardYes) allowed e = said_besides f c t option params (ap (list_replies c) e)
-  said_to f c t option params (Some ForwardNo) allowed e = said_besides f c t option params (ap (list_replies c) e)
-  said_to f c t option params None allowed e = said_besides f c t option params (ap (list_replies c) e)
+  said_to f c t option params _ allowed e = said_besides f c t option params (ap (list_replies c) e)
 
   -- AN ITEM
   silent_at : (said : List Item) → said ≡ [] → size (said ++ []) ≤ 0
@@ -252,9 +246,7 @@ size-echoed f (role.Eol byte) e = size-shown f.echo (symbol.Byte byte)
 size-echoed f (role.Eol2 byte) e = size-shown f.echo (symbol.Byte byte)
 size-echoed f role.Erase e = size-wiped (f.echo && (f.echoe && is_erased e))
 size-echoed f role.Kill e = size-shown (f.echo && f.echok) symbol.Newline
-size-echoed f role.Eof e = omega arith
-size-echoed f (role.Signal sig) e = omega arith
-size-echoed f role.Ignored e = omega arith
+size-echoed f _ e = omega arith
 
 size-echo_symbols : (on : Bool) (s : Settings) (key : ℕ) (l : HalfLine) → size (map data_of (echo_symbols on s key l)) ≤ 3
 size-echo_symbols true s key l = size-echoed s.flags (role_of_key s key) (effect_of l (role_of_key s key))
@@ -381,24 +373,13 @@ module _ (stays : (c : Characters) (ts : List Triple) → AreAllowed c → AreAl
     (accepts : (c : Characters) (f : Func) (v : Option ℕ) → AreAllowed c → char_fault c f v ≡ None → AreAllowed (with_slot c f v)) where
   payload_stays : (c : Characters) (p : Option Payload) → AreAllowed c → AreAllowed (chars_after c p)
   payload_stays c (Some (Slc ts)) allowed = stays c ts allowed
-  payload_stays c (Some (Mode mask)) allowed = allowed
-  payload_stays c (Some (Naws width height)) allowed = allowed
-  payload_stays c (Some (ForwardOn mask)) allowed = allowed
-  payload_stays c (Some ForwardOff) allowed = allowed
-  payload_stays c (Some ForwardYes) allowed = allowed
-  payload_stays c (Some ForwardNo) allowed = allowed
-  payload_stays c None allowed = allowed
+  payload_stays c _ allowed = allowed
 
   pub chars_allowed : (h : History) → HasAllowedCharacters h → AreAllowed (chars h)
   chars_allowed (begun canon) has = has
   chars_allowed (next h (got item)) has = payload_stays (chars h) (payload_at (options h) item) (chars_allowed h has)
   chars_allowed (next h (char_set func value)) has = accepts (chars h) func value (chars_allowed h has.0) has.1
-  chars_allowed (next h took) has = chars_allowed h has
-  chars_allowed (next h (wrote bytes)) has = chars_allowed h has
-  chars_allowed (next h (pulled n)) has = chars_allowed h has
-  chars_allowed (next h (wished editing)) has = chars_allowed h has
-  chars_allowed (next h (echo_set on)) has = chars_allowed h has
-  chars_allowed (next h (mask_set mask)) has = chars_allowed h has
+  chars_allowed (next h _) has = chars_allowed h has
 
 module _ (stays : (c : Characters) (ts : List Triple) → AreAllowed c → AreAllowed (server_after c ts))
     (names : (c : Characters) (t a : Triple) → AreAllowed c → server_answer c t ≡ Some a → Answers t a)
@@ -463,10 +444,8 @@ length-some b = some (b == cr)
 
 weight-most : (item : Item) → Fits item → weight item ≤ 9 * length (spelling item)
 weight-most (Byte b) fits = omega (arith, length-some b)
-weight-most Newline fits = omega arith
-weight-most (Cmd command) fits = omega arith
-weight-most (Neg verb option) fits = omega arith
 weight-most (Sub option params) fits = omega (arith, size-least option params)
+weight-most _ fits = omega arith
 
 is_weight : IsWeight weight 9
 is_weight = record { spelled = weight-most; alone = omega arith }

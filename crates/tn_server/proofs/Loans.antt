@@ -166,9 +166,7 @@ cause_lent : (end : End) (held : DecoderState) (item : Item) (f : ServerFault) �
 cause_lent end held item (Pty f) x = x
 cause_lent end held item Memory (inl some) = inl (λ none. some (first_lent end held item ∙ none))
 cause_lent end held item Memory (inr list) = inr list
-cause_lent end held item Failed x = absurd x
-cause_lent end held item (Char f) x = absurd x
-cause_lent end held item NotOn x = absurd x
+cause_lent end held item _ x = absurd x
 
 halts_at : (old new : End) (held d : DecoderState) (piece after : List ℕ) (a b : Lent) → a.end.now ≡ record old { decoder = held }
     → RefusesRest TakesItems RefusesItems old.decoder piece a b → new ≡ record b.end.now { decoder = d; failed = true } → after ≡ b.out.now.items
@@ -280,9 +278,7 @@ closed_before end items item f x is =
 for_item : (end : End) (items : List Item) (item : Item) (f : ServerFault) → IsRefusedFor (end_after_items end items) item f → IsRefusal end f
 for_item end items item (Pty x) why = record { runs = λ is. cc; of_piece = tt; shut = closed_before end items item (Pty x) why }
 for_item end items item Memory why = record { runs = λ is. cc; of_piece = tt; shut = λ is. absurd (cc) }
-for_item end items item Failed why = absurd why
-for_item end items item (Char x) why = absurd why
-for_item end items item NotOn why = absurd why
+for_item end items item _ why = absurd why
 
 for_memory : (end : End) (f : ServerFault) → f ≡ Memory → IsRefusal end f
 for_memory end f is =

@@ -59,9 +59,8 @@ under_keeps c true p keeps = keeps
 under_keeps c false p keeps = tt
 
 chars_kept : (c : Characters) (p : Option Payload) → KeepsCharacters c p → chars_after c p ≡ c
-chars_kept c None keeps = refl
 chars_kept c (Some (payload.Slc triples)) keeps = keeps
-chars_kept c (Some p) keeps = refl
+chars_kept c _ keeps = refl
 
 pub stays_remote : (h : History) → StaysRemote h → edits (mode h) ≡ false
 stays_remote (begun canon) s = refl
@@ -72,13 +71,8 @@ stays_remote (next h (got (Byte b))) s = no_edit None (changes (options h) (opti
 stays_remote (next h (got Newline)) s = no_edit None (changes (options h) (options (next h (got Newline)))) (mode h) (stays_remote h s.0) tt
 stays_remote (next h (got (Cmd c))) s = no_edit None (changes (options h) (options (next h (got (Cmd c))))) (mode h) (stays_remote h s.0) tt
 stays_remote (next h (got (Neg v o))) s = no_edit None (changes (options h) (options (next h (got (Neg v o))))) (mode h) (stays_remote h s.0) tt
-stays_remote (next h took) s = stays_remote h s.0
-stays_remote (next h (wrote bytes)) s = stays_remote h s.0
-stays_remote (next h (pulled n)) s = stays_remote h s.0
-stays_remote (next h (wished e)) s = stays_remote h s.0
 stays_remote (next h (char_set f v)) s = absurd s.1
-stays_remote (next h (echo_set on)) s = stays_remote h s.0
-stays_remote (next h (mask_set mask)) s = stays_remote h s.0
+stays_remote (next h _) s = stays_remote h s.0
 
 pub same_chars : (h : History) → StaysRemote h → chars h ≡ (opening_settings h).chars
 same_chars (begun canon) s = refl
@@ -87,38 +81,20 @@ same_chars (next h (got (Sub option params))) s =
     ap (λ (x : Characters). chars_after x (payload_at (options h) (Sub option params))) (same_chars h s.0)
     ∙ chars_kept c (payload_at (options h) (Sub option params)) (under_keeps c (is_yes (state_of (options h) Them option) && nat_le (length params) 512)
     (payload_of option params) s.1.1)
-same_chars (next h (got (Byte b))) s = same_chars h s.0
-same_chars (next h (got Newline)) s = same_chars h s.0
-same_chars (next h (got (Cmd c))) s = same_chars h s.0
-same_chars (next h (got (Neg v o))) s = same_chars h s.0
-same_chars (next h took) s = same_chars h s.0
-same_chars (next h (wrote bytes)) s = same_chars h s.0
-same_chars (next h (pulled n)) s = same_chars h s.0
-same_chars (next h (wished e)) s = same_chars h s.0
 same_chars (next h (char_set f v)) s = absurd s.1
-same_chars (next h (echo_set on)) s = same_chars h s.0
-same_chars (next h (mask_set mask)) s = same_chars h s.0
+same_chars (next h _) s = same_chars h s.0
 
 -- no flag but ECHO changes
 pub same_flags : (h : History) → flags h ≡ record ((opening_settings h).flags) { echo = (flags h).echo }
 same_flags (begun canon) = refl
 same_flags (next h (echo_set on)) = ap (λ (f : Flags). record f { echo = on }) (same_flags h)
-same_flags (next h (got item)) = same_flags h
-same_flags (next h took) = same_flags h
-same_flags (next h (wrote bytes)) = same_flags h
-same_flags (next h (pulled n)) = same_flags h
-same_flags (next h (wished e)) = same_flags h
-same_flags (next h (char_set f v)) = same_flags h
-same_flags (next h (mask_set mask)) = same_flags h
+same_flags (next h _) = same_flags h
 
 -- THE ROLES: of an item that comes
 echo_is_no_matter : (s : Settings) (echo : Bool) (item : Item) →
     role_at (record { flags = record (s.flags) { echo = echo }; chars = s.chars }) false item ≡ role_at s false item
 echo_is_no_matter s echo (Byte b) = refl
-echo_is_no_matter s echo Newline = refl
-echo_is_no_matter s echo (Cmd c) = refl
-echo_is_no_matter s echo (Neg v o) = refl
-echo_is_no_matter s echo (Sub o p) = refl
+echo_is_no_matter s echo _ = refl
 
 role_then : (h : History) → StaysRemote h → (item : Item) → role_at (settings h) (edits (mode h)) item ≡ role_at (opening_settings h) false item
 role_then h s item =
@@ -142,13 +118,8 @@ remote_roles (next h (got item)) s =
     ap (λ rs. rs ++ roles_from (role_at (settings h) (edits (mode h)) item)) (remote_roles h s.0)
     ∙ ap (λ (r : Role). roles_of_items o (items h) ++ roles_from r) (role_then h s.0 item)
     ∙ sym (roles_of_items-push o (items h) item)
-remote_roles (next h took) s = remote_roles h s.0
-remote_roles (next h (wrote bytes)) s = remote_roles h s.0
-remote_roles (next h (pulled n)) s = remote_roles h s.0
-remote_roles (next h (wished e)) s = remote_roles h s.0
 remote_roles (next h (char_set f v)) s = absurd s.1
-remote_roles (next h (echo_set on)) s = remote_roles h s.0
-remote_roles (next h (mask_set mask)) s = remote_roles h s.0
+remote_roles (next h _) s = remote_roles h s.0
 
 -- and of keys alone
 one_more_key : (s : Settings) (key : ℕ) (keys : List ℕ) (rs : List Role) → rs ≡ roles_of s keys → roles_from (role_of_key s key) ++ rs ≡ roles_of s (key ∷ keys)

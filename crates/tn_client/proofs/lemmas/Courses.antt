@@ -21,12 +21,8 @@ use Rattle.tn_linemode.proofs.lemmas.Cutting.{cons_some, back_some}
 
 -- a call brings no item
 pub items-call : (h : History) (e : Event) → IsCall e → items (next h e) ≡ items h
-items-call h (typed key) call = refl
-items-call h entered call = refl
 items-call h (got item) call = absurd call
-items-call h (resized width height) call = refl
-items-call h (proposed func value) call = refl
-items-call h (sent command) call = refl
+items-call h _ call = refl
 
 -- the items of a course are those of its stream
 pub leads-read : (c : Course) (h : History) → ReadsAs c h → IsRead (stream c) (items h)
@@ -82,18 +78,12 @@ fed_shown c old new piece before after seen now h k a f l m =
 pub call_decoder : (old : End) (e : Event) → (end_after old e).decoder ≡ old.decoder
 call_decoder old (typed key) = refl
 call_decoder old entered = refl
-call_decoder old (got item) = refl
-call_decoder old (resized width height) = refl
-call_decoder old (proposed func value) = refl
-call_decoder old (sent command) = refl
+call_decoder old _ = refl
 
 pub call_failed : (old : End) (e : Event) → (end_after old e).failed ≡ old.failed
 call_failed old (typed key) = refl
 call_failed old entered = refl
-call_failed old (got item) = refl
-call_failed old (resized width height) = refl
-call_failed old (proposed func value) = refl
-call_failed old (sent command) = refl
+call_failed old _ = refl
 
 pub called_at : (c : Course) (old : End) (e : Event) → CourseLeadsTo c old → IsCall e → CourseLeadsTo (called c e) (end_after old e)
 called_at c old e a call = record {

@@ -42,14 +42,7 @@ as-fits false key = one (Byte key) tt
 
 raw-fits : (r : Role) (is_line : Bool) (key : ℕ) → Fit (raw_items r (sent_as is_line key))
 raw-fits (role.Signal sig) is_line key = command-fits (command_of (role.Signal sig))
-raw-fits role.Ignored is_line key = as-fits is_line key
-raw-fits role.Nl is_line key = as-fits is_line key
-raw-fits (role.Eol b) is_line key = as-fits is_line key
-raw-fits (role.Eol2 b) is_line key = as-fits is_line key
-raw-fits role.Eof is_line key = as-fits is_line key
-raw-fits role.Erase is_line key = as-fits is_line key
-raw-fits role.Kill is_line key = as-fits is_line key
-raw-fits (role.Ordinary b) is_line key = as-fits is_line key
+raw-fits _ is_line key = as-fits is_line key
 
 edited-fits : (r : Role) (l : HalfLine) → Fit (edited_key_items r l)
 edited-fits role.Nl l = both (byte_items l.held) (Newline ∷ []) (bytes-fit l.held) (one Newline tt)
@@ -59,8 +52,7 @@ edited-fits role.Eof l = both (byte_items l.held) (command_items (command_of rol
 edited-fits (role.Signal sig) l = command-fits (command_of (role.Signal sig))
 edited-fits role.Erase l = unless (not (has_held l) && has_ahead l) (command_items (command_of role.Erase)) (command-fits (command_of role.Erase))
 edited-fits role.Kill l = unless (has_ahead l) (command_items (command_of role.Kill)) (command-fits (command_of role.Kill))
-edited-fits role.Ignored l = none
-edited-fits (role.Ordinary b) l = none
+edited-fits _ l = none
 
 ahead-fits : (sends : Bool) (l : HalfLine) → Fit (sent_ahead_items sends l)
 ahead-fits true l = bytes-fit l.held
@@ -78,24 +70,19 @@ size-fits (width, height) = one (Sub 31 (parameters_of (payload.Naws width heigh
 
 payload-fits : (m : ℕ) (c : Characters) (p : Option Payload) → IsShortOrNone p → Fit (payload_answers m c p)
 unfolding client_answers
-payload-fits m c None h = none
-payload-fits m c (Some (payload.Naws width height)) h = none
 payload-fits m c (Some (payload.Mode mask)) h = mode-fits (mode_answer m mask)
 payload-fits m c (Some (payload.ForwardOn mask)) h = one (Sub 34 (parameters_of payload.ForwardYes)) (omega arith)
 payload-fits m c (Some payload.ForwardOff) h = one (Sub 34 (parameters_of payload.ForwardNo)) (omega arith)
-payload-fits m c (Some payload.ForwardYes) h = none
-payload-fits m c (Some payload.ForwardNo) h = none
 payload-fits m c (Some (payload.Slc triples)) h = list-fits (client_answers c triples)
     (omega (arith, length-answers_along client_next client_answer c triples, h))
+payload-fits m c _ h = none
 
 answer-fits : (o : Options) (m : ℕ) (c : Characters) (z : ℕ × ℕ) (item : Item) → Fit (answer_items o m c z item)
-answer-fits o m c z (Byte b) = none
-answer-fits o m c z Newline = none
-answer-fits o m c z (Cmd command) = none
 answer-fits o m c z (Neg verb option) =
     both (word_items (reply_to o verb option)) (new_size_items (tells_size o) (tells_size (options_after o (Neg verb option))) z)
     (word-fits (reply_to o verb option)) (unless (tells_size (options_after o (Neg verb option)) && not (tells_size o)) (size_items z) (size-fits z))
 answer-fits o m c z (Sub option params) = payload-fits m c (payload_at o (Sub option params)) (short_under ((option == 34) && linemode o) option params)
+answer-fits o m c z _ = none
 
 ending-fits : (before after : Bool) (bs : List ℕ) → Fit (end_of_edit_items before after bs)
 ending-fits true false bs = bytes-fit bs

@@ -51,9 +51,7 @@ unsent (begun width height limit) e = refl
 unsent (next h (typed key)) e = some_or_none (edits (mode h)) _ e
 unsent (next h entered) e = some_or_none (edits (mode h)) _ e
 unsent (next h (got item)) e = kept_or_none (edits (mode h)) (edits (mode (next h (got item)))) _ (lengths_since_sent h) e
-unsent (next h (resized width height)) e = unsent h e
-unsent (next h (proposed func value)) e = unsent h e
-unsent (next h (sent command)) e = unsent h e
+unsent (next h _) e = unsent h e
 
 pub unedited-ahead : (h : History) → edits (mode h) ≡ false → ahead h ≡ 0
 unedited-ahead h e = ap least (unsent h e)
@@ -98,9 +96,7 @@ same_roles a b (next h (got item)) e = by_test (edits (mode h)) refl (λ f. same
         ∙ sym (ap (λ (x : Bool). roles_under x h) (told_true b (edits (mode h)) (mode (next h (got item))) f))
     by_test false f before = ap (λ (x : Bool). roles_under x h) (told_by_test a b (edits (mode h)) (edits (mode (next h (got item))))
         (mode (next h (got item))) f e)
-same_roles a b (next h (resized width height)) e = same_roles a b h e
-same_roles a b (next h (proposed func value)) e = same_roles a b h e
-same_roles a b (next h (sent command)) e = same_roles a b h e
+same_roles a b (next h _) e = same_roles a b h e
 
 pub edited-is : (h : History) → edits (mode h) ≡ true → edited_roles h ≡ roles_under (traps (mode h)) h
 edited-is h e = ap (λ (b : Bool). if b then roles_under (traps (mode h)) h else []) e
@@ -186,9 +182,7 @@ some_lengths (next h (got item)) e = by_test (edits (mode h)) refl (length (half
       ap (λ (b : Bool). lengths_kept b (edits (mode (next h (got item)))) n (lengths_since_sent h)) f
           ∙ ap (λ (b : Bool). lengths_kept false b n (lengths_since_sent h)) e,
     )
-some_lengths (next h (resized width height)) e = some_lengths h e
-some_lengths (next h (proposed func value)) e = some_lengths h e
-some_lengths (next h (sent command)) e = some_lengths h e
+some_lengths (next h _) e = some_lengths h e
 
 -- the least length since all was sent, after one more
 least-with : (b : Bool) (n m : ℕ) (ms : List ℕ) → least (lengths_with b n (m ∷ ms)) ≡ (if b then n else min n (least (m ∷ ms)))
@@ -244,9 +238,7 @@ ahead-within (next h (got item)) = by_test (edits (mode h)) (edits (mode (next h
         omega (arith, before, same, ahead-stays h item e f)
     by_test false true e f before = omega (arith, ahead-begins h item e f)
     by_test edit false e f before = omega (arith, unedited-ahead (next h (got item)) f)
-ahead-within (next h (resized width height)) = ahead-within h
-ahead-within (next h (proposed func value)) = ahead-within h
-ahead-within (next h (sent command)) = ahead-within h
+ahead-within (next h _) = ahead-within h
 
 pub parts-whole : (h : History) → half_line h ≡ take (ahead h) (half_line h) ++ held_bytes h
 parts-whole h = sym (take-append-drop (ahead h) (half_line h))
@@ -270,18 +262,11 @@ changed_or_none false false m f e = f refl
 
 pub mode-off : (h : History) → linemode (options h) ≡ false → mode h ≡ 0
 mode-off (begun width height limit) e = refl
-mode-off (next h (typed key)) e = mode-off h e
-mode-off (next h entered) e = mode-off h e
-mode-off (next h (got (Byte byte))) e = mode-off h e
-mode-off (next h (got Newline)) e = mode-off h e
-mode-off (next h (got (Cmd command))) e = mode-off h e
 mode-off (next h (got (Neg verb option))) e =
     changed_or_none (linemode (options h)) (linemode (options_after_word (options h) verb option)) (mode h) (mode-off h) e
 mode-off (next h (got (Sub option params))) e =
     ap (λ (p : Option Payload). mode_by (mode h) p) (payload_off (options h) option params e) ∙ mode-off h e
-mode-off (next h (resized width height)) e = mode-off h e
-mode-off (next h (proposed func value)) e = mode-off h e
-mode-off (next h (sent command)) e = mode-off h e
+mode-off (next h _) e = mode-off h e
 
 changed_or_dropped : (was on : Bool) (f : Option Mask) → (was ≡ false → f ≡ None) → on ≡ false → (if differ was on then None else f) ≡ None
 changed_or_dropped true true f g e = cc
@@ -291,59 +276,21 @@ changed_or_dropped false false f g e = g refl
 
 pub forward-off : (h : History) → linemode (options h) ≡ false → forward h ≡ None
 forward-off (begun width height limit) e = refl
-forward-off (next h (typed key)) e = forward-off h e
-forward-off (next h entered) e = forward-off h e
-forward-off (next h (got (Byte byte))) e = forward-off h e
-forward-off (next h (got Newline)) e = forward-off h e
-forward-off (next h (got (Cmd command))) e = forward-off h e
 forward-off (next h (got (Neg verb option))) e =
     changed_or_dropped (linemode (options h)) (linemode (options_after_word (options h) verb option)) (forward h) (forward-off h) e
 forward-off (next h (got (Sub option params))) e =
     ap (λ (p : Option Payload). forward_by (forward h) p) (payload_off (options h) option params e) ∙ forward-off h e
-forward-off (next h (resized width height)) e = forward-off h e
-forward-off (next h (proposed func value)) e = forward-off h e
-forward-off (next h (sent command)) e = forward-off h e
+forward-off (next h _) e = forward-off h e
 
 pub unedited-held : (h : History) → edits (mode h) ≡ false → held_bytes h ≡ []
 unedited-held h e = ap (λ (bytes : List ℕ). drop (ahead h) bytes) (unedited_half h e) ∙ ap (λ (n : ℕ). drop {A = ℕ} n []) (unedited-ahead h e)
 
-pub unedited-line : (h : History) → edits (mode h) ≡ false → line h ≡ empty_line (line_limit h)
-unedited-line h e =
-    ap (λ (bytes : List ℕ). record { held = bytes; ahead = ahead h; limit = line_limit h }) (unedited-held h e)
-    ∙ ap (λ (n : ℕ). record { held = []; ahead = n; limit = line_limit h }) (unedited-ahead h e)
-
 -- MASKS
 -- a mask in force has no bits but EDIT and TRAPSIG
 mode_by-small : (m : ℕ) (p : Option Payload) → m < 4 → mode_by m p < 4
-mode_by-small m None h = h
-mode_by-small m (Some (payload.Naws width height)) h = h
 mode_by-small m (Some (payload.Mode mask)) h = by_test (is_acknowledged mask)
   where
     by_test : (b : Bool) → (if b then m else mode_of mask) < 4
     by_test true = h
     by_test false = omega (arith, and_mask mask 2)
-mode_by-small m (Some (payload.ForwardOn mask)) h = h
-mode_by-small m (Some payload.ForwardOff) h = h
-mode_by-small m (Some payload.ForwardYes) h = h
-mode_by-small m (Some payload.ForwardNo) h = h
-mode_by-small m (Some (payload.Slc triples)) h = h
-
-mode_at-small : (o : Options) (m : ℕ) (item : Item) → m < 4 → mode_at o m item < 4
-mode_at-small o m (Byte b) h = h
-mode_at-small o m Newline h = h
-mode_at-small o m (Cmd command) h = h
-mode_at-small o m (Neg verb option) h = by_test (changes o (options_after_word o verb option))
-  where
-    by_test : (b : Bool) → (if b then 0 else m) < 4
-    by_test true = omega arith
-    by_test false = h
-mode_at-small o m (Sub option params) h = mode_by-small m (payload_at o (Sub option params)) h
-
-pub mode-small : (h : History) → mode h < 4
-mode-small (begun width height limit) = omega arith
-mode-small (next h (typed key)) = mode-small h
-mode-small (next h entered) = mode-small h
-mode-small (next h (got item)) = mode_at-small (options h) (mode h) item (mode-small h)
-mode-small (next h (resized width height)) = mode-small h
-mode-small (next h (proposed func value)) = mode-small h
-mode-small (next h (sent command)) = mode-small h
+mode_by-small m _ h = h

@@ -281,20 +281,7 @@ stands h old (resized width height) s =
       plain = s.plain;
       size = refl;
     }
-stands h old (proposed func value) s =
-    record {
-      options = s.options;
-      mode = s.mode;
-      forward = s.forward;
-      table = s.table;
-      line = s.line;
-      ahead = s.ahead;
-      limit = s.limit;
-      trapped = s.trapped;
-      plain = s.plain;
-      size = s.size;
-    }
-stands h old (sent command) s =
+stands h old _ s =
     record {
       options = s.options;
       mode = s.mode;
@@ -313,16 +300,12 @@ says_as h old (typed key) s = replies_typed h old key (Byte key) s
 says_as h old entered s = replies_typed h old lf Newline s
 says_as h old (got item) s = replies_got h old item s
 says_as h old (resized width height) s = same_size h old width height s
-says_as h old (proposed func value) s = refl
-says_as h old (sent command) s = refl
+says_as h old _ s = refl
 
 pub displays_as : (h : History) (old : End) (e : Event) → LeadsTo h old → shows h e ≡ displays old e
 displays_as h old (typed key) s = shows_typed h old key s
 displays_as h old entered s = shows_typed h old lf s
-displays_as h old (got item) s = refl
-displays_as h old (resized width height) s = refl
-displays_as h old (proposed func value) s = refl
-displays_as h old (sent command) s = refl
+displays_as h old _ s = refl
 
 -- ITEMS, one after another
 pub stands_all : (h : History) (old : End) (items : List Item) → LeadsTo h old → LeadsTo (gets h items) (end_after_items old items)

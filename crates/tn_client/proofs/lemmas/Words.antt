@@ -68,8 +68,7 @@ edited_none role.Eof l = none_first (byte_items l.held) (command_items (command_
 edited_none (role.Signal sig) l = command_none (command_of (role.Signal sig))
 edited_none role.Erase l = if_none (not (has_held l) && has_ahead l) (command_items (command_of role.Erase)) (command_none (command_of role.Erase))
 edited_none role.Kill l = if_none (has_ahead l) (command_items (command_of role.Kill)) (command_none (command_of role.Kill))
-edited_none role.Ignored l = refl
-edited_none (role.Ordinary b) l = refl
+edited_none _ l = refl
 
 as_none : (is_line : Bool) (key : ℕ) → words_in (sent_as is_line key ∷ []) ≡ []
 as_none true key = refl
@@ -77,14 +76,7 @@ as_none false key = refl
 
 raw_none : (r : Role) (is_line : Bool) (key : ℕ) → words_in (raw_items r (sent_as is_line key)) ≡ []
 raw_none (role.Signal sig) is_line key = command_none (command_of (role.Signal sig))
-raw_none role.Ignored is_line key = as_none is_line key
-raw_none role.Nl is_line key = as_none is_line key
-raw_none (role.Eol b) is_line key = as_none is_line key
-raw_none (role.Eol2 b) is_line key = as_none is_line key
-raw_none role.Eof is_line key = as_none is_line key
-raw_none role.Erase is_line key = as_none is_line key
-raw_none role.Kill is_line key = as_none is_line key
-raw_none (role.Ordinary b) is_line key = as_none is_line key
+raw_none _ is_line key = as_none is_line key
 
 ahead_none : (sends : Bool) (l : HalfLine) → words_in (sent_ahead_items sends l) ≡ []
 ahead_none true l = bytes_none l.held
@@ -98,14 +90,9 @@ key_none true forward r l is_line key =
 key_none false forward r l is_line key = raw_none r is_line key
 
 payload_none : (m : ℕ) (c : Characters) (p : Option Payload) → words_in (payload_answers m c p) ≡ []
-payload_none m c None = refl
 payload_none m c (Some (payload.Mode mask)) = words_in-mode (mode_answer m mask)
-payload_none m c (Some (payload.ForwardOn mask)) = refl
-payload_none m c (Some payload.ForwardOff) = refl
 payload_none m c (Some (payload.Slc triples)) = words_in-list (client_answers c triples)
-payload_none m c (Some payload.ForwardYes) = refl
-payload_none m c (Some payload.ForwardNo) = refl
-payload_none m c (Some (payload.Naws width height)) = refl
+payload_none m c _ = refl
 
 ending_none : (before after : Bool) (bytes : List ℕ) → words_in (end_of_edit_items before after bytes) ≡ []
 ending_none true false bytes = bytes_none bytes
@@ -196,9 +183,5 @@ pub says_none : (h : History) (old : End) (e : Event) → IsCall e → LeadsTo h
 says_none h old e call s = ap words_in (sym (says_as h old e s)) ∙ call_none h e call
 
 pub keeps_options : (old : End) (e : Event) → IsCall e → (end_after old e).options ≡ old.options
-keeps_options old (typed key) is = refl
-keeps_options old entered is = refl
 keeps_options old (got item) is = absurd is
-keeps_options old (resized width height) is = refl
-keeps_options old (proposed func value) is = refl
-keeps_options old (sent command) is = refl
+keeps_options old _ is = refl

@@ -12,17 +12,6 @@ spells-append xs ys = flat_map-append spelling xs ys
 pub added_on : {A : Type 0} (a b before first after : List A) → first ≡ before ++ a → after ≡ first ++ b → after ≡ before ++ (a ++ b)
 added_on a b before first after one two = two ∙ ap (λ xs. xs ++ b) one ∙ append_assoc before a b
 
--- and the front of that was told apart
-pub parted_on : {A : Type 0} (a b c before first after : List A) → first ≡ before ++ a → after ≡ first ++ (b ++ c) → after ≡ before ++ ((a ++ b) ++ c)
-parted_on a b c before first after one two =
-    added_on a (b ++ c) before first after one two ∙ ap (λ xs. before ++ xs) (sym (append_assoc a b c))
-
--- what was appended has this front
-pub front_on : {A : Type 0} (a part rest b before after : List A) → after ≡ (before ++ a) ++ b → a ≡ part ++ rest → after ≡ before ++ (part ++ (rest ++ b))
-front_on a part rest b before after one two =
-    added_on part (rest ++ b) before (before ++ part) after refl
-    (one ∙ ap (λ xs. (before ++ xs) ++ b) two ∙ ap (λ xs. xs ++ b) (sym (append_assoc before part rest)) ∙ append_assoc (before ++ part) rest b)
-
 -- bytes that spell some items, and behind them bytes that spell more
 pub spelled_on : (a b : List Item) (before first after : List ℕ) → first ≡ before ++ spells a → after ≡ first ++ spells b → after ≡ before ++ spells (a ++ b)
 spelled_on a b before first after one two =

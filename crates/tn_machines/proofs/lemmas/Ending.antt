@@ -10,8 +10,7 @@ use Rattle.tn_machines.specs.declared.faults.SessionFault.{SessionFault}
 -- the first end counts
 pub first_cases : (a b : Ended) → (first_end a b ≡ a) ⊎ (first_end a b ≡ b)
 first_cases HangUp b = inr refl
-first_cases Done b = inl refl
-first_cases (Fault f) b = inl refl
+first_cases _ b = inl refl
 
 -- it ended so before, or by this
 abbrev pub Moves : Ended → (Ended → Type 0) → Ended → Type 0

@@ -44,11 +44,4 @@ all_spelled had now said e = ap spells e ∙ spells-append had said ∙ ap (λ (
 -- a message that is no piece brings nothing
 pub brings_none : (m : Message) → ((piece : List ℕ) → m ≡ Piece piece → ⊥) → bytes_in m ≡ []
 brings_none (Piece piece) other = absurd (other piece refl)
-brings_none HangUp other = refl
-brings_none ReadFailed other = refl
-brings_none Take other = refl
-brings_none (Said job text after) other = refl
-brings_none Refused other = refl
-brings_none Left other = refl
-brings_none (Resized size) other = refl
-brings_none (Asked control) other = refl
+brings_none _ other = refl

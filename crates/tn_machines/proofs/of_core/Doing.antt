@@ -362,12 +362,7 @@ acts_plain : (c : Run) (from : Origin) (m : Message) → IsPlain m → Acts c fr
 acts_plain c from (Piece piece) plain = absurd plain
 acts_plain c from (Resized size) plain = absurd plain
 acts_plain c from (Asked control) plain = absurd plain
-acts_plain c from HangUp plain = refl
-acts_plain c from ReadFailed plain = refl
-acts_plain c from Take plain = refl
-acts_plain c from (Said job text after) plain = refl
-acts_plain c from Refused plain = refl
-acts_plain c from Left plain = refl
+acts_plain c from _ plain = refl
 
 -- where more goes to the network than before, nothing had been closed
 still_open : (from : Origin) (m : Message) (p : ClientProgress) → (after_message from m p).closed ≡ false → p.closed ≡ false
@@ -446,9 +441,4 @@ pub is_plain : (m : Message) → ((piece : List ℕ) → m ≡ Piece piece → �
 is_plain (Piece piece) other unsized unasked = other piece refl
 is_plain (Resized size) other unsized unasked = unsized size refl
 is_plain (Asked control) other unsized unasked = unasked control refl
-is_plain HangUp other unsized unasked = tt
-is_plain ReadFailed other unsized unasked = tt
-is_plain Take other unsized unasked = tt
-is_plain (Said job text after) other unsized unasked = tt
-is_plain Refused other unsized unasked = tt
-is_plain Left other unsized unasked = tt
+is_plain _ other unsized unasked = tt

@@ -124,8 +124,6 @@ foreground_by : (c d : Run) (id : ℕ) → Same c d → in_foreground c id ≡ i
 foreground_by c d id s = ap (λ (jobs : Jobs). is_foreground (state_at jobs id)) s.jobs
 
 same_move : (id : ℕ) (state : JobState) (c d : Run) → Same c d → Same (move id state c) (move id state d)
-same_move id job.Foreground c d s = s
-same_move id job.Background c d s = s
 same_move id (job.Stopped why) c d s =
     let P : Bool → Type 0 = λ b. Same (stop_job id why (in_foreground c id) c) (stop_job id why b d) in
     subst P (foreground_by c d id s) (one (in_foreground c id))
@@ -152,6 +150,7 @@ same_move id job.Ended c d s =
       progress = ap (counting.after_end Done) s.progress;
     }
     one false = record { ends = s.ends; stream = s.stream; puts = s.puts; jobs = ap (λ (jobs : Jobs). with_state jobs id None) s.jobs; progress = s.progress }
+same_move id _ c d s = s
 
 same_halt_if : (b e : Bool) (c d : Run) → b ≡ e → Same c d → Same (halt_if b c) (halt_if e d)
 same_halt_if b e c d is s = let P : Bool → Type 0 = λ u. Same (halt_if b c) (halt_if u d) in subst P is (one b)
@@ -211,9 +210,7 @@ same_acts Refused c d c' d' none a b s =
     let f = flush (ends_by (Fault fault.Memory) d) in
     same_as (halt e) (halt f) c' d' a b (same_halt e f (same_flush (ends_by (Fault fault.Memory) c) (ends_by (Fault fault.Memory) d)
     (same_ends_by (Fault fault.Memory) c d s)))
-same_acts Left c d c' d' none a b s = same_as (flush c) (flush d) c' d' a b (same_flush c d s)
-same_acts (Resized size) c d c' d' none a b s = same_as (flush c) (flush d) c' d' a b (same_flush c d s)
-same_acts (Asked control) c d c' d' none a b s = same_as (flush c) (flush d) c' d' a b (same_flush c d s)
+same_acts _ c d c' d' none a b s = same_as (flush c) (flush d) c' d' a b (same_flush c d s)
 
 same_handles : (o p : Bool) (m : Message) (c d c' d' : Run) → o ≡ p → Pulled c → ActsUnless o c m c' → ActsUnless p d m d' → Same c d → Same c' d'
 same_handles true true m c d c' d' e none a b s =
@@ -250,9 +247,7 @@ acts_pulled ReadFailed c new a = pulled_as (flush (hang_up (ends_by (Fault fault
 acts_pulled Take c new a = pulled_as (flush (ask c)) new a (none_left (ask c).history)
 acts_pulled (Said id text after) c new a = pulled_as _ new a.2 (said_pulled id.0 a.0 _ c)
 acts_pulled Refused c new a = pulled_as _ new a (none_left c.history)
-acts_pulled Left c new a = pulled_as (flush c) new a (none_left c.history)
-acts_pulled (Resized size) c new a = pulled_as (flush c) new a (none_left c.history)
-acts_pulled (Asked control) c new a = pulled_as (flush c) new a (none_left c.history)
+acts_pulled _ c new a = pulled_as (flush c) new a (none_left c.history)
 
 handles_pulled : (o : Bool) (m : Message) (c new : Run) → ActsUnless o c m new → Pulled c → Pulled new
 handles_pulled true m c new a none = pulled_as (idle m c) new a none
@@ -271,14 +266,7 @@ same_put_or_not false m c d whole other s w = record {
   where
     asks_by : (m : Message) → asks_at m c ≡ asks_at m d
     asks_by Take = refl
-    asks_by (Piece piece) = ap (λ (p : ServerProgress). p.asks) s.progress
-    asks_by HangUp = ap (λ (p : ServerProgress). p.asks) s.progress
-    asks_by ReadFailed = ap (λ (p : ServerProgress). p.asks) s.progress
-    asks_by (Said id text after) = ap (λ (p : ServerProgress). p.asks) s.progress
-    asks_by Refused = ap (λ (p : ServerProgress). p.asks) s.progress
-    asks_by Left = ap (λ (p : ServerProgress). p.asks) s.progress
-    asks_by (Resized size) = ap (λ (p : ServerProgress). p.asks) s.progress
-    asks_by (Asked control) = ap (λ (p : ServerProgress). p.asks) s.progress
+    asks_by _ = ap (λ (p : ServerProgress). p.asks) s.progress
 
 unput_pulled : (put : Bool) (m : Message) (c whole : Run) → Pulled whole → Pulled (put_or_not put m c whole)
 unput_pulled true m c whole none = none

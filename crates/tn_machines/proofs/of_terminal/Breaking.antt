@@ -222,14 +222,7 @@ pub feed_breaks : (old new : Term) (end : End) (piece x y : List ℕ) (f : Serve
 feed_breaks old new end piece x y (server.Pty g) on is small halts failed none = halts_break old new end piece x y (server.Pty g) on is small (halts tt)
 feed_breaks old new end piece x y server.Memory on is small halts failed none = halts_break old new end piece x y server.Memory on is small (halts tt)
 feed_breaks old new end piece x y server.Failed on is small halts failed none = let g = failed refl in failed_break old new end piece x y on is g.0 g.1
-feed_breaks old new end piece x y (server.Char g) on is small halts failed none = absurd none
-feed_breaks old new end piece x y server.NotOn on is small halts failed none = absurd none
-
-pub of_ok : {A E : Type 0} (D : Type 0) (r : Result A E) (x : A) → r ≡ Ok x → OnOk r D → D
-of_ok {A} {E} D r x e h = let P : Result A E → Type 0 = λ u. OnOk u D in subst P e h
-
-pub of_err : {A E : Type 0} (D : Type 0) (r : Result A E) (x : E) → r ≡ Err x → OnErr r D → D
-of_err {A} {E} D r x e h = let P : Result A E → Type 0 = λ u. OnErr u D in subst P e h
+feed_breaks old new end piece x y _ on is small halts failed none = absurd none
 
 pub if_ok : {A E : Type 0} (P Q : A → Type 0) (r : Result A E) → IfOk r P → ((x : A) → P x → Q x) → IfOk r Q
 if_ok P Q (Ok x) h f = f x h

@@ -34,8 +34,6 @@ moves_on : (c : Run) (m : Message) (k : ServerMark) (a e : Ended) (f : SessionFa
 moves_on c m k a e f is before why = moves_first (ended_of c) (EndsAt c m k) a e f is before why
 
 move_moves : (id : ℕ) (state : JobState) (c : Run) → (ended_of (move id state c) ≡ ended_of c) ⊎ (ended_of (move id state c) ≡ ended.Done)
-move_moves id job.Foreground c = inl refl
-move_moves id job.Background c = inl refl
 move_moves id (job.Stopped why) c = stop (in_foreground c id)
   where
     stop : (b : Bool) → (ended_of (stop_job id why b c) ≡ ended_of c) ⊎ (ended_of (stop_job id why b c) ≡ ended.Done)
@@ -46,6 +44,7 @@ move_moves id job.Ended c = end (in_foreground c id)
     end : (b : Bool) → (ended_of (end_job id b c) ≡ ended_of c) ⊎ (ended_of (end_job id b c) ≡ ended.Done)
     end true = first_cases (ended_of c) ended.Done
     end false = inl refl
+move_moves id _ c = inl refl
 
 said_moves : (id : ℕ) (parts : List (List ℕ)) (v : Option Verdict) (c : Run) (m : Message) (k : ServerMark) → MovesAt c m k (ended_of (after_said id parts v c))
 said_moves id parts None c m k = inl refl
@@ -56,15 +55,12 @@ said_moves id parts (Some v) c m k =
 
 acts_moves : (c new : Run) (m : Message) (k : ServerMark) → Acts c m new → MovesAt c m k (ended_of new)
 acts_moves c new (Piece piece) k a = inl (ap ended_of a.2 ∙ ask_ended c.progress.asks (feed piece a.0 c))
-acts_moves c new HangUp k a = inl (ap ended_of a)
 acts_moves c new ReadFailed k a = moves_on c ReadFailed k (ended_of c) (ended_of new) fault.Read (ap ended_of a) (inl refl) refl
 acts_moves c new Take k a = inl (ap ended_of a ∙ ask_ended true c)
 acts_moves c new (Said id text after) k a = moves_to c (Said id text after) k _ (ended_of new) (ap ended_of a.2)
     (said_moves id.0 a.0 _ c (Said id text after) k)
 acts_moves c new Refused k a = moves_on c Refused k (ended_of c) (ended_of new) fault.Memory (ap ended_of a) (inl refl) refl
-acts_moves c new Left k a = inl (ap ended_of a)
-acts_moves c new (Resized size) k a = inl (ap ended_of a)
-acts_moves c new (Asked control) k a = inl (ap ended_of a)
+acts_moves c new _ k a = inl (ap ended_of a)
 
 handles_moves : (o : Bool) (c new : Run) (m : Message) (k : ServerMark) → ActsUnless o c m new → MovesAt c m k (ended_of new)
 handles_moves true c new m k a = inl (ap ended_of a)
@@ -89,13 +85,8 @@ turned c new m t = turn_moves c new m.0 m.1 t
 
 ended_at : (opens : Bool) (c : Run) (marked : List (Message × ServerMark)) (f : SessionFault) → IsEndedAt c marked (ended.Fault f) →
     IsFaultCause opens c marked f
-ended_at opens c marked fault.Read r = r
 ended_at opens c marked fault.Write r = inr r
-ended_at opens c marked (fault.Server g) r = r
-ended_at opens c marked (fault.Client g) r = r
-ended_at opens c marked fault.Memory r = r
-ended_at opens c marked fault.Start r = r
-ended_at opens c marked fault.Channel r = r
+ended_at opens c marked _ r = r
 
 fault_is : (f g : SessionFault) → ended.Fault f ≡ ended.Fault g → f ≡ g
 fault_is f g e = cc

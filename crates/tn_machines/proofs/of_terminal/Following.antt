@@ -30,13 +30,9 @@ bounded_fitted q s old = bounded_if (nat_le (length q + length s) 4096) q s refl
 pub queue_bound : (h : History) → length (queue h) ≤ 4096
 queue_bound (begun s) = omega arith
 queue_bound (next h (got item)) = bounded_fitted (queue h) _ (queue_bound h)
-queue_bound (next h took) = queue_bound h
 queue_bound (next h (wrote bytes)) = let old = queue_bound h in grind (arith, length-append, length-map, length-take, old)
 queue_bound (next h (pulled n)) = let old = queue_bound h in grind (arith, length-drop, old)
-queue_bound (next h (wished editing)) = queue_bound h
-queue_bound (next h (char_set func value)) = queue_bound h
-queue_bound (next h (echo_set on)) = queue_bound h
-queue_bound (next h (mask_set mask)) = queue_bound h
+queue_bound (next h _) = queue_bound h
 
 -- a call of the end
 pub follows_call : (old new : End) (e : Event) (before after : List ℕ) → IsCall e → new ≡ end_after old e → after ≡ before ++ spells (says old e)

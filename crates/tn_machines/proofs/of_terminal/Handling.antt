@@ -153,20 +153,6 @@ with_broken id text v old x y new D (Err s) p make e =
     let P : Put → Type 0 = λ q. SayBreaksOff id text v old x y q new in
     (e.1, subst P (sym e.0) (make e.2))
 
-pub said_stuck : (id : JobId) (text : List ℕ) (after : After) (old new : Term) (x y : List ℕ) (r : Result Put Stuck) → old.progress.over ≡ false
-    → IfErr r (λ s. (s.given ≡ true) × SayBreaksOff id.0 text (verdict_at (state_at old.table id.0) (has_text text) after old.tostop) old x y s.put new)
-    → IfErr r (λ s. StopsWithin old (Said id text after) s.given x y s.put new)
-said_stuck id text after old new x y (Ok a) on is = tt
-said_stuck id text after old new x y (Err s) on e =
-    let Q : Bool → Type 0 = λ g. StopsWithin old (Said id text after) g x y s.put new in
-    subst Q (sym e.0) (stops_said id text after old new x y s.put on e.1)
-
-pub said_whole : (id : JobId) (text : List ℕ) (after : After) (old new : Term) (x y : List ℕ) (r : Result Put Stuck) → old.progress.over ≡ false
-    → IfOk r (λ put. Says id.0 text (verdict_at (state_at old.table id.0) (has_text text) after old.tostop) old x y put new)
-    → IfOk r (λ put. DoesWhole old (Said id text after) x y put new)
-said_whole id text after old new x y (Ok put) on e = handled_said id text after old new x y put on e
-said_whole id text after old new x y (Err s) on e = tt
-
 pub has_text_is : (xs : List ℕ) → has_text xs ≡ not (length xs == 0)
 has_text_is [] = refl
 has_text_is (x ∷ xs) = grind arith

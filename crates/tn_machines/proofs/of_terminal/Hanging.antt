@@ -115,18 +115,15 @@ ends_entry at_end ps w all old = ends_more at_end ps (Some w ∷ []) all old (λ
 
 first_none : (a b : Ended) → first_end a b ≡ ended.HangUp → a ≡ ended.HangUp
 first_none ended.HangUp b e = refl
-first_none ended.Done b e = cc
-first_none (ended.Fault f) b e = cc
+first_none _ b e = cc
 
 not_done : (a : Ended) → first_end a ended.Done ≡ ended.HangUp → ⊥
 not_done ended.HangUp e = cc
-not_done ended.Done e = cc
-not_done (ended.Fault f) e = cc
+not_done _ e = cc
 
 not_fault : (a : Ended) (f : SessionFault) → first_end a (ended.Fault f) ≡ ended.HangUp → ⊥
 not_fault ended.HangUp f e = cc
-not_fault ended.Done f e = cc
-not_fault (ended.Fault g) f e = cc
+not_fault _ f e = cc
 
 abbrev pub ended_of : Run → Ended
 ended_of c = c.progress.ended
@@ -144,8 +141,6 @@ halt_ended true c = refl
 halt_ended false c = refl
 
 move_ended : (id : ℕ) (state : JobState) (c : Run) → ended_of (move id state c) ≡ ended.HangUp → ended_of c ≡ ended.HangUp
-move_ended id job.Foreground c e = e
-move_ended id job.Background c e = e
 move_ended id (job.Stopped why) c e = stop (in_foreground c id) e
   where
     stop : (b : Bool) → ended_of (stop_job id why b c) ≡ ended.HangUp → ended_of c ≡ ended.HangUp
@@ -156,6 +151,7 @@ move_ended id job.Ended c e = end (in_foreground c id) e
     end : (b : Bool) → ended_of (end_job id b c) ≡ ended.HangUp → ended_of c ≡ ended.HangUp
     end true e = first_none (ended_of c) ended.Done e
     end false e = e
+move_ended id _ c e = e
 
 said_ended : (id : ℕ) (parts : List (List ℕ)) (v : Option Verdict) (c : Run) → ended_of (after_said id parts v c) ≡ ended.HangUp → ended_of c ≡ ended.HangUp
 said_ended id parts None c e = e
@@ -163,14 +159,11 @@ said_ended id parts (Some v) c e = move_ended id v.next c (sym (halt_ended (is_e
 
 acts_ended : (c new : Run) (m : Message) → Acts c m new → ended_of new ≡ ended.HangUp → ended_of c ≡ ended.HangUp
 acts_ended c new (Piece piece) a e = sym (ask_ended c.progress.asks (feed piece a.0 c)) ∙ sym (ap ended_of a.2) ∙ e
-acts_ended c new HangUp a e = sym (ap ended_of a) ∙ e
 acts_ended c new ReadFailed a e = first_none (ended_of c) (ended.Fault fault.Read) (sym (ap ended_of a) ∙ e)
 acts_ended c new Take a e = sym (ask_ended true c) ∙ sym (ap ended_of a) ∙ e
 acts_ended c new (Said id text after) a e = said_ended id.0 a.0 _ c (sym (ap ended_of a.2) ∙ e)
 acts_ended c new Refused a e = first_none (ended_of c) (ended.Fault fault.Memory) (sym (ap ended_of a) ∙ e)
-acts_ended c new Left a e = sym (ap ended_of a) ∙ e
-acts_ended c new (Resized size) a e = sym (ap ended_of a) ∙ e
-acts_ended c new (Asked control) a e = sym (ap ended_of a) ∙ e
+acts_ended c new _ a e = sym (ap ended_of a) ∙ e
 
 handles_ended : (o : Bool) (c new : Run) (m : Message) → ActsUnless o c m new → ended_of new ≡ ended.HangUp → ended_of c ≡ ended.HangUp
 handles_ended true c new m a e = sym (ap ended_of a) ∙ e
@@ -308,8 +301,6 @@ calm_jobs id at c state others s off = record {
 }
 
 moved : (id at : ℕ) (state : JobState) (c : Run) → OthersStay → Calm id c → ended_of (move at state c) ≡ ended.HangUp → Moved id at state c (move at state c)
-moved id at job.Foreground c others s e = record { calm = s; at_end = refl; stream = refl; no_end = refl }
-moved id at job.Background c others s e = record { calm = s; at_end = refl; stream = refl; no_end = refl }
 moved id at (job.Stopped why) c others s e = stop (in_foreground c at) refl
   where
     stop : (b : Bool) → in_foreground c at ≡ b → Moved id at (job.Stopped why) c (stop_job at why b c)
@@ -325,6 +316,7 @@ moved id at job.Ended c others s e = end (in_foreground c at) refl e
     end : (b : Bool) → in_foreground c at ≡ b → ended_of (end_job at b c) ≡ ended.HangUp → Moved id at job.Ended c (end_job at b c)
     end true is f = absurd (not_done (ended_of c) f)
     end false is f = record { calm = calm_jobs id at c None others s is; at_end = refl; stream = refl; no_end = is }
+moved id at _ c others s e = record { calm = s; at_end = refl; stream = refl; no_end = refl }
 
 -- the reaction left the job in the foreground
 record SaidOn (id : ℕ) (c new : Run) : Type 0 where

@@ -77,8 +77,6 @@ wait_after false parts text old mid x y cuts does waits c at =
     subst (λ (ps : List (List ℕ)). SymbolsWait (in_parts c.history ps)) cuts (waits (show parts c) (does.leads c at))
 
 kept_move : (id : ℕ) (state : JobState) (c : Run) → (move id state c).history ≡ c.history
-kept_move id job.Foreground c = refl
-kept_move id job.Background c = refl
 kept_move id (job.Stopped why) c = stop (in_foreground c id)
   where
     stop : (b : Bool) → (stop_job id why b c).history ≡ c.history
@@ -89,6 +87,7 @@ kept_move id job.Ended c = end (in_foreground c id)
     end : (b : Bool) → (end_job id b c).history ≡ c.history
     end true = refl
     end false = refl
+kept_move id _ c = refl
 
 -- the job was moved before
 pub wait_moved : (id : ℕ) (state : JobState) (b : Bool) (text : List ℕ) (old mid : Term) (x y : List ℕ) → AdvancesRun (move id state) old x y [] mid
@@ -146,8 +145,7 @@ feed_cause old end piece x y (server.Pty pty.Memory) on small halts failed shut 
 feed_cause old end piece x y (server.Pty pty.Closed) on small halts failed shut none = λ c at. absurd (true_false (sym (shut refl) ∙ (at.live on).closed))
 feed_cause old end piece x y server.Memory on small halts failed shut none = λ c at. memory_refused old end piece x y on small (halts tt) c at
 feed_cause old end piece x y server.Failed on small halts failed shut none = λ c at. absurd (true_false (sym (failed refl) ∙ (at.live on).failed))
-feed_cause old end piece x y (server.Char g) on small halts failed shut none = absurd none
-feed_cause old end piece x y server.NotOn on small halts failed shut none = absurd none
+feed_cause old end piece x y _ on small halts failed shut none = absurd none
 
 -- where a request waits, and where none does
 waits_asked : (b : Bool) (h : History) → b ≡ true → WaitsWithRequest h → WaitsIf b h
@@ -224,15 +222,10 @@ IsQuiet (Asked control) = Unit {0}
 IsQuiet _ = ⊥
 
 quiet : (c : Run) (m : Message) (f : ServerFault) → IsQuiet m → f ≡ server.Memory → SymbolsWait c.history → IsRefusalCause c m f
-quiet c HangUp f q e w = (e, w)
-quiet c ReadFailed f q e w = (e, w)
-quiet c Refused f q e w = (e, w)
-quiet c Left f q e w = (e, w)
-quiet c (Resized size) f q e w = (e, w)
-quiet c (Asked control) f q e w = (e, w)
 quiet c (Piece piece) f q e w = absurd q
 quiet c Take f q e w = absurd q
 quiet c (Said id text after) f q e w = absurd q
+quiet c _ f q e w = (e, w)
 
 pub quiet_cause : {A : Type 0} (change : Run → Run) (old mid : Term) (m : Message) (x y : List ℕ) (put : List (Option Entry)) (r : Result A Stuck) → IsQuiet m
     → ((c : Run) → (change c).history ≡ c.history) → AdvancesRun change old x y put mid → IfErr r (λ s. s.fault ≡ server.Memory)

@@ -72,10 +72,9 @@ by_end_job id true c = refl
 by_end_job id false c = refl
 
 by_move : (id : ℕ) (state : JobState) (c : Run) → answered (move id state c) ≡ answered c
-by_move id job.Foreground c = refl
-by_move id job.Background c = refl
 by_move id (job.Stopped why) c = by_stop id why (in_foreground c id) c
 by_move id job.Ended c = by_end_job id (in_foreground c id) c
+by_move id _ c = refl
 
 by_said : (id : ℕ) (parts : List (List ℕ)) (v : Option Verdict) (c : Run) → answered (after_said id parts v c) ≡ answered c
 by_said id parts None c = refl
@@ -83,15 +82,8 @@ by_said id parts (Some v) c =
     by_halt_if (is_end v.next && in_foreground c id) (flush (show parts (move id v.next c))) ∙ by_move id v.next c
 
 by_idle : (m : Message) (c : Run) → answered (idle m c) ≡ answered c + request_of m
-by_idle (Piece piece) c = ap (λ (n : ℕ). n + open_requests c.progress.asks) (length-none c.puts) ∙ omega arith
-by_idle HangUp c = ap (λ (n : ℕ). n + open_requests c.progress.asks) (length-none c.puts) ∙ omega arith
-by_idle ReadFailed c = ap (λ (n : ℕ). n + open_requests c.progress.asks) (length-none c.puts) ∙ omega arith
 by_idle Take c = ap (λ (n : ℕ). n + open_requests c.progress.asks) (length-more c.puts None) ∙ omega arith
-by_idle (Said id text after) c = ap (λ (n : ℕ). n + open_requests c.progress.asks) (length-none c.puts) ∙ omega arith
-by_idle Refused c = ap (λ (n : ℕ). n + open_requests c.progress.asks) (length-none c.puts) ∙ omega arith
-by_idle Left c = ap (λ (n : ℕ). n + open_requests c.progress.asks) (length-none c.puts) ∙ omega arith
-by_idle (Resized size) c = ap (λ (n : ℕ). n + open_requests c.progress.asks) (length-none c.puts) ∙ omega arith
-by_idle (Asked control) c = ap (λ (n : ℕ). n + open_requests c.progress.asks) (length-none c.puts) ∙ omega arith
+by_idle _ c = ap (λ (n : ℕ). n + open_requests c.progress.asks) (length-none c.puts) ∙ omega arith
 
 -- a message that has its effect
 by_act : (c : Run) (m : Message) (new : Run) → Acts c m new → answered new ≤ answered c + request_of m
@@ -101,9 +93,7 @@ by_act c ReadFailed new e = let f = ap answered e ∙ by_hang_up (ends_by (Fault
 by_act c Take new e = let f = ap answered e ∙ by_ask c in omega arith
 by_act c (Said id text after) new (parts, _, e) = let f = ap answered e ∙ by_said id.0 parts (verdict c id.0 text after) c in omega arith
 by_act c Refused new e = let f = ap answered e ∙ by_halt (flush (ends_by (Fault fault.Memory) c)) in omega arith
-by_act c Left new e = let f = ap answered e in omega arith
-by_act c (Resized size) new e = let f = ap answered e in omega arith
-by_act c (Asked control) new e = let f = ap answered e in omega arith
+by_act c _ new e = let f = ap answered e in omega arith
 
 by_handle : (over : Bool) (c : Run) (m : Message) (new : Run) → ActsUnless over c m new → answered new ≤ answered c + request_of m
 by_handle true c m new e = let f = ap answered e ∙ by_idle m c in omega arith
@@ -114,14 +104,7 @@ by_fail f c = by_halt (ends_by (Fault f) c)
 
 by_unput : (m : Message) (c whole : Run) → answered (unput m c whole) ≤ answered c + request_of m
 by_unput (Piece piece) c whole = omega arith
-by_unput HangUp c whole = omega arith
-by_unput ReadFailed c whole = omega arith
-by_unput Take c whole = omega arith
-by_unput (Said id text after) c whole = omega arith
-by_unput Refused c whole = omega arith
-by_unput Left c whole = omega arith
-by_unput (Resized size) c whole = omega arith
-by_unput (Asked control) c whole = omega arith
+by_unput _ c whole = omega arith
 
 by_put : (b : Bool) (m : Message) (c whole : Run) → answered whole ≤ answered c + request_of m → answered (put_or_not b m c whole) ≤ answered c + request_of m
 by_put true m c whole l = l

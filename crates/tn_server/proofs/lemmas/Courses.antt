@@ -59,13 +59,7 @@ fed_says c old new piece before after h k a f leads also =
 -- a call brings no item
 pub calls_read : (h : History) (e : Event) → IsCall e → items (next h e) ≡ items h
 calls_read h (got item) is = absurd is
-calls_read h took is = refl
-calls_read h (wrote bytes) is = refl
-calls_read h (pulled n) is = refl
-calls_read h (wished editing) is = refl
-calls_read h (char_set func value) is = refl
-calls_read h (echo_set on) is = refl
-calls_read h (mask_set mask) is = refl
+calls_read h _ is = refl
 
 pub called_on : (c : Course) (old : End) (e : Event) → CourseLeadsTo c old → IsCall e → CourseLeadsTo (called c e) (end_after old e)
 called_on c old e a call = record {

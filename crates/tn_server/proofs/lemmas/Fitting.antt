@@ -60,17 +60,7 @@ says_by_fits f c t o editing set =
 
 back_fits : (o : Options) (e : Event) → All Fits (reply_items o e)
 back_fits o (got (Neg v option)) = word-fits (reply_to o v option)
-back_fits o (got (Byte b)) = All-nil Fits
-back_fits o (got Newline) = All-nil Fits
-back_fits o (got (Cmd command)) = All-nil Fits
-back_fits o (got (Sub option params)) = All-nil Fits
-back_fits o took = All-nil Fits
-back_fits o (wrote bytes) = All-nil Fits
-back_fits o (pulled n) = All-nil Fits
-back_fits o (wished editing) = All-nil Fits
-back_fits o (char_set func value) = All-nil Fits
-back_fits o (echo_set on) = All-nil Fits
-back_fits o (mask_set mask) = All-nil Fits
+back_fits o _ = All-nil Fits
 
 says_fits : (f : Flags) (c : Characters) (t : Terms) (e : Event) → All Fits (items_at f c t e)
 says_fits f c t e =
@@ -78,25 +68,16 @@ says_fits f c t e =
     (says_by_fits f c t (options_after t.options e) (wish_at t.options e) (is_echo_set e))
 
 few_at : (o : Options) (item : Item) → IsShortOrNone (payload_at o item)
-few_at o (Byte b) = tt
-few_at o Newline = tt
-few_at o (Cmd command) = tt
-few_at o (Neg v option) = tt
 few_at o (Sub option params) = short_under (is_yes (state_of o Them option)) option params
+few_at o _ = tt
 
 answered_fits : (c : Characters) (p : Option Payload) → IsShortOrNone p → All Fits (list_replies c p)
 unfolding server_answers
-answered_fits c None few = All-nil Fits
 answered_fits c (Some (Slc triples)) few =
     All-append Fits (list_items (server_answers c triples)) _ (list-fits (server_answers c triples)
     (omega (arith, length-answers_along server_next server_answer c triples, few)))
     (table_fits _ (chars_after c (Some (Slc triples))))
-answered_fits c (Some (Naws width height)) few = All-nil Fits
-answered_fits c (Some (Mode mask)) few = All-nil Fits
-answered_fits c (Some (ForwardOn mask)) few = All-nil Fits
-answered_fits c (Some ForwardOff) few = All-nil Fits
-answered_fits c (Some ForwardYes) few = All-nil Fits
-answered_fits c (Some ForwardNo) few = All-nil Fits
+answered_fits c _ few = All-nil Fits
 
 triple_fits : (told : Bool) (func : Func) (value : Option ℕ) → All Fits (triple_items told func value)
 triple_fits true func value = list-fits (triple_of func value ∷ []) (lit≤ tt)

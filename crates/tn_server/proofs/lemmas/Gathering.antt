@@ -38,31 +38,17 @@ module _ (d : DecoderState) (failed closed : Bool) where
   mode_aside old mask (Some edit) = wish_aside old (mask_wished old edit)
 
   sub_aside : (old : End) (payload : Option Payload) → end_after_payload (aside old) payload ≡ aside (end_after_payload old payload)
-  sub_aside old None = refl
-  sub_aside old (Some (Naws width height)) = refl
   sub_aside old (Some (Mode mask)) = mode_aside old mask (wish_of_mask mask)
-  sub_aside old (Some (Slc triples)) = refl
-  sub_aside old (Some (ForwardOn mask)) = refl
-  sub_aside old (Some ForwardOff) = refl
-  sub_aside old (Some ForwardYes) = refl
-  sub_aside old (Some ForwardNo) = refl
+  sub_aside old _ = refl
 
   item_aside : (old : End) (item : Item) → end_after_item (aside old) item ≡ aside (end_after_item old item)
-  item_aside old (Byte byte) = refl
-  item_aside old Newline = refl
-  item_aside old (Cmd command) = refl
-  item_aside old (Neg verb option) = refl
   item_aside old (Sub option params) = sub_aside old (payload_at old.terms.options (Sub option params))
+  item_aside old _ = refl
 
   pub call_aside : (old : End) (e : Event) → end_after (aside old) e ≡ aside (end_after old e)
   call_aside old (got item) = item_aside old item
-  call_aside old took = refl
-  call_aside old (wrote bytes) = refl
-  call_aside old (pulled n) = refl
   call_aside old (wished editing) = wish_aside old (mask_for old.terminal.settings.flags editing)
-  call_aside old (char_set func value) = refl
-  call_aside old (echo_set on) = refl
-  call_aside old (mask_set mask) = refl
+  call_aside old _ = refl
 
   pub after_aside : (old : End) (items : List Item) → end_after_items (aside old) items ≡ aside (end_after_items old items)
   after_aside old [] = refl
@@ -77,21 +63,12 @@ module _ (d : DecoderState) (failed closed : Bool) where
   mode_says old (Some edit) = wished_aside old (mask_wished old edit)
 
   sub_says : (old : End) (payload : Option Payload) → says_sub (aside old) payload ≡ says_sub old payload
-  sub_says old None = refl
-  sub_says old (Some (Naws width height)) = refl
   sub_says old (Some (Mode mask)) = mode_says old (wish_of_mask mask)
-  sub_says old (Some (Slc triples)) = refl
-  sub_says old (Some (ForwardOn mask)) = refl
-  sub_says old (Some ForwardOff) = refl
-  sub_says old (Some ForwardYes) = refl
-  sub_says old (Some ForwardNo) = refl
+  sub_says old _ = refl
 
   pub item_says : (old : End) (item : Item) → says_item (aside old) item ≡ says_item old item
-  item_says old (Byte byte) = refl
-  item_says old Newline = refl
-  item_says old (Cmd command) = refl
-  item_says old (Neg verb option) = refl
   item_says old (Sub option params) = sub_says old (payload_at old.terms.options (Sub option params))
+  item_says old _ = refl
 
   pub says_aside : (old : End) (items : List Item) → says_items (aside old) items ≡ says_items old items
   says_aside old [] = refl

@@ -20,9 +20,3 @@ gets-append = folding.after_both (λ h item. next h (got item))
 
 pub gets-push : (h : History) (front : List Item) (item : Item) → gets h (front ++ item ∷ []) ≡ next (gets h front) (got item)
 gets-push h front item = gets-append h front (item ∷ [])
-
-pub sent-gets : (h : History) (more : List Item) → (rest : List Item) × (items_said (gets h more) ≡ items_said h ++ rest)
-sent-gets h [] = ([], sym (append-nil (items_said h)))
-sent-gets h (x ∷ xs) =
-    let r = sent-gets (next h (got x)) xs in
-    (replies h (got x) ++ r.0, r.1 ∙ append_assoc (items_said h) (replies h (got x)) r.0)

@@ -51,12 +51,11 @@ stands h old (mask_set mask) s = stands_mask h old mask s
 pub says_as : (h : History) (old : End) (e : Event) → LeadsTo h old → replies h e ≡ says old e
 says_as h old (got item) s = replies_item h old item s
 says_as h old took s = replies_took h old old.terminal.entries refl s
-says_as h old (wrote bytes) s = refl
 says_as h old (pulled n) s = ap (λ (q : List Symbol). map data_of (take n q)) (sym s.queue)
 says_as h old (wished editing) s = replies_wish h old editing s
 says_as h old (char_set func value) s = replies_char h old func value s
 says_as h old (echo_set on) s = replies_echo h old on s
-says_as h old (mask_set mask) s = refl
+says_as h old _ s = refl
 
 -- ITEMS, one after another
 pub stands_all : (h : History) (old : End) (items : List Item) → LeadsTo h old → LeadsTo (gets h items) (end_after_items old items)

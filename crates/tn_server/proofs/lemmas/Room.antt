@@ -64,25 +64,16 @@ spelled_some (Byte b) =
       | inl e ↦ rw e.0 (omega arith)
       | inr e ↦ rw e.0 (doubled_some b)
     ]
-spelled_some Newline = omega arith
-spelled_some (Cmd command) = omega arith
-spelled_some (Neg verb option) = omega arith
-spelled_some (Sub option params) = omega arith
+spelled_some _ = omega arith
 
 text_some : (s : Segment) → 1 ≤ length (text s)
 text_some (spelled item) = spelled_some item
-text_some (lone_cr byte) = omega arith
-text_some (escaped byte) = omega arith
-text_some (unread bytes) = omega arith
-text_some (cut bytes byte) = omega arith
+text_some _ = omega arith
 
 -- a segment gives an item, or looks ahead at two bytes
 gives_or_looks : (s : Segment) → length (gives s) + length (look_ahead s) ≤ 2
 gives_or_looks (spelled item) = omega arith
-gives_or_looks (lone_cr byte) = omega arith
-gives_or_looks (escaped byte) = omega arith
-gives_or_looks (unread bytes) = omega arith
-gives_or_looks (cut bytes byte) = omega arith
+gives_or_looks _ = omega arith
 
 each_weighs_one : IsWeight (λ item. 1) 1
 each_weighs_one = record { spelled = λ item fits. omega (arith, spelled_some item); alone = omega arith }

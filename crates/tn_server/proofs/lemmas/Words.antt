@@ -58,11 +58,10 @@ table_none true c = words_in-list (announcement c)
 table_none false c = refl
 
 list_none : (c : Characters) (p : Option Payload) → words_in (list_replies c p) ≡ []
-list_none c None = refl
 list_none c (Some (payload.Slc triples)) =
     none_in (list_items (server_answers c triples)) (table_items (server_is_asked triples) (chars_after c (Some (payload.Slc triples))))
     (words_in-list (server_answers c triples)) (table_none (server_is_asked triples) (chars_after c (Some (payload.Slc triples))))
-list_none c (Some p) = refl
+list_none c _ = refl
 
 triple_none : (told : Bool) (func : Func) (value : Option ℕ) → words_in (triple_items told func value) ≡ []
 triple_none true func value = words_in-list (triple_of func value ∷ [])

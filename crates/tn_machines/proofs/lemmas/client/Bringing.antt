@@ -156,9 +156,7 @@ turn_takes c new (told, mark.Refused f) on t = takes_as c told.from told.message
 -- nothing has any effect
 turn_stays : (c new : Run) (m : Told × ClientMark) → c.progress.over ≡ true → Turns c m new → new ≡ c
 turn_stays c new (told, mark.Whole) off t = let P : Bool → Type 0 = λ b. ActsUnless b c told new in subst P off t
-turn_stays c new (told, mark.WriteFailed) off t = absurd (true_false (sym off ∙ t.0))
-turn_stays c new (told, mark.ShowFailed) off t = absurd (true_false (sym off ∙ t.0))
-turn_stays c new (told, mark.Refused f) off t = absurd (true_false (sym off ∙ t.0))
+turn_stays c new _ off t = absurd (true_false (sym off ∙ t.0))
 
 -- the history's items are those of the stream
 abbrev Reads : Run → Type 0

@@ -105,8 +105,6 @@ gives_ask c (w ∷ ws) e g =
     }
 
 gives_move : (id : ℕ) (state : JobState) (c : Run) → Gives c.puts c.history → Gives (move id state c).puts (move id state c).history
-gives_move id job.Foreground c g = g
-gives_move id job.Background c g = g
 gives_move id (job.Stopped why) c g = stop (in_foreground c id)
   where
     stop : (b : Bool) → Gives (stop_job id why b c).puts (stop_job id why b c).history
@@ -117,6 +115,7 @@ gives_move id job.Ended c g = end (in_foreground c id)
     end : (b : Bool) → Gives (end_job id b c).puts (end_job id b c).history
     end true = g
     end false = g
+gives_move id _ c g = g
 
 gives_flush : (c : Run) → Gives c.puts c.history → Gives (flush c).puts (flush c).history
 gives_flush c g = record { all = g.all; taken = g.taken }
@@ -162,9 +161,7 @@ gives_acts c new ReadFailed a g =
 gives_acts c new Take a g = gives_as (flush (ask c)) new a (gives_flush (ask c) (gives_ask_if true c g))
 gives_acts c new (Said id text after) a g = gives_as _ new a.2 (gives_said id.0 a.0 _ c g)
 gives_acts c new Refused a g = gives_as _ new a (gives_end c.progress.asks c.puts (flushed_history c.history) (gives_flush c g))
-gives_acts c new Left a g = gives_as (flush c) new a (gives_flush c g)
-gives_acts c new (Resized size) a g = gives_as (flush c) new a (gives_flush c g)
-gives_acts c new (Asked control) a g = gives_as (flush c) new a (gives_flush c g)
+gives_acts c new _ a g = gives_as (flush c) new a (gives_flush c g)
 
 pub gives_start : (canon : Canon) (editing : Editing) → Gives [] (opening canon editing)
 gives_start canon editing = record { all = refl; taken = omega arith }
@@ -186,14 +183,7 @@ none_at_end false = refl
 
 none_idle : (m : Message) → entries_put (idle_puts m) ≡ []
 none_idle Take = refl
-none_idle Left = refl
-none_idle (Resized size) = refl
-none_idle (Asked control) = refl
-none_idle (Piece piece) = refl
-none_idle HangUp = refl
-none_idle ReadFailed = refl
-none_idle (Said id text after) = refl
-none_idle Refused = refl
+none_idle _ = refl
 
 -- a message puts more
 abbrev More : Run → Run → Type 0
@@ -219,8 +209,6 @@ more_ask_if true c d e = more_ask c d e
 more_ask_if false c d e = more_none c d e
 
 moved_puts : (id : ℕ) (state : JobState) (c : Run) → (move id state c).puts ≡ c.puts
-moved_puts id job.Foreground c = refl
-moved_puts id job.Background c = refl
 moved_puts id (job.Stopped why) c = stop (in_foreground c id)
   where
     stop : (b : Bool) → (stop_job id why b c).puts ≡ c.puts
@@ -231,6 +219,7 @@ moved_puts id job.Ended c = end (in_foreground c id)
     end : (b : Bool) → (end_job id b c).puts ≡ c.puts
     end true = refl
     end false = refl
+moved_puts id _ c = refl
 
 more_halt_if : (b : Bool) (c d : Run) → d.puts ≡ c.puts → More c (halt_if b d)
 more_halt_if true c d e = (end_if d.progress.asks, ap (λ (ps : List (Option Entry)). ps ++ end_if d.progress.asks) e)
@@ -249,9 +238,7 @@ more_acts c new ReadFailed a = more_as c (flush (hang_up (ends_by (Fault fault.R
 more_acts c new Take a = more_as c (flush (ask c)) new a (more_ask c c refl)
 more_acts c new (Said id text after) a = more_as c _ new a.2 (more_said id.0 a.0 _ c)
 more_acts c new Refused a = more_as c _ new a (end_if c.progress.asks, refl)
-more_acts c new Left a = more_as c (flush c) new a (more_none c (flush c) refl)
-more_acts c new (Resized size) a = more_as c (flush c) new a (more_none c (flush c) refl)
-more_acts c new (Asked control) a = more_as c (flush c) new a (more_none c (flush c) refl)
+more_acts c new _ a = more_as c (flush c) new a (more_none c (flush c) refl)
 
 -- while messages have their effect all is given, and from then on a front
 record InOrder (c : Run) : Type 0 where

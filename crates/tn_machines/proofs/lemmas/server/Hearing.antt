@@ -81,8 +81,6 @@ answer_keeps c [] = record { history = refl; stream = refl }
 answer_keeps c (w ∷ ws) = record { history = refl; stream = refl }
 
 pub move_keeps : (id : ℕ) (state : JobState) (c : Run) → KeepsEnd c (move id state c)
-move_keeps id job.Foreground c = record { history = refl; stream = refl }
-move_keeps id job.Background c = record { history = refl; stream = refl }
 move_keeps id (job.Stopped why) c = stop (in_foreground c id)
   where
     stop : (b : Bool) → KeepsEnd c (stop_job id why b c)
@@ -93,6 +91,7 @@ move_keeps id job.Ended c = end (in_foreground c id)
     end : (b : Bool) → KeepsEnd c (end_job id b c)
     end true = record { history = refl; stream = refl }
     end false = record { history = refl; stream = refl }
+move_keeps id _ c = record { history = refl; stream = refl }
 
 halt_keeps : (b : Bool) (c : Run) → KeepsEnd c (halt_if b c)
 halt_keeps true c = record { history = refl; stream = refl }
@@ -200,8 +199,7 @@ true_false e = cc
 
 turned_off : (m : Message) (k : ServerMark) (c new : Run) → c.progress.over ≡ true → Turns c (m, k) new → Stays c new
 turned_off m mark.Whole c new off t = stays_idle c.progress.over m c new off off t
-turned_off m mark.WriteFailed c new off t = absurd (true_false (sym off ∙ t.0))
-turned_off m (mark.Refused f put) c new off t = absurd (true_false (sym off ∙ t.0))
+turned_off m _ c new off t = absurd (true_false (sym off ∙ t.0))
 
 -- ALL MESSAGES
 

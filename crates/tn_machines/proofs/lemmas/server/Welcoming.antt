@@ -45,14 +45,7 @@ never_refused : (c : Run) (t : Term) (m : Message) → LeadsTo c t → c.progres
 never_refused c t (Piece piece) at on welcome cause =
     let live = at.live (ap (λ (p : ServerProgress). p.over) at.progress ∙ on) in
     finds_room c piece live.bytes (live.read.rest, live.read.reading) welcome.0 (welcome.1 on) cause
-never_refused c t HangUp at on welcome cause = no_memory cause.0
-never_refused c t ReadFailed at on welcome cause = no_memory cause.0
-never_refused c t Take at on welcome cause = no_memory cause.0
-never_refused c t (Said id text after) at on welcome cause = no_memory cause.0
-never_refused c t Refused at on welcome cause = no_memory cause.0
-never_refused c t Left at on welcome cause = no_memory cause.0
-never_refused c t (Resized size) at on welcome cause = no_memory cause.0
-never_refused c t (Asked control) at on welcome cause = no_memory cause.0
+never_refused c t _ at on welcome cause = no_memory cause.0
 
 was_on : (c new : Run) (m : Message) (k : ServerMark) (f : ServerFault) (put : Bool) → k ≡ mark.Refused f put → Turns c (m, k) new → c.progress.over ≡ false
 was_on c new m k f put e t =
