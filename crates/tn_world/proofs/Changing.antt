@@ -102,14 +102,7 @@ raw-key mask c key e =
 -- the count at the client, after one more key
 counted : (limit n : ℕ) (r : Role) → count_after limit n (roles_from r) ≡ (if is_dropped limit n r then n else next_count n r)
 counted limit n role.Ignored = refl
-counted limit n (role.Ordinary b) = refl
-counted limit n role.Nl = refl
-counted limit n (role.Eol b) = refl
-counted limit n (role.Eol2 b) = refl
-counted limit n role.Eof = refl
-counted limit n (role.Signal sig) = refl
-counted limit n role.Erase = refl
-counted limit n role.Kill = refl
+counted limit n _ = refl
 
 count-one : (limit : ℕ) (s : Settings) (key n : ℕ) (half : List ℕ) (b : Bool) → s.flags.isig ≡ b → allows_local s.flags ≡ true → n ≡ length half
     → count_after limit n (roles_from (role_of_key (settings_by b s.chars) key)) ≡ length (half_next limit half (role_of_key s key))

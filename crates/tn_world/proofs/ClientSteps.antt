@@ -1,5 +1,5 @@
 -- What the steps of a client end say and keep: calm items that fit a stream, and the relation of both ends.
-use Rattle.std.proofs.Common.{◌≡◌, ◌⊎◌, inl, inr, ◌<◌, ℕ, zero, suc, ◌==◌, nat_le, Bool, true, false, not, ◌&&◌, ◌||◌, Option, Some, None, List}
+use Rattle.std.proofs.Common.{◌≡◌, ◌⊎◌, inl, inr, ◌<◌, ℕ, suc, ◌==◌, nat_le, Bool, true, false, not, ◌&&◌, ◌||◌, Option, Some, None, List}
 use Rattle.std.proofs.Common.{[], ◌∷◌, ◌++◌, length, refl, sym, ap, ◌∙◌, if◌then◌else◌, subst, arith, append-nil, append_assoc}
 use Rattle.std.specs.Prelude.{All, bit_or}
 use Rattle.std.proofs.lemmas.Bool.{eqb-true}
@@ -58,11 +58,8 @@ bits-mode mask =
 
 -- and an acknowledgement keeps EDIT
 edits-ack : (n : ℕ) → n < 4 → edits (bit_or n 4) ≡ edits n
-edits-ack zero h = refl
-edits-ack (suc zero) h = refl
-edits-ack (suc (suc zero)) h = refl
-edits-ack (suc (suc (suc zero))) h = refl
 edits-ack (suc (suc (suc (suc n)))) h = absurd (omega arith)
+edits-ack _ h = refl
 
 -- A KEY says bytes of data, new lines and commands.
 typed_said : (canon : Canon) (c : End) (is_line : Bool) (key : ℕ) → AreSaid canon (says_typed c key (sent_as is_line key))

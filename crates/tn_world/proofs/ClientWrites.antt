@@ -2,7 +2,8 @@
 use Rattle.std.proofs.Common.{◌≡◌, ◌⊎◌, inl, inr, ℕ, ◌==◌, Bool, true, false, not, ◌&&◌, ◌||◌, Option, Some, None, List, [], ◌∷◌, ◌++◌, length, nat_le, ◌≤◌}
 use Rattle.std.proofs.Common.{refl, sym, ap, ◌∙◌, if◌then◌else◌, subst, arith, append-nil}
 use Rattle.std.proofs.lemmas.Bool.Decides.{nat_tests}
-use Rattle.std.proofs.lemmas.List.Elements.{All-nil, All-cons, All-append}
+use Rattle.std.specs.Prelude.{All}
+use Rattle.std.proofs.lemmas.List.Elements.{All-nil, All-cons, All-head, All-tail, All-append}
 use Rattle.tn_codes.specs.Payloads.{parameters_of}
 use Rattle.tn_codes.specs.PayloadOf.{payload_of}
 use Rattle.tn_codes.specs.declared.codes.Verb.{Verb}
@@ -27,9 +28,8 @@ use Rattle.tn_client.specs.Replies.{byte_items, size_items, new_size_items, payl
 use Rattle.tn_world.specs.relation.Machine.{Server, bits, read, read_all, IsAskable}
 use Rattle.tn_world.specs.relation.Calm.{IsCalmToServer, AsksCalmly}
 use Rattle.tn_world.specs.relation.Ends.{SaysItems}
-use Rattle.tn_world.proofs.Engines.{word_keeps_state}
+use Rattle.tn_world.proofs.Engines.{reply_made, word_keeps_state}
 use Rattle.tn_world.proofs.Reading.{read_all-append}
-use Rattle.tn_world.proofs.ServerSteps.{Speaks, reply_speaks}
 
 -- WHAT IS WRITTEN
 -- what these items say to any server, part by part
@@ -77,14 +77,13 @@ writes-if canon false out h = writes-none canon
 pub word-keeps : (o : Options) (verb : Verb) (code : ℕ) → (code == 34) ≡ false → linemode (options_after_word o verb code) ≡ linemode o
 word-keeps o verb code e = ap is_yes (word_keeps_state o Us verb code e)
 
--- and is answered on its own option
-word-writes : (canon : Canon) (code : ℕ) (w : Option (Verb × ℕ)) → (code == 34) ≡ false → Speaks code w → SaysItems canon [] (word_items w)
-word-writes canon code None e on = writes-none canon
-word-writes canon code (Some w) e on =
-    let is : (w.1 == 34) ≡ false = ap (λ (n : ℕ). n == 34) on ∙ e in
-    writes-hushed canon (Neg w.0 w.1) tt (inl is)
-    (λ v. ap (λ (b : Bool). record v { linemode = b || v.linemode; edit = if b then v.linemode && v.edit else v.edit; waiting = v.waiting ++ [] }) is
-    ∙ read-other v)
+-- what says nothing, one after another
+abbrev Hushes : Canon → Item → Type 0
+Hushes canon item = SaysItems canon [] (item ∷ [])
+
+writes-all : (canon : Canon) (items : List Item) → All (Hushes canon) items → SaysItems canon [] items
+writes-all canon [] h = writes-none canon
+writes-all canon (x ∷ xs) h = writes-append canon [] [] (x ∷ []) xs (All-head (Hushes canon) x xs h) (writes-all canon xs (All-tail (Hushes canon) x xs h))
 
 pub size-writes : (canon : Canon) (z : ℕ × ℕ) → SaysItems canon [] (size_items z)
 size-writes canon (width, height) =
@@ -95,7 +94,9 @@ pub word-answered : (canon : Canon) (o : Options) (m : ℕ) (c : Characters) (z 
     → SaysItems canon [] (answer_items o m c z (Neg verb code))
 word-answered canon o m c z verb code e =
     writes-append canon [] [] (word_items (reply_to o verb code)) (new_size_items (tells_size o) (tells_size (options_after_word o verb code)) z)
-    (word-writes canon code (reply_to o verb code) e (reply_speaks o verb code))
+    (writes-all canon (word_items (reply_to o verb code)) (reply_made (Hushes canon) o verb code (λ w. writes-hushed canon (Neg w code) tt (inl e)
+    (λ v. ap (λ (b : Bool). record v { linemode = b || v.linemode; edit = if b then v.linemode && v.edit else v.edit; waiting = v.waiting ++ [] }) e
+    ∙ read-other v))))
     (writes-if canon (tells_size (options_after_word o verb code) && not (tells_size o)) (size_items z) (size-writes canon z))
 
 same_or_none : (was on : Bool) (m : ℕ) → on ≡ was → (if differ was on then 0 else m) ≡ m
@@ -170,14 +171,11 @@ pub record Tells (s : Settings) (p : Option Payload) : Type 0 where
   pub standard : s.chars ≡ standard_characters
 
 pub calm-kinds : (s : Settings) (p : Option Payload) → AsksCalmly s p → IsChatter p ⊎ (Forwards p ⊎ (Asks s p ⊎ Tells s p))
-calm-kinds s None a = inl tt
-calm-kinds s (Some (payload.Naws width height)) a = inl tt
 calm-kinds s (Some (payload.Mode mask)) a = inr (inr (inl (record { mask = mask; is = refl; plain = a.0; askable = a.1 })))
 calm-kinds s (Some (payload.ForwardOn mask)) a = inr (inl (record { mask = Some mask; is = refl }))
 calm-kinds s (Some payload.ForwardOff) a = inr (inl (record { mask = None; is = refl }))
-calm-kinds s (Some payload.ForwardYes) a = inl tt
-calm-kinds s (Some payload.ForwardNo) a = inl tt
 calm-kinds s (Some (payload.Slc triples)) a = inr (inr (inr (record { is = ap (λ ts. Some (payload.Slc ts)) a.1; standard = a.0 })))
+calm-kinds s _ a = inl tt
 
 -- THE TABLE that the client has already changes nothing and is not answered, whether LINEMODE is on or not
 abbrev pub table_if : Bool → Option Payload

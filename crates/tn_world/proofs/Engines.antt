@@ -1,5 +1,5 @@
 -- What the words on LINEMODE do to the engine of an end, and what a word on another option leaves.
-use Rattle.std.proofs.Common.{◌≡◌, ◌≢◌, inl, ℕ, ◌==◌, Bool, true, false, Option, Some, None, [], refl, sym, ◌∙◌, subst}
+use Rattle.std.proofs.Common.{◌≡◌, ◌≢◌, inl, ℕ, ◌==◌, Bool, true, false, Option, Some, None, [], ◌∷◌, refl, sym, ◌∙◌, subst}
 use Rattle.std.specs.Prelude.{All}
 use Rattle.std.proofs.lemmas.List.Elements.{All-nil, All-cons}
 use Rattle.tn_codes.specs.declared.codes.Verb.{Verb}
@@ -8,7 +8,13 @@ use Rattle.tn_discipline.specs.declared.termios.Flags.{Flags}
 use Rattle.tn_server.specs.declared.wishes.Editing.{Editing}
 use Rattle.tn_nvt.specs.declared.items.Item.{Item}
 use Rattle.tn_nvt.specs.declared.items.Item.TheVariants.{Neg, Sub}
-use Rattle.tn_option.specs.QMethod.{cell, side_of, cause_of, word_of_answer}
+use Rattle.tn_option.specs.QMethod.{cell, side_of, cause_of, wish_for, word_on, word_off, word_of_answer, result_of_answer}
+use Rattle.tn_option.specs.Options.{known_option, cell_now, word_now, answer_now, answer_to}
+use Rattle.tn_option.specs.declared.known.Known.{Known}
+use Rattle.tn_option.specs.declared.q_method.Answer.{Answer}
+use Rattle.tn_option.specs.declared.q_method.Answer.TheVariants as answer
+use Rattle.tn_option.specs.declared.q_method.OptionEvent.{OptionEvent}
+use Rattle.tn_server.specs.Replies.{asked_word_items, echo_items}
 use Rattle.tn_option.specs.Options.{Options, new_options, options_after_word, options_after_wish, reply_to, state_of, is_yes, agrees_to}
 use Rattle.tn_option.specs.declared.q_method.OptionEvent.TheVariants.{HeardOn}
 use Rattle.tn_option.specs.declared.q_method.Side.{Side}
@@ -22,6 +28,40 @@ use Rattle.tn_server.specs.Terms as server_terms
 use Rattle.tn_client.specs.Events as client_calls
 use Rattle.tn_client.specs.Terms as client_terms
 use Rattle.tn_world.specs.relation.Pictures.{NeverEnds, IsOffOrOn}
+
+-- OPTION WORDS that an end says are on the option that it was asked about
+pub one : (P : Item → Type 0) (item : Item) → P item → All P (item ∷ [])
+one P item p = All-cons P item [] p (All-nil P)
+
+answer_made : (P : Item → Type 0) (side : Side) (option : ℕ) (a : Answer) → ((verb : Verb) → P (Neg verb option)) → All P (word_items (word_of_answer side option a))
+answer_made P side option answer.SayOn p = one P (Neg (word_on side) option) (p (word_on side))
+answer_made P side option answer.SayOff p = one P (Neg (word_off side) option) (p (word_off side))
+answer_made P side option _ p = All-nil P
+
+word_made : (P : Item → Type 0) (o : Options) (side : Side) (option : ℕ) (cause : OptionEvent) (k : Option Known) → ((verb : Verb) → P (Neg verb option))
+    → All P (word_items (word_now o side option cause k))
+word_made P o side option cause (Some k) p = answer_made P side option (cell_now o side k cause).1 p
+word_made P o side option HeardOn None p = one P (Neg (word_off side) option) (p (word_off side))
+word_made P o side option _ None p = All-nil P
+
+pub reply_made : (P : Item → Type 0) (o : Options) (verb : Verb) (option : ℕ) → ((v : Verb) → P (Neg v option)) → All P (word_items (reply_to o verb option))
+unfolding reply_to
+reply_made P o verb option p = word_made P o (side_of verb) option (cause_of verb) (known_option option) p
+
+result_made : (P : Item → Type 0) (side : Side) (option : ℕ) (a : Answer) → ((verb : Verb) → P (Neg verb option)) → All P (asked_word_items (result_of_answer side option a))
+result_made P side option answer.SayOn p = one P (Neg (word_on side) option) (p (word_on side))
+result_made P side option answer.SayOff p = one P (Neg (word_off side) option) (p (word_off side))
+result_made P side option _ p = All-nil P
+
+asked_made : (P : Item → Type 0) (o : Options) (side : Side) (option : ℕ) (cause : OptionEvent) (k : Option Known) → ((verb : Verb) → P (Neg verb option))
+    → All P (asked_word_items (answer_now o side option cause k))
+asked_made P o side option cause (Some k) p = result_made P side option (cell_now o side k cause).1 p
+asked_made P o side option cause None p = All-nil P
+
+pub echo_made : (P : Item → Type 0) (due wanted : Bool) (o : Options) → ((verb : Verb) → P (Neg verb 1)) → All P (echo_items due wanted o)
+unfolding answer_to
+echo_made P true wanted o p = asked_made P o Us 1 (wish_for wanted) (known_option 1) p
+echo_made P false wanted o p = All-nil P
 
 -- THE SERVER'S, of which LINEMODE is the client's side
 -- LINEMODE comes on
@@ -108,11 +148,7 @@ server_agrees (server_calls.next h (server_calls.wished editing)) =
 server_agrees (server_calls.next h (server_calls.echo_set on)) =
     settled_agrees (server_terms.flags (server_calls.next h (server_calls.echo_set on))) (server_terms.terms h) (server_terms.options h) None true
     ∙ server_agrees h
-server_agrees (server_calls.next h server_calls.took) = server_agrees h
-server_agrees (server_calls.next h (server_calls.wrote bytes)) = server_agrees h
-server_agrees (server_calls.next h (server_calls.pulled n)) = server_agrees h
-server_agrees (server_calls.next h (server_calls.char_set func value)) = server_agrees h
-server_agrees (server_calls.next h (server_calls.mask_set mask)) = server_agrees h
+server_agrees (server_calls.next h _) = server_agrees h
 
 -- THE CLIENT'S, of which LINEMODE is its own side
 client_cell : (a : Bool) (q : QState) → a ≡ true → IsOffOrOn q → (cell a HeardOn q).0 ≡ Yes
@@ -159,8 +195,4 @@ client_heard o item = refl
 pub client_agrees : (h : client_calls.History) → agrees_to (client_terms.options h) Us 34 ≡ true
 client_agrees (client_calls.begun width height limit) = client_begun
 client_agrees (client_calls.next h (client_calls.got item)) = client_heard (client_terms.options h) item ∙ client_agrees h
-client_agrees (client_calls.next h (client_calls.typed key)) = client_agrees h
-client_agrees (client_calls.next h client_calls.entered) = client_agrees h
-client_agrees (client_calls.next h (client_calls.resized width height)) = client_agrees h
-client_agrees (client_calls.next h (client_calls.proposed func value)) = client_agrees h
-client_agrees (client_calls.next h (client_calls.sent command)) = client_agrees h
+client_agrees (client_calls.next h _) = client_agrees h

@@ -1,5 +1,5 @@
 -- What holds once an end has failed: the entries that were made still begin those that the keys give.
-use Rattle.std.proofs.Common.{◌≡◌, inl, inr, ℕ, Bool, true, false, Option, Some, None, List, [], ◌∷◌, ◌++◌, length, min, take, drop, refl, sym, ap, ◌∙◌, if◌then◌else◌}
+use Rattle.std.proofs.Common.{◌≡◌, inl, inr, ℕ, Bool, true, false, Option, Some, None, List, [], ◌∷◌, ◌++◌, take, drop, refl, sym, ap, ◌∙◌, if◌then◌else◌}
 use Rattle.std.proofs.Common.{subst, append-nil, append_assoc}
 use Rattle.std.specs.Prelude.{All, option_to_list}
 use Rattle.std.proofs.lemmas.List.{take-append-drop}
@@ -36,15 +36,14 @@ use Rattle.tn_client.specs.Steps.{end_after_items, says_items}
 use Rattle.tn_world.specs.relation.Machine.{Server, read_all}
 use Rattle.tn_world.specs.relation.Pictures.{server_core, ServerStays}
 use Rattle.tn_world.specs.relation.Relation.{IsRelated, IsBehind}
-use Rattle.tn_world.specs.Worlds.{World, UnlessStopped, Types, TypesKey, EntersLine, SendsCommand, key_sent, CallsClient, DeliversToServer, DeliversToClient, CallsServer, Pulls}
+use Rattle.tn_world.specs.Worlds.{World, Types, SendsCommand, key_sent, DeliversToServer, CallsServer}
 use Rattle.tn_world.specs.Worlds.{TakesEntry, RunsEvent, ServerRefusesDelivery, ClientRefusesDelivery}
 use Rattle.tn_client.specs.declared.commands.UserCommand.{UserCommand}
 use Rattle.tn_world.specs.declared.events.Event.{Event}
-use Rattle.tn_world.specs.declared.events.Event.TheVariants.{Key, NewLine, Send, ToServer, ToClient, Write, Pull, Take, Wish, Resize, SetChar, Propose, Echo, Mask}
-use Rattle.tn_world.specs.declared.events.Event.TheVariants.{ServerStops, ClientStops}
 use Rattle.tn_world.proofs.ClientSteps.{items-come, stops_front}
 use Rattle.tn_world.proofs.Cut.{said_behind, cut_at}
-use Rattle.tn_world.proofs.Following.{flight_fits, holds_does, does_keeps}
+use Rattle.tn_world.proofs.Following.{flight_fits, holds_does}
+use Rattle.tn_world.proofs.Happening.{Done, unmoved, types, enters, sends, resizes, proposes, reaches, returns, asks, takes, stops, done_of, does_keeps}
 use Rattle.tn_world.proofs.Prefixes.{prefix_trans, prefix_after, prefix_same, read-more, agreed, taken-waits}
 use Rattle.tn_world.proofs.Reading.{read_all-append, entries-typed}
 use Rattle.tn_world.proofs.ServerSteps.{KeepsEntries, calls, goes_on, stays_fed, core_call, stays_call}
@@ -214,11 +213,10 @@ behind_halts : (s : Canon) (old new : World) (n : ℕ) (fault : ServerFault) →
 behind_halts s old new n fault runs r h = by_fault fault refl
   where
     by_fault : (f : ServerFault) → fault ≡ f → Begins s new
-    by_fault (server_faults.Pty f) is = halted s old new n fault r h (r.halts (subst IsOfItem (sym is) tt))
-    by_fault server_faults.Memory is = halted s old new n fault r h (r.halts (subst IsOfItem (sym is) tt))
     by_fault server_faults.Failed is = opposite old.server.failed (Begins s new) (r.again is).0 runs
     by_fault (server_faults.Char f) is = absurd (subst IsOfPiece is r.is_fault)
     by_fault server_faults.NotOn is = absurd (subst IsOfPiece is r.is_fault)
+    by_fault _ is = halted s old new n fault r h (r.halts (subst IsOfItem (sym is) tt))
 
 -- the client fails: what it said begins what the items of the piece make it say, and reading more only adds entries
 pub behind_breaks : (s : Canon) (old new : World) (n : ℕ) (fault : ClientFault) → NoneFailed old → ClientRefusesDelivery old n fault new → IsRelated s old
@@ -265,61 +263,29 @@ behind_breaks s old new n fault none r h =
     }
 
 -- EACH EVENT, once the client has failed
-behind_unless : (s : Canon) (stopped : Bool) (old new : World) (happens : Type 0) → HasPast new → (happens → IsBehind s new)
-    → UnlessStopped stopped old new happens → IsBehind s old → IsBehind s new
-behind_unless s true old new happens sound done is h = subst (λ w. IsBehind s w) (sym is) h
-behind_unless s false old new happens sound done is h = done is
-
 gone_silent : (s : Canon) (old new : World) → old.client.failed ≡ true → old.client.failed ≡ false → IsBehind s new
 gone_silent s old new failed runs = opposite old.client.failed (IsBehind s new) failed runs
 
-behind_does : (s : Canon) (old new : World) (e : Event) → old.client.failed ≡ true → HasPast new → IsQuietEvent old e
-    → RunsEvent old e new → IsBehind s old → IsBehind s new
-behind_does s old new (Key key) failed sound quiet d h =
-    behind_unless s old.client_stopped old new (TypesKey old key new) sound (λ t. gone_silent s old new failed (call_goes_on old.client t.accepted)) d h
-behind_does s old new NewLine failed sound quiet d h =
-    behind_unless s old.client_stopped old new (EntersLine old new) sound (λ t. gone_silent s old new failed (call_goes_on old.client t.accepted)) d h
-behind_does s old new (Send command) failed sound quiet d h =
-    behind_unless s old.client_stopped old new (SendsCommand old command new) sound (λ t. gone_silent s old new failed (call_goes_on old.client t.accepted)) d h
-behind_does s old new (ToServer n) failed sound quiet d h =
-    behind_unless s old.server_stopped old new (DeliversToServer old n new) sound (λ t. behind_reaches s old new n sound t h) d h
-behind_does s old new (ToClient n) failed sound quiet d h =
-    behind_unless s old.client_stopped old new (DeliversToClient old n new) sound (λ t. gone_silent s old new failed (call_goes_on old.client t.accepted)) d h
-behind_does s old new (Write bytes) failed sound quiet d h =
-    behind_unless s old.server_stopped old new (CallsServer old (server_calls.wrote bytes) new) sound
-    (λ t. behind_asks s old new (server_calls.wrote bytes) tt sound t h) d h
-behind_does s old new (Pull n) failed sound quiet d h =
-    behind_unless s old.server_stopped old new (Pulls old n new) sound (λ p. behind_asks s old new (server_calls.pulled (min n (length old.server.terminal.queue))) tt sound p h) d h
-behind_does s old new Take failed sound quiet d h = behind_takes s old new sound d h
-behind_does s old new (Wish editing) failed sound quiet d h =
-    behind_unless s old.server_stopped old new (CallsServer old (server_calls.wished editing) new) sound
-    (λ t. behind_asks s old new (server_calls.wished editing) tt sound t h) d h
-behind_does s old new (Resize width height) failed sound quiet d h =
-    behind_unless s old.client_stopped old new (CallsClient old (client_calls.resized width height) new) sound
-    (λ t. gone_silent s old new failed (call_goes_on old.client t.accepted)) d h
-behind_does s old new (SetChar func value) failed sound quiet d h = absurd quiet
-behind_does s old new (Propose func value) failed sound quiet d h = absurd quiet
-behind_does s old new (Echo on) failed sound quiet d h = behind_unless s old.server_stopped old new (CallsServer old (server_calls.echo_set on) new) sound
-    (λ t. behind_asks s old new (server_calls.echo_set on) tt sound t h) d h
-behind_does s old new (Mask mask) failed sound quiet d h = behind_unless s old.server_stopped old new
-    (CallsServer old (server_calls.mask_set mask) new) sound (λ t. behind_asks s old new (server_calls.mask_set mask) tt sound t h) d h
-behind_does s old new ServerStops failed sound quiet d h =
-    behind_as s old new (ap (λ (w : World). w.server) d) (ap (λ (w : World). w.to_server) d) (ap (λ (w : World). w.typed) d)
-    (ap (λ (w : World). w.taken) d) sound h
-behind_does s old new ClientStops failed sound quiet d h =
-    behind_as s old new (ap (λ (w : World). w.server) d) (ap (λ (w : World). w.to_server) d) (ap (λ (w : World). w.typed) d)
-    (ap (λ (w : World). w.taken) d) sound h
+behind_done : (s : Canon) (old new : World) (e : Event) → old.client.failed ≡ true → HasPast new → IsQuietEvent old e → Done old e new → IsBehind s old
+    → IsBehind s new
+behind_done s old new e failed sound quiet (unmoved is) h = subst (λ w. IsBehind s w) (sym is) h
+behind_done s old new e failed sound quiet (types key t) h = gone_silent s old new failed (call_goes_on old.client t.accepted)
+behind_done s old new e failed sound quiet (enters t) h = gone_silent s old new failed (call_goes_on old.client t.accepted)
+behind_done s old new e failed sound quiet (sends command is t) h = gone_silent s old new failed (call_goes_on old.client t.accepted)
+behind_done s old new e failed sound quiet (resizes width height t) h = gone_silent s old new failed (call_goes_on old.client t.accepted)
+behind_done s old new e failed sound quiet (proposes func value is t) h = absurd (subst (IsQuietEvent old) is quiet)
+behind_done s old new e failed sound quiet (reaches n t) h = behind_reaches s old new n sound t h
+behind_done s old new e failed sound quiet (returns n is t) h = gone_silent s old new failed (call_goes_on old.client t.accepted)
+behind_done s old new e failed sound quiet (asks call is plain adds t) h = behind_asks s old new call (plain quiet) sound t h
+behind_done s old new e failed sound quiet (takes t) h = behind_takes s old new sound t h
+behind_done s old new e failed sound quiet (stops a b is) h = behind_as s old new (ap (λ (w : World). w.server) is) (ap (λ (w : World). w.to_server) is)
+    (ap (λ (w : World). w.typed) is) (ap (λ (w : World). w.taken) is) sound h
 
 -- EACH EVENT, once the server has failed: no entry is made any more
 begins_as : (s : Canon) (old new : World) → entries_made new ≡ entries_made old → new.typed ≡ old.typed → Begins s old → Begins s new
 begins_as s old new a b p =
     subst (λ (es : List Entry). IsPrefixOf es (local_entries s new.typed)) (sym a)
     (subst (λ (keys : List ℕ). IsPrefixOf (entries_made old) (local_entries s keys)) (sym b) p)
-
-begins_unless : (s : Canon) (stopped : Bool) (old new : World) (happens : Type 0) → (happens → Begins s new) → UnlessStopped stopped old new happens
-    → Begins s old → Begins s new
-begins_unless s true old new happens done is p = subst (λ w. Begins s w) (sym is) p
-begins_unless s false old new happens done is p = done is
 
 begins_types : (s : Canon) (old new : World) (e : client_calls.Event) (key : ℕ) → Types old e key new → Begins s old → Begins s new
 begins_types s old new e key t p =
@@ -350,38 +316,19 @@ begins_takes s old new sound t p =
     (ap (λ (w : World). w.taken ++ w.server.terminal.entries) t ∙ taken-waits s (server_core old.server) old.taken [])
     (ap (λ (w : World). w.typed) t) p
 
-begins_does : (s : Canon) (old new : World) (e : Event) → old.server.failed ≡ true → HasPast old → IsQuietEvent old e → RunsEvent old e new → Begins s old
+begins_done : (s : Canon) (old new : World) (e : Event) → old.server.failed ≡ true → HasPast old → IsQuietEvent old e → Done old e new → Begins s old
     → Begins s new
-begins_does s old new (Key key) failed sound quiet d p = begins_unless s old.client_stopped old new (TypesKey old key new)
-    (λ t. begins_types s old new (client_calls.typed key) key t p) d p
-begins_does s old new NewLine failed sound quiet d p = begins_unless s old.client_stopped old new (EntersLine old new)
-    (λ t. begins_types s old new client_calls.entered lf t p) d p
-begins_does s old new (Send command) failed sound quiet d p = begins_unless s old.client_stopped old new (SendsCommand old command new)
-    (λ t. begins_sends s old new command t p) d p
-begins_does s old new (ToServer n) failed sound quiet d p =
-    begins_unless s old.server_stopped old new (DeliversToServer old n new)
-    (λ t. opposite old.server.failed (Begins s new) failed (server_goes_on old.server t.accepted)) d p
-begins_does s old new (ToClient n) failed sound quiet d p =
-    begins_unless s old.client_stopped old new (DeliversToClient old n new)
-    (λ t. begins_as s old new (ap entries_made t.rest) (ap (λ (w : World). w.typed) t.rest) p) d p
-begins_does s old new (Write bytes) failed sound quiet d p = begins_unless s old.server_stopped old new (CallsServer old (server_calls.wrote bytes) new)
-    (λ t. begins_asks s old new (server_calls.wrote bytes) tt sound t p) d p
-begins_does s old new (Pull n) failed sound quiet d p = begins_unless s old.server_stopped old new (Pulls old n new)
-    (λ q. begins_asks s old new (server_calls.pulled (min n (length old.server.terminal.queue))) tt sound q p) d p
-begins_does s old new Take failed sound quiet d p = begins_takes s old new sound d p
-begins_does s old new (Wish editing) failed sound quiet d p = begins_unless s old.server_stopped old new (CallsServer old (server_calls.wished editing) new)
-    (λ t. begins_asks s old new (server_calls.wished editing) tt sound t p) d p
-begins_does s old new (Resize width height) failed sound quiet d p =
-    begins_unless s old.client_stopped old new (CallsClient old (client_calls.resized width height) new)
-    (λ t. begins_as s old new (ap entries_made t.step) (ap (λ (w : World). w.typed) t.step) p) d p
-begins_does s old new (SetChar func value) failed sound quiet d p = absurd quiet
-begins_does s old new (Propose func value) failed sound quiet d p = absurd quiet
-begins_does s old new (Echo on) failed sound quiet d p = begins_unless s old.server_stopped old new (CallsServer old (server_calls.echo_set on) new)
-    (λ t. begins_asks s old new (server_calls.echo_set on) tt sound t p) d p
-begins_does s old new (Mask mask) failed sound quiet d p = begins_unless s old.server_stopped old new (CallsServer old (server_calls.mask_set mask) new)
-    (λ t. begins_asks s old new (server_calls.mask_set mask) tt sound t p) d p
-begins_does s old new ServerStops failed sound quiet d p = begins_as s old new (ap entries_made d) (ap (λ (w : World). w.typed) d) p
-begins_does s old new ClientStops failed sound quiet d p = begins_as s old new (ap entries_made d) (ap (λ (w : World). w.typed) d) p
+begins_done s old new e failed sound quiet (unmoved is) p = subst (λ w. Begins s w) (sym is) p
+begins_done s old new e failed sound quiet (types key t) p = begins_types s old new (client_calls.typed key) key t p
+begins_done s old new e failed sound quiet (enters t) p = begins_types s old new client_calls.entered lf t p
+begins_done s old new e failed sound quiet (sends command is t) p = begins_sends s old new command t p
+begins_done s old new e failed sound quiet (resizes width height t) p = begins_as s old new (ap entries_made t.step) (ap (λ (w : World). w.typed) t.step) p
+begins_done s old new e failed sound quiet (proposes func value is t) p = absurd (subst (IsQuietEvent old) is quiet)
+begins_done s old new e failed sound quiet (reaches n t) p = opposite old.server.failed (Begins s new) failed (server_goes_on old.server t.accepted)
+begins_done s old new e failed sound quiet (returns n is t) p = begins_as s old new (ap entries_made t.rest) (ap (λ (w : World). w.typed) t.rest) p
+begins_done s old new e failed sound quiet (asks call is plain adds t) p = begins_asks s old new call (plain quiet) sound t p
+begins_done s old new e failed sound quiet (takes t) p = begins_takes s old new sound t p
+begins_done s old new e failed sound quiet (stops a b is) p = begins_as s old new (ap entries_made is) (ap (λ (w : World). w.typed) is) p
 
 -- HOW FAR THE RELATION HOLDS
 pub data Stage (s : Canon) (w : World) : Type 0 where
@@ -400,10 +347,10 @@ stage_does s old new e quiet d (both none h) =
     both (same.0 ∙ none.0, same.1 ∙ none.1) (holds_does s old new e (sound_does old new e d h.past) quiet d h)
 stage_does s old new e quiet d (silent runs failed h) =
     let same = does_keeps old new e d in
-    silent (same.0 ∙ runs) (same.1 ∙ failed) (behind_does s old new e failed (sound_does old new e d h.past) quiet d h)
+    silent (same.0 ∙ runs) (same.1 ∙ failed) (behind_done s old new e failed (sound_does old new e d h.past) quiet (done_of old new e d) h)
 stage_does s old new e quiet d (over failed sound p) =
     let same = does_keeps old new e d in
-    over (same.0 ∙ failed) (sound_does old new e d sound) (begins_does s old new e failed sound quiet d p)
+    over (same.0 ∙ failed) (sound_does old new e d sound) (begins_done s old new e failed sound quiet (done_of old new e d) p)
 
 -- the server is refused a delivery
 stage_halts : (s : Canon) (old new : World) (n : ℕ) (fault : ServerFault) → ServerRefusesDelivery old n fault new → Stage s old → Stage s new

@@ -1,5 +1,5 @@
 -- From a settled moment at rest the relation of the ends holds after every quiet list of events at which no end failed.
-use Rattle.std.proofs.Common.{◌≡◌, inl, inr, ℕ, Bool, true, false, Option, Some, None, List, [], ◌∷◌, ◌++◌, length, min, take, drop, flat_map, refl, sym, ap, ◌∙◌, subst}
+use Rattle.std.proofs.Common.{◌≡◌, inl, inr, ℕ, Bool, Option, Some, None, List, [], ◌∷◌, ◌++◌, take, drop, flat_map, refl, sym, ap, ◌∙◌, subst}
 use Rattle.std.proofs.Common.{append-nil}
 use Rattle.std.specs.Prelude.{All, option_to_list}
 use Rattle.std.proofs.lemmas.List.Elements.{All-nil, All-cons}
@@ -19,13 +19,12 @@ use Rattle.tn_nvt.specs.declared.items.Item.TheVariants.{Cmd}
 use Rattle.tn_server.specs.Calls as server
 use Rattle.tn_server.specs.Events as server_calls
 use Rattle.tn_server.specs.Steps.{end_after as end_there, says as says_there, end_after_items as end_all_there, says_items as says_all_there}
-use Rattle.tn_server.proofs.lemmas.Gathering.{call_keeps, items_keep}
+use Rattle.tn_server.proofs.lemmas.Gathering.{call_keeps}
 use Rattle.tn_client.specs.Events as client_calls
 use Rattle.tn_client.specs.Replies.{command_sent}
-use Rattle.tn_client.proofs.lemmas.Standings.{fed_failed}
-use Rattle.tn_client.proofs.lemmas.Courses as client_on
 use Rattle.tn_client.specs.declared.commands.UserCommand.{UserCommand}
 use Rattle.tn_client.specs.declared.commands.UserCommand.TheVariants as user
+use Rattle.tn_world.proofs.Happening.{Done, unmoved, types, enters, sends, resizes, proposes, reaches, returns, asks, takes, stops, done_of, FailsNone, does_keeps}
 use Rattle.tn_world.proofs.Interrupting.{interrupts_there}
 use Rattle.tn_world.specs.Past.{HasPast}
 use Rattle.tn_world.specs.Headline.{RunsQuietly, IsQuietEvent, PassesQuietly, NoneFailed}
@@ -33,11 +32,10 @@ use Rattle.tn_world.specs.relation.Calm.{IsCalmToClient}
 use Rattle.tn_world.specs.relation.Ends.{SaysItems}
 use Rattle.tn_world.specs.Flight.{InFlight}
 use Rattle.tn_world.specs.relation.Pictures.{server_core, ServerStays}
-use Rattle.tn_world.specs.Worlds.{World, canon_of, UnlessStopped, TypesKey, EntersLine, key_sent, SendsCommand, CallsClient, DeliversToServer, DeliversToClient}
-use Rattle.tn_world.specs.Worlds.{CallsServer, Pulls, TakesEntry, RunsEvent, Refuses}
+use Rattle.tn_world.specs.Worlds.{World, canon_of, TypesKey, EntersLine, key_sent, SendsCommand, CallsClient, DeliversToServer, DeliversToClient}
+use Rattle.tn_world.specs.Worlds.{CallsServer, TakesEntry, RunsEvent, Refuses}
 use Rattle.tn_world.specs.declared.events.Event.{Event}
-use Rattle.tn_world.specs.declared.events.Event.TheVariants.{Key, NewLine, Send, ToServer, ToClient, Write, Pull, Take, Wish, Resize, SetChar, Propose, Echo, Mask}
-use Rattle.tn_world.specs.declared.events.Event.TheVariants.{ServerStops, ClientStops}
+use Rattle.tn_world.specs.declared.events.Event.TheVariants.{Send}
 use Rattle.tn_world.specs.declared.faults.Cause.{Cause}
 use Rattle.tn_world.proofs.ClientSteps as client_steps
 use Rattle.tn_world.proofs.ClientSteps.{key_said, line_said, items-come, resized-writes}
@@ -205,11 +203,6 @@ holds_returns s old new n sound t h =
 holds_as : (s : Canon) (old new : World) → new ≡ old → IsRelated s old → IsRelated s new
 holds_as s old new is h = subst (λ w. IsRelated s w) (sym is) h
 
-unless : (s : Canon) (stopped : Bool) (old new : World) (happens : Type 0) → (happens → IsRelated s old → IsRelated s new)
-    → UnlessStopped stopped old new happens → IsRelated s old → IsRelated s new
-unless s true old new happens done is h = holds_as s old new is h
-unless s false old new happens done is h = done is h
-
 -- an end that stops changes nothing of it
 holds_stops : (s : Canon) (old new : World) (a b : Bool) → new ≡ record old { server_stopped = a; client_stopped = b } → HasPast new → IsRelated s old
     → IsRelated s new
@@ -218,86 +211,21 @@ holds_stops s old new a b is sound h =
     (λ past. record { items = h.items; flight = h.flight; messages = h.messages; back = h.back; tied = h.tied; past = past }) sound
 
 -- an event that is done
-pub holds_does : (s : Canon) (old new : World) (e : Event) → HasPast new → IsQuietEvent old e → RunsEvent old e new → IsRelated s old
-    → IsRelated s new
-holds_does s old new (Key key) sound quiet d h = unless s old.client_stopped old new (TypesKey old key new) (holds_types s old new key sound) d h
-holds_does s old new NewLine sound quiet d h = unless s old.client_stopped old new (EntersLine old new) (holds_enters s old new sound) d h
-holds_does s old new (Send command) sound quiet d h = unless s old.client_stopped old new (SendsCommand old command new)
-    (holds_sends s old new command sound quiet) d h
-holds_does s old new (ToServer n) sound quiet d h = unless s old.server_stopped old new (DeliversToServer old n new)
-    (holds_reaches s old new n sound) d h
-holds_does s old new (ToClient n) sound quiet d h = unless s old.client_stopped old new (DeliversToClient old n new)
-    (holds_returns s old new n sound) d h
-holds_does s old new (Write bytes) sound quiet d h = unless s old.server_stopped old new (CallsServer old (server_calls.wrote bytes) new)
-    (holds_asks s old new (server_calls.wrote bytes) tt sound) d h
-holds_does s old new (Pull n) sound quiet d h =
-    unless s old.server_stopped old new (Pulls old n new) (holds_asks s old new (server_calls.pulled (min n (length old.server.terminal.queue))) tt sound) d h
-holds_does s old new Take sound quiet d h = holds_takes s old new sound d h
-holds_does s old new (Wish editing) sound quiet d h = unless s old.server_stopped old new (CallsServer old (server_calls.wished editing) new)
-    (holds_asks s old new (server_calls.wished editing) tt sound) d h
-holds_does s old new (Resize width height) sound quiet d h =
-    unless s old.client_stopped old new (CallsClient old (client_calls.resized width height) new) (holds_resizes s old new width height sound) d h
-holds_does s old new (SetChar func value) sound quiet d h = absurd (quiet)
-holds_does s old new (Propose func value) sound quiet d h = absurd (quiet)
-holds_does s old new (Echo on) sound quiet d h = unless s old.server_stopped old new (CallsServer old (server_calls.echo_set on) new)
-    (holds_asks s old new (server_calls.echo_set on) tt sound) d h
-holds_does s old new (Mask mask) sound quiet d h = unless s old.server_stopped old new (CallsServer old (server_calls.mask_set mask) new)
-    (holds_asks s old new (server_calls.mask_set mask) tt sound) d h
-holds_does s old new ServerStops sound quiet d h = holds_stops s old new true old.client_stopped d sound h
-holds_does s old new ClientStops sound quiet d h = holds_stops s old new old.server_stopped true d sound h
+holds_done : (s : Canon) (old new : World) (e : Event) → HasPast new → IsQuietEvent old e → Done old e new → IsRelated s old → IsRelated s new
+holds_done s old new e sound quiet (unmoved is) h = holds_as s old new is h
+holds_done s old new e sound quiet (types key t) h = holds_types s old new key sound t h
+holds_done s old new e sound quiet (enters t) h = holds_enters s old new sound t h
+holds_done s old new e sound quiet (sends command is t) h = holds_sends s old new command sound (subst (IsQuietEvent old) is quiet) t h
+holds_done s old new e sound quiet (resizes width height t) h = holds_resizes s old new width height sound t h
+holds_done s old new e sound quiet (proposes func value is t) h = absurd (subst (IsQuietEvent old) is quiet)
+holds_done s old new e sound quiet (reaches n t) h = holds_reaches s old new n sound t h
+holds_done s old new e sound quiet (returns n is t) h = holds_returns s old new n sound t h
+holds_done s old new e sound quiet (asks call is plain adds t) h = holds_asks s old new call (plain quiet) sound t h
+holds_done s old new e sound quiet (takes t) h = holds_takes s old new sound t h
+holds_done s old new e sound quiet (stops a b is) h = holds_stops s old new a b is sound h
 
--- An event that is done fails no end, so that no end had failed before where none has now.
-abbrev pub FailsNone : World → World → Type 0
-FailsNone old new = (new.server.failed ≡ old.server.failed) × (new.client.failed ≡ old.client.failed)
-
-as_before : (old new : World) → new ≡ old → FailsNone old new
-as_before old new is = (ap (λ (w : World). w.server.failed) is, ap (λ (w : World). w.client.failed) is)
-
-unless_keeps : (stopped : Bool) (old new : World) (happens : Type 0) → (happens → FailsNone old new) → UnlessStopped stopped old new happens → FailsNone old new
-unless_keeps true old new happens done is = as_before old new is
-unless_keeps false old new happens done is = done is
-
-asks_keeps : (old new : World) (e : server_calls.Event) → CallsServer old e new → FailsNone old new
-asks_keeps old new e t = (
-  ap (λ (w : World). w.server.failed) t.step ∙ ap (λ (x : server.End). x.failed) (call_keeps old.server e),
-  ap (λ (w : World). w.client.failed) t.step,
-)
-
-tells_keeps : (old new : World) (e : client_calls.Event) → CallsClient old e new → FailsNone old new
-tells_keeps old new e t = (ap (λ (w : World). w.server.failed) t.step, ap (λ (w : World). w.client.failed) t.step ∙ client_on.call_failed old.client e)
-
-pub does_keeps : (old new : World) (e : Event) → RunsEvent old e new → FailsNone old new
-does_keeps old new (Key key) d = unless_keeps old.client_stopped old new (TypesKey old key new)
-    (λ t. (ap (λ (w : World). w.server.failed) t.step, ap (λ (w : World). w.client.failed) t.step)) d
-does_keeps old new NewLine d = unless_keeps old.client_stopped old new (EntersLine old new)
-    (λ t. (ap (λ (w : World). w.server.failed) t.step, ap (λ (w : World). w.client.failed) t.step)) d
-does_keeps old new (Send command) d = unless_keeps old.client_stopped old new (SendsCommand old command new)
-    (λ t. (ap (λ (w : World). w.server.failed) t.step, ap (λ (w : World). w.client.failed) t.step)) d
-does_keeps old new (ToServer n) d = unless_keeps old.server_stopped old new (DeliversToServer old n new)
-    (λ t. (
-      ap (λ (x : server.End). x.failed) (t.feeds.step ∙ ap (λ (x : server.End). record x { decoder = new.server.decoder }) (items_keep old.server t.feeds.items)),
-      ap (λ (w : World). w.client.failed) t.rest,
-    )) d
-does_keeps old new (ToClient n) d = unless_keeps old.client_stopped old new (DeliversToClient old n new)
-    (λ t. (ap (λ (w : World). w.server.failed) t.rest, fed_failed old.client new.client _ _ _ _ _ t.feeds)) d
-does_keeps old new (Write bytes) d = unless_keeps old.server_stopped old new (CallsServer old (server_calls.wrote bytes) new)
-    (asks_keeps old new (server_calls.wrote bytes)) d
-does_keeps old new (Pull n) d = unless_keeps old.server_stopped old new (Pulls old n new) (asks_keeps old new (server_calls.pulled (min n (length old.server.terminal.queue)))) d
-does_keeps old new Take d = (ap (λ (w : World). w.server.failed) d, ap (λ (w : World). w.client.failed) d)
-does_keeps old new (Wish editing) d = unless_keeps old.server_stopped old new (CallsServer old (server_calls.wished editing) new)
-    (asks_keeps old new (server_calls.wished editing)) d
-does_keeps old new (Resize width height) d = unless_keeps old.client_stopped old new (CallsClient old (client_calls.resized width height) new)
-    (tells_keeps old new (client_calls.resized width height)) d
-does_keeps old new (SetChar func value) d = unless_keeps old.server_stopped old new (CallsServer old (server_calls.char_set func value) new)
-    (asks_keeps old new (server_calls.char_set func value)) d
-does_keeps old new (Propose func value) d = unless_keeps old.client_stopped old new (CallsClient old (client_calls.proposed func value) new)
-    (tells_keeps old new (client_calls.proposed func value)) d
-does_keeps old new (Echo on) d = unless_keeps old.server_stopped old new (CallsServer old (server_calls.echo_set on) new)
-    (asks_keeps old new (server_calls.echo_set on)) d
-does_keeps old new (Mask mask) d = unless_keeps old.server_stopped old new (CallsServer old (server_calls.mask_set mask) new)
-    (asks_keeps old new (server_calls.mask_set mask)) d
-does_keeps old new ServerStops d = (ap (λ (w : World). w.server.failed) d, ap (λ (w : World). w.client.failed) d)
-does_keeps old new ClientStops d = (ap (λ (w : World). w.server.failed) d, ap (λ (w : World). w.client.failed) d)
+pub holds_does : (s : Canon) (old new : World) (e : Event) → HasPast new → IsQuietEvent old e → RunsEvent old e new → IsRelated s old → IsRelated s new
+holds_does s old new e sound quiet d h = holds_done s old new e sound quiet (done_of old new e d) h
 
 both_ran : (old new : World) → FailsNone old new → NoneFailed new → NoneFailed old
 both_ran old new same none = (sym same.0 ∙ none.0, sym same.1 ∙ none.1)
@@ -313,10 +241,10 @@ refused_same old new e c r none = unrefused old new e (refusal_of old new e c r)
 
 occurs_ran : (old new : World) (e : Event) → RunsQuietly old e new → NoneFailed new → NoneFailed old
 occurs_ran old new e (inl d) none = both_ran old new (does_keeps old new e d.1) none
-occurs_ran old new e (inr r) none = both_ran old new (as_before old new (refused_same old new e r.0 r.1 none)) none
+occurs_ran old new e (inr r) none = subst NoneFailed (refused_same old new e r.0 r.1 none) none
 
 pub passes_ran : (old new : World) (events : List Event) → PassesQuietly old events new → NoneFailed new → NoneFailed old
-passes_ran old new [] p none = both_ran old new (as_before old new p) none
+passes_ran old new [] p none = subst NoneFailed p none
 passes_ran old new (e ∷ events) p none = occurs_ran old p.0 e p.1 (passes_ran p.0 new events p.2 none)
 
 holds_occurs : (s : Canon) (old new : World) (e : Event) → NoneFailed new → RunsQuietly old e new → IsRelated s old → IsRelated s new

@@ -31,14 +31,8 @@ use Rattle.tn_world.proofs.Quieting.{IsWaiting, echo_due, heard_by, waits_on, Is
 
 -- NO WISH
 wish_none : (p : Option Payload) → IsNoWish p → wish_in p ≡ None
-wish_none None h = refl
 wish_none (Some (payload.Mode mask)) h = ap (λ (b : Bool). editing_of (if b then None else Some (edits mask))) h
-wish_none (Some (payload.Naws width height)) h = refl
-wish_none (Some (payload.ForwardOn mask)) h = refl
-wish_none (Some payload.ForwardOff) h = refl
-wish_none (Some payload.ForwardYes) h = refl
-wish_none (Some payload.ForwardNo) h = refl
-wish_none (Some (payload.Slc triples)) h = refl
+wish_none _ h = refl
 
 wish_if : (b : Bool) (p : Option Payload) → IsNoWish p → wish_in (if b then p else None) ≡ None
 wish_if true p h = wish_none p h
@@ -46,10 +40,7 @@ wish_if false p h = refl
 
 no_wish_at : (o : Options) (item : Item) → WishesNothing item → wish_at o (got item) ≡ None
 no_wish_at o (Sub option params) h = wish_if (is_yes (state_of o Them option) && nat_le (length params) 512) (payload_of option params) h
-no_wish_at o (Byte b) h = refl
-no_wish_at o Newline h = refl
-no_wish_at o (Cmd command) h = refl
-no_wish_at o (Neg verb option) h = refl
+no_wish_at o _ h = refl
 
 -- NO LIST but one that is answered by nothing
 abbrev pub IsNoList : Option Payload → Type 0
@@ -61,16 +52,10 @@ AsksNothing (Sub option params) = IsNoList (payload_of option params)
 AsksNothing _ = Unit {0}
 
 list_none : (c : Characters) (p : Option Payload) → IsNoList p → list_replies c p ≡ []
-list_none c None h = refl
 list_none c (Some (payload.Slc triples)) h =
     ap (λ (xs : List Triple). list_items xs ++ table_items (server_is_asked triples) (chars_after c (Some (payload.Slc triples)))) (h.0 c)
     ∙ ap (λ (b : Bool). table_items b (chars_after c (Some (payload.Slc triples)))) h.1
-list_none c (Some (payload.Mode mask)) h = refl
-list_none c (Some (payload.Naws width height)) h = refl
-list_none c (Some (payload.ForwardOn mask)) h = refl
-list_none c (Some payload.ForwardOff) h = refl
-list_none c (Some payload.ForwardYes) h = refl
-list_none c (Some payload.ForwardNo) h = refl
+list_none c _ h = refl
 
 list_if : (c : Characters) (b : Bool) (p : Option Payload) → IsNoList p → list_replies c (if b then p else None) ≡ []
 list_if c true p h = list_none c p h

@@ -3,22 +3,13 @@ use Rattle.std.proofs.Common.{◌≡◌, ℕ, Option, Some, None, refl, sym, ap,
 use Rattle.tn_discipline.specs.Keys.{role_of_key}
 use Rattle.tn_discipline.specs.declared.keys.Role.{Role}
 use Rattle.tn_discipline.specs.declared.keys.Role.TheVariants as role
-use Rattle.tn_discipline.specs.declared.reads.Sig.TheVariants.{Int, Quit, Tstp}
+use Rattle.tn_discipline.specs.declared.reads.Sig.TheVariants.{Int}
 use Rattle.tn_discipline.specs.declared.termios.Settings.{Settings}
 use Rattle.tn_world.specs.Commands.{key_if, interrupt_at}
 
 key_interrupts : (r : Role) (key k : ℕ) → key_if r key ≡ Some k → (r ≡ role.Signal Int) × (key ≡ k)
 key_interrupts (role.Signal Int) key k is = (refl, cc)
-key_interrupts (role.Signal Quit) key k is = absurd (cc)
-key_interrupts (role.Signal Tstp) key k is = absurd (cc)
-key_interrupts role.Ignored key k is = absurd (cc)
-key_interrupts role.Nl key k is = absurd (cc)
-key_interrupts (role.Eol byte) key k is = absurd (cc)
-key_interrupts (role.Eol2 byte) key k is = absurd (cc)
-key_interrupts role.Eof key k is = absurd (cc)
-key_interrupts role.Erase key k is = absurd (cc)
-key_interrupts role.Kill key k is = absurd (cc)
-key_interrupts (role.Ordinary byte) key k is = absurd (cc)
+key_interrupts _ key k is = absurd (cc)
 
 pub interrupts_there : (s : Settings) (intr : Option ℕ) (key : ℕ) → interrupt_at s intr ≡ Some key → role_of_key s key ≡ role.Signal Int
 interrupts_there s None key is = absurd (cc)

@@ -9,6 +9,7 @@ pub mod Engines
 pub mod Failing
 pub mod Following
 pub mod Hearing
+pub mod Happening
 pub mod Interrupting
 pub mod lemmas
 pub mod Marking

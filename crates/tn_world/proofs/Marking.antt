@@ -1,10 +1,10 @@
 -- At a settled moment at rest the relation of the ends holds.
-use Rattle.std.proofs.Common.{◌≡◌, inl, inr, ℕ, Bool, true, false, Some, None, List, [], refl, sym, ap, ◌∙◌, subst, if◌then◌else◌}
+use Rattle.std.proofs.Common.{◌≡◌, inl, inr, ℕ, Bool, true, false, List, [], refl, sym, ap, ◌∙◌, subst}
 use Rattle.std.proofs.lemmas.List.Elements.{All-nil}
 use Rattle.tn_discipline.specs.declared.reads.Entry.{Entry}
 use Rattle.tn_discipline.specs.Canon.{Canon}
 use Rattle.tn_discipline.specs.declared.termios.Settings.{Settings}
-use Rattle.tn_linemode.specs.Modes.{Modes, edits, mode_of}
+use Rattle.tn_linemode.specs.Modes.{Modes, edits}
 use Rattle.tn_option.specs.Options.{Options, agrees_to, is_yes, state_of}
 use Rattle.tn_option.specs.declared.q_method.Side.TheVariants.{Us, Them}
 use Rattle.tn_server.specs.Terms as terms
@@ -19,35 +19,11 @@ use Rattle.tn_world.specs.Worlds.{World}
 use Rattle.tn_world.proofs.Cut.{no_items}
 use Rattle.tn_world.proofs.Engines.{client_agrees}
 use Rattle.tn_world.proofs.Tied.{rest-agrees}
-use Rattle.tn_world.proofs.Wishes.{wish_allowed, stays_at}
+use Rattle.tn_world.proofs.Wishes.{wish_allowed, wish_asked, stays_at}
 use Rattle.tn_world.specs.relation.Relation.{Agrees, IsRelated, server_at}
 
-local_askable : (s : Settings) (isig allows : Bool) (wish : ℕ) → s.flags.isig ≡ isig → allows_local s.flags ≡ allows
-    → (if allows then Some (if isig then 3 else 1) else None) ≡ Some wish → IsAskable s (bits (mode_of wish))
-local_askable s true true wish a b e = inr (
-  b,
-  subst (λ (n : ℕ). bits (mode_of n) ≡ record { edit = true; trapsig = s.flags.isig }) (some_is 3 wish e)
-      (ap (λ t. record { edit = true; trapsig = t }) (sym a)),
-)
-  where
-    some_is : (m n : ℕ) → Some m ≡ Some n → m ≡ n
-    some_is m n e = cc
-local_askable s false true wish a b e = inr (
-  b,
-  subst (λ (n : ℕ). bits (mode_of n) ≡ record { edit = true; trapsig = s.flags.isig }) (some_is 1 wish e)
-      (ap (λ t. record { edit = true; trapsig = t }) (sym a)),
-)
-  where
-    some_is : (m n : ℕ) → Some m ≡ Some n → m ≡ n
-    some_is m n e = cc
-local_askable s isig false wish a b e = absurd (cc)
-
-askable_wish : (s : Settings) (wish : ℕ) → IsAllowed s.flags wish → IsAskable s (bits (mode_of wish))
-askable_wish s wish (inl is) = inl (ap (λ (n : ℕ). bits (mode_of n)) is)
-askable_wish s wish (inr is) = local_askable s s.flags.isig (allows_local s.flags) wish refl refl is
-
 askable_while : (s : Settings) (linemode : Bool) (wish : ℕ) → IsAllowed s.flags wish → IsAskable s (bits (asked_mask_while linemode wish))
-askable_while s true wish h = askable_wish s wish h
+askable_while s true wish h = (wish_asked s s.flags wish refl h).1
 askable_while s false wish h = inl refl
 
 -- the mask in force is one that the server may ask for

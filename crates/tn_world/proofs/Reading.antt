@@ -1,5 +1,5 @@
 -- What the server makes of items.
-use Rattle.std.proofs.Common.{◌≡◌, ◌≤◌, ◌<◌, ℕ, zero, suc, ◌+◌, ◌==◌, Bool, true, false, List, [], ◌∷◌, ◌++◌, length, take, refl, sym, ap, ◌∙◌, if◌then◌else◌}
+use Rattle.std.proofs.Common.{◌≡◌, ◌≤◌, ◌<◌, ℕ, zero, suc, ◌+◌, ◌==◌, nat_lt, Bool, true, false, List, [], ◌∷◌, ◌++◌, length, take, refl, sym, ap, ◌∙◌, if◌then◌else◌}
 use Rattle.std.proofs.Common.{arith, append-nil, append_assoc, length-append}
 use Rattle.std.specs.Prelude.{All}
 use Rattle.std.proofs.lemmas.List.Elements.{All-nil, All-cons, All-head, All-tail}
@@ -7,7 +7,12 @@ use Rattle.tn_discipline.specs.declared.reads.Entry.{Entry}
 use Rattle.tn_discipline.specs.Canon.{Canon, typed_entries, typed_half}
 use Rattle.tn_discipline.specs.Limits.{max_counted}
 use Rattle.tn_discipline.specs.Entries.{entries_of, half_of}
-use Rattle.tn_discipline.specs.Steps.{half_next, gain_next}
+use Rattle.tn_discipline.specs.HalfLine.{HalfLine, line_after, effect_entries}
+use Rattle.tn_discipline.specs.Steps.{front, half_next, gain_next}
+use Rattle.tn_discipline.specs.declared.half_line.Effect.{Effect}
+use Rattle.tn_discipline.specs.declared.half_line.Effect.TheVariants as effect
+use Rattle.tn_pty.specs.Typing.{gain_of}
+use Rattle.std.proofs.lemmas.Bool.{lt-ltb}
 use Rattle.tn_discipline.specs.Keys.{role_of_key, literal_role, roles_of, roles_from}
 use Rattle.tn_discipline.specs.Characters.{Characters}
 use Rattle.tn_discipline.specs.declared.termios.Settings.{Settings}
@@ -99,3 +104,37 @@ pub entries-typed : (s : Canon) (keys : List ℕ) (key : ℕ) → typed_entries 
     ++ gain_next s.limit (typed_half s keys) (role_of_key s.settings key)
 entries-typed s keys key = ap (entries_of s.limit) (typed_more s.settings keys key)
     ∙ entries-role s.limit (roles_of s.settings keys) (role_of_key s.settings key)
+
+-- a line of which nothing is ahead, after one more key
+plus_none : (n : ℕ) → 0 + n ≡ n
+plus_none n = omega arith
+
+held_if : (b : Bool) (one other : HalfLine) → (if◌then◌else◌ {A = HalfLine} b one other).held ≡ (if b then one.held else other.held)
+held_if true one other = refl
+held_if false one other = refl
+
+pub next_held : (held : List ℕ) (n : ℕ) (r : Role) → (line_after (record { held = held; ahead = 0; limit = n }) r).held ≡ half_next n held r
+next_held [] n role.Erase = refl
+next_held (x ∷ held) n role.Erase =
+    let one : HalfLine = record { held = front (x ∷ held); ahead = 0; limit = n } in
+    let other : HalfLine = record { held = []; ahead = 0; limit = n } in
+    ap (λ (b : Bool). (if◌then◌else◌ {A = HalfLine} b one other).held) (lt-ltb 0 (length (x ∷ held)) (omega arith))
+next_held held n (role.Ordinary byte) =
+    let one : HalfLine = record { held = held; ahead = 0; limit = n } in
+    let other : HalfLine = record { held = held ++ byte ∷ []; ahead = 0; limit = n } in
+    ap (λ (m : ℕ). (if◌then◌else◌ {A = HalfLine} (m == max_counted n) one other).held) (plus_none (length held)) ∙ held_if (length held == max_counted n) one other
+next_held held n _ = refl
+
+gives_none : (b : Bool) (one other : Effect) → effect_entries one ≡ [] → effect_entries other ≡ [] → effect_entries (if b then one else other) ≡ []
+gives_none true one other p q = p
+gives_none false one other p q = q
+
+none_if : (b : Bool) → ◌≡◌ {A = List Entry} [] (if◌then◌else◌ {A = List Entry} b [] [])
+none_if true = refl
+none_if false = refl
+
+pub next_gain : (held : List ℕ) (n : ℕ) (r : Role) → gain_of (record { held = held; ahead = 0; limit = n }) r ≡ gain_next n held r
+next_gain held n role.Erase = gives_none (nat_lt 0 (length held)) effect.Erased effect.Nothing refl refl
+next_gain held n (role.Ordinary byte) =
+    gives_none (0 + length held == max_counted n) effect.Dropped effect.Kept refl refl ∙ none_if (length held == max_counted n)
+next_gain held n _ = refl

@@ -1,6 +1,6 @@
 -- What a client says wishes for no mode, and what it says to an item is answered by nothing, unless it is an option
 -- word.
-use Rattle.std.proofs.Common.{◌≡◌, ℕ, zero, suc, arith, ◌<◌, ◌==◌, Bool, true, false, not, ◌&&◌, ◌||◌, Option, Some, None, List, [], ◌∷◌, refl, sym, subst}
+use Rattle.std.proofs.Common.{◌≡◌, ℕ, suc, arith, ◌<◌, ◌==◌, Bool, true, false, not, ◌&&◌, ◌||◌, Option, Some, None, List, [], ◌∷◌, refl, sym, subst}
 use Rattle.std.proofs.Common.{if◌then◌else◌}
 use Rattle.std.specs.Prelude.{All, bit_or}
 use Rattle.std.proofs.lemmas.List.Elements.{All-nil, All-cons, All-append}
@@ -37,11 +37,8 @@ pub small : (mask : ℕ) → mode_of mask < 4
 small mask = omega (arith, and_mask mask 2)
 
 pub is-ack : (n : ℕ) → n < 4 → is_acknowledged (bit_or n 4) ≡ true
-is-ack zero h = refl
-is-ack (suc zero) h = refl
-is-ack (suc (suc zero)) h = refl
-is-ack (suc (suc (suc zero))) h = refl
 is-ack (suc (suc (suc (suc n)))) h = absurd (omega arith)
+is-ack _ h = refl
 
 -- WHATEVER HOLDS OF BYTES, NEW LINES AND COMMANDS holds of what a key makes the client say
 module _ (P : Item → Type 0) (byte : (b : ℕ) → P (Byte b)) (newline : P Newline) (command : (c : Command) → P (Cmd c)) where
@@ -68,8 +65,7 @@ module _ (P : Item → Type 0) (byte : (b : ℕ) → P (Byte b)) (newline : P Ne
   edited_all (role.Signal sig) l = command_all (command_of (role.Signal sig))
   edited_all role.Erase l = if_all (not (has_held l) && has_ahead l) (command_items (command_of role.Erase)) (command_all (command_of role.Erase))
   edited_all role.Kill l = if_all (has_ahead l) (command_items (command_of role.Kill)) (command_all (command_of role.Kill))
-  edited_all role.Ignored l = All-nil P
-  edited_all (role.Ordinary b) l = All-nil P
+  edited_all _ l = All-nil P
 
   as_all : (is_line : Bool) (key : ℕ) → All P (sent_as is_line key ∷ [])
   as_all true key = one_all Newline newline
@@ -77,14 +73,7 @@ module _ (P : Item → Type 0) (byte : (b : ℕ) → P (Byte b)) (newline : P Ne
 
   raw_all : (r : Role) (is_line : Bool) (key : ℕ) → All P (raw_items r (sent_as is_line key))
   raw_all (role.Signal sig) is_line key = command_all (command_of (role.Signal sig))
-  raw_all role.Nl is_line key = as_all is_line key
-  raw_all (role.Eol b) is_line key = as_all is_line key
-  raw_all (role.Eol2 b) is_line key = as_all is_line key
-  raw_all role.Eof is_line key = as_all is_line key
-  raw_all role.Erase is_line key = as_all is_line key
-  raw_all role.Kill is_line key = as_all is_line key
-  raw_all role.Ignored is_line key = as_all is_line key
-  raw_all (role.Ordinary b) is_line key = as_all is_line key
+  raw_all _ is_line key = as_all is_line key
 
   ahead_all : (sends : Bool) (l : HalfLine) → All P (sent_ahead_items sends l)
   ahead_all true l = bytes_all l.held
@@ -118,23 +107,18 @@ module _ (P : Item → Type 0) (byte : (b : ℕ) → P (Byte b)) (newline : P Ne
   listed (t ∷ ts) p = one_all P byte newline command (Sub 34 (parameters_of (payload.Slc (t ∷ ts)))) p
 
   payload_all : (m : ℕ) (c : Characters) (p : Option Payload) → All P (payload_answers m c p)
-  payload_all m c None = All-nil P
   payload_all m c (Some (payload.Mode mask)) = mode_if (is_acknowledged mask || mode_of mask == m) (mode_of mask) (small mask)
   payload_all m c (Some (payload.ForwardOn mask)) = one_all P byte newline command (Sub 34 (parameters_of payload.ForwardYes)) yes
   payload_all m c (Some payload.ForwardOff) = one_all P byte newline command (Sub 34 (parameters_of payload.ForwardNo)) no
   payload_all m c (Some (payload.Slc triples)) = listed (client_answers c triples) (list c triples)
-  payload_all m c (Some payload.ForwardYes) = All-nil P
-  payload_all m c (Some payload.ForwardNo) = All-nil P
-  payload_all m c (Some (payload.Naws width height)) = All-nil P
+  payload_all m c _ = All-nil P
 
   answer_all : (o : Options) (m : ℕ) (c : Characters) (z : ℕ × ℕ) (item : Item) → All P (answer_items o m c z item)
   answer_all o m c z (Neg verb option) =
       All-append P (word_items (reply_to o verb option)) (new_size_items (tells_size o) (tells_size (options_after o (Neg verb option))) z)
       (word_all (reply_to o verb option)) (if_all P byte newline command (tells_size (options_after o (Neg verb option)) && not (tells_size o)) (size_items z) (size_all z))
   answer_all o m c z (Sub option params) = payload_all m c (payload_at o (Sub option params))
-  answer_all o m c z (Byte b) = All-nil P
-  answer_all o m c z Newline = All-nil P
-  answer_all o m c z (Cmd command) = All-nil P
+  answer_all o m c z _ = All-nil P
 
   ending_all : (before after : Bool) (bytes : List ℕ) → All P (end_of_edit_items before after bytes)
   ending_all true false bytes = bytes_all P byte newline command bytes

@@ -84,21 +84,18 @@ mode_got_none old None = refl
 mode_got_none old (Some edit) = wished_none old (mask_wished old edit)
 
 sub_none : (old : End) (p : Option Payload) → text_of (says_sub old p) ≡ []
-sub_none old None = refl
 sub_none old (Some (payload.Mode mask)) = mode_got_none old (wish_of_mask mask)
 sub_none old (Some (payload.Slc triples)) =
     both_none (list_items (server_answers old.table triples)) (table_items (server_is_asked triples) (chars_after old.table (Some (payload.Slc triples))))
     (listed_none (server_answers old.table triples)) (table_none (server_is_asked triples) (chars_after old.table (Some (payload.Slc triples))))
-sub_none old (Some p) = refl
+sub_none old _ = refl
 
 item_none : (old : End) (item : Item) → text_of (says_item old item) ≡ []
-item_none old (Byte byte) = refl
-item_none old Newline = refl
-item_none old (Cmd command) = refl
 item_none old (Neg verb option) =
     both_none (word_items (reply_to old.terms.options verb option)) _ (word_none (reply_to old.terms.options verb option))
     (negotiated_none (linemode old.terms.options) false old.terminal.settings.flags old.table (negotiation_heard old verb option))
 item_none old (Sub option params) = sub_none old (payload_at old.terms.options (Sub option params))
+item_none old _ = refl
 
 triple_none : (told : Bool) (func : Func) (value : Option ℕ) → text_of (triple_items told func value) ≡ []
 triple_none true func value = listed_none (triple_of func value ∷ [])
@@ -162,11 +159,8 @@ mode_queue old mask None = refl
 mode_queue old mask (Some edit) = wished_queue old (mask_wished old edit)
 
 sub_queue : (old : End) (p : Option Payload) → (end_after_payload old p).terminal.queue ≡ old.terminal.queue
-sub_queue old None = refl
 sub_queue old (Some (payload.Mode mask)) = mode_queue old mask (wish_of_mask mask)
-sub_queue old (Some (payload.Naws width height)) = refl
-sub_queue old (Some (payload.Slc triples)) = refl
-sub_queue old (Some p) = refl
+sub_queue old _ = refl
 
 -- nothing may join it too
 as_it_was : (old new : List Symbol) → new ≡ old → (more : List Symbol) × (new ≡ old ++ more)
@@ -189,13 +183,10 @@ item_grows old (Sub option params) = as_it_was old.terminal.queue _ (sub_queue o
 
 pub queue_grows : (old : End) (e : Event) → IsUnpulled e → (more : List Symbol) × ((end_after old e).terminal.queue ≡ old.terminal.queue ++ more)
 queue_grows old (got item) is = item_grows old item
-queue_grows old took is = as_it_was old.terminal.queue _ refl
 queue_grows old (wrote bytes) is = (output_symbols old.terminal.settings.flags (take (fitting_count old.terminal.queue bytes) bytes), refl)
 queue_grows old (pulled n) is = absurd is
 queue_grows old (wished editing) is = as_it_was old.terminal.queue _ (wished_queue old (mask_for old.terminal.settings.flags editing))
-queue_grows old (char_set func value) is = as_it_was old.terminal.queue _ refl
-queue_grows old (echo_set on) is = as_it_was old.terminal.queue _ refl
-queue_grows old (mask_set mask) is = as_it_was old.terminal.queue _ refl
+queue_grows old _ is = as_it_was old.terminal.queue _ refl
 
 pub items_grow : (old : End) (items : List Item) → (more : List Symbol) × ((end_after_items old items).terminal.queue ≡ old.terminal.queue ++ more)
 items_grow old [] = as_it_was old.terminal.queue _ refl

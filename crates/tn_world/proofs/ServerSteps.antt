@@ -1,8 +1,7 @@
 -- What a server end does after a mark: with items that are calm, and with its owner's calls.
-use Rattle.std.proofs.Common.{◌≡◌, ◌≤◌, inl, inr, ℕ, ◌+◌, ◌==◌, nat_lt, nat_le, Bool, true, false, not, ◌&&◌, ◌||◌, Option, Some, None, Result, Ok, Err, List, []}
+use Rattle.std.proofs.Common.{◌≡◌, ◌≤◌, inl, inr, ℕ, ◌==◌, nat_le, Bool, true, false, not, ◌&&◌, ◌||◌, Option, Some, None, List, []}
 use Rattle.std.proofs.Common.{◌∷◌, ◌++◌, length, take, map, refl, sym, ap, ◌∙◌, if◌then◌else◌, subst, arith, append-nil}
 use Rattle.std.specs.Prelude.{All}
-use Rattle.std.proofs.lemmas.Bool.{lt-ltb}
 use Rattle.std.proofs.lemmas.Bool.Decides.{nat_tests}
 use Rattle.std.proofs.lemmas.List.Elements.{All-nil, All-cons, All-head, All-tail, All-append}
 use Rattle.std.proofs.lemmas.Nat.{and_assoc}
@@ -11,119 +10,49 @@ use Rattle.tn_codes.specs.PayloadOf.{payload_of}
 use Rattle.tn_codes.specs.declared.codes.Command.TheVariants.{Ga}
 use Rattle.tn_codes.specs.declared.codes.Verb.{Verb}
 use Rattle.tn_codes.specs.declared.codes.Verb.TheVariants.{Will}
-use Rattle.tn_codes.specs.declared.masks.Mask.{Mask}
 use Rattle.tn_codes.specs.declared.payloads.Payload.{Payload}
 use Rattle.tn_codes.specs.declared.payloads.Payload.TheVariants as payload
 use Rattle.tn_codes.proofs.lemmas.Telling.{says as says_of}
 use Rattle.tn_discipline.specs.Canon.{Canon}
 use Rattle.tn_discipline.specs.Characters.{Characters, standard_characters}
-use Rattle.tn_discipline.specs.HalfLine.{HalfLine, line_after, effect_entries}
-use Rattle.tn_discipline.specs.Limits.{max_counted}
-use Rattle.tn_discipline.specs.Steps.{front, half_next, gain_next}
+use Rattle.tn_discipline.specs.HalfLine.{HalfLine, line_after}
+use Rattle.tn_discipline.specs.Steps.{half_next, gain_next}
 use Rattle.tn_discipline.specs.declared.echo.Symbol.{Symbol}
 use Rattle.tn_discipline.specs.declared.echo.Symbol.TheVariants as symbol
-use Rattle.tn_discipline.specs.declared.half_line.Effect.{Effect}
-use Rattle.tn_discipline.specs.declared.half_line.Effect.TheVariants as effect
 use Rattle.tn_discipline.specs.declared.keys.Role.{Role}
-use Rattle.tn_discipline.specs.declared.keys.Role.TheVariants as role
 use Rattle.tn_discipline.specs.declared.reads.Entry.{Entry}
 use Rattle.tn_discipline.specs.declared.termios.Flags.{Flags}
 use Rattle.tn_discipline.specs.declared.termios.Settings.{Settings}
 use Rattle.tn_discipline.proofs.lemmas.Lines.{advances}
 use Rattle.tn_linemode.specs.Exchange.{announcement}
 use Rattle.tn_linemode.specs.Modes.{Modes, mode_of, is_acknowledged, edits}
-use Rattle.tn_linemode.specs.Words.{differ, word_items, payload_items, mode_items, list_items}
+use Rattle.tn_linemode.specs.Words.{differ, word_items, mode_items, list_items}
 use Rattle.tn_nvt.specs.Spelling.{Fits}
 use Rattle.tn_nvt.specs.declared.items.Item.{Item}
 use Rattle.tn_nvt.specs.declared.items.Item.TheVariants.{Byte, Newline, Cmd, Neg, Sub}
-use Rattle.tn_option.specs.QMethod.{side_of, cause_of, word_of_answer, result_of_answer, wish_for}
-use Rattle.tn_option.specs.Options.{Options, known_option, cell_now, refusal_word, word_now, answer_now, options_after_word, reply_to, answer_to, state_of}
+use Rattle.tn_option.specs.Options.{Options, options_after_word, reply_to, state_of}
 use Rattle.tn_option.specs.Options.{agrees_to, is_yes}
-use Rattle.tn_option.specs.declared.known.Known.{Known}
-use Rattle.tn_option.specs.declared.q_method.Answer.{Answer}
-use Rattle.tn_option.specs.declared.q_method.Answer.TheVariants as answer
-use Rattle.tn_option.specs.declared.q_method.AskFault.{AskFault}
-use Rattle.tn_option.specs.declared.q_method.OptionEvent.{OptionEvent}
-use Rattle.tn_option.specs.declared.q_method.OptionEvent.TheVariants.{HeardOn}
-use Rattle.tn_option.specs.declared.q_method.Side.{Side}
 use Rattle.tn_option.specs.declared.q_method.QState.TheVariants.{Yes}
-use Rattle.tn_option.specs.declared.q_method.Side.TheVariants.{Us, Them}
+use Rattle.tn_option.specs.declared.q_method.Side.TheVariants.{Them}
 use Rattle.tn_pty.specs.Typing.{terminal_after, gain_of, command_role, command_shows}
 use Rattle.tn_server.specs.Calls.{End}
 use Rattle.tn_server.specs.Events.{Event, got, took, wrote, pulled, wished, char_set, echo_set, mask_set}
 use Rattle.tn_server.specs.Lines.{role_at}
 use Rattle.tn_server.specs.Screen.{byte_shows}
-use Rattle.tn_server.specs.Replies.{asked_word_items, table_items, new_table_items, echo_items, forward_payload, data_of}
+use Rattle.tn_server.specs.Replies.{table_items, new_table_items, data_of}
 use Rattle.tn_server.specs.Steps.{modes_before, modes_told, modes_asked, masks_by, is_due, negotiation_after, negotiation_items, with_negotiated}
 use Rattle.tn_server.specs.Steps.{negotiation_heard, negotiation_wishing, end_after_word, end_after_wish, says_wished, end_after_mode_by, says_mode_by}
 use Rattle.tn_server.specs.Steps.{end_after_payload, says_sub, end_after_item, says_item, owes_ga, flags_with_echo, end_after, says, end_after_items, says_items}
-use Rattle.tn_server.specs.Terms.{Terms, linemode, echoes, payload_at, mask_for, wants_echo, allows_local}
+use Rattle.tn_server.specs.Terms.{linemode, echoes, payload_at, mask_for, wants_echo}
 use Rattle.tn_server.specs.declared.terms.Negotiation.{Negotiation}
 use Rattle.tn_server.specs.declared.wishes.Editing.{Editing}
-use Rattle.tn_server.specs.declared.wishes.Editing.TheVariants.{Remote, Local}
 use Rattle.tn_server.proofs.lemmas.Terms.{differ_self, table_again, echo_keeps_linemode}
 use Rattle.tn_world.specs.relation.Calm.{SaysCalmly, IsCalmToServer, AsksCalmly, IsCalmToClient}
-use Rattle.tn_world.specs.relation.Machine.{Server, bits, edit_by, read, read_all, IsAskable}
-use Rattle.tn_world.specs.relation.Pictures.{server_core, NeverEnds, IsAllowed, IsFlagged, ServerStays}
-use Rattle.tn_world.proofs.Engines.{server_turned, server_asks, echo_keeps_state, word_keeps_state, echo_agrees, word_agrees}
-use Rattle.tn_world.proofs.Wishes.{allowed_wish}
-
--- ITEMS of which each is such as is said
-one : (P : Item → Type 0) (item : Item) → P item → All P (item ∷ [])
-one P item p = All-cons P item [] p (All-nil P)
-
--- OPTION WORDS answer with the option that they were asked about
-abbrev pub Speaks : ℕ → Option (Verb × ℕ) → Type 0
-Speaks option None = Unit {0}
-Speaks option (Some word_items) = word_items.1 ≡ option
-
-abbrev pub SpeaksAsked : ℕ → Result (Option (Verb × ℕ)) AskFault → Type 0
-SpeaksAsked option (Ok word_items) = Speaks option word_items
-SpeaksAsked option (Err fault) = Unit {0}
-
-refused_speaks : (side : Side) (option : ℕ) (cause : OptionEvent) → Speaks option (refusal_word side option cause)
-refused_speaks side option HeardOn = refl
-refused_speaks side option _ = tt
-
-said_speaks : (side : Side) (option : ℕ) (a : Answer) → Speaks option (word_of_answer side option a)
-said_speaks side option answer.SayOn = refl
-said_speaks side option answer.SayOff = refl
-said_speaks side option _ = tt
-
-now_speaks : (o : Options) (side : Side) (option : ℕ) (cause : OptionEvent) (k : Option Known) → Speaks option (word_now o side option cause k)
-now_speaks o side option cause None = refused_speaks side option cause
-now_speaks o side option cause (Some k) = said_speaks side option (cell_now o side k cause).1
-
-pub reply_speaks : (o : Options) (verb : Verb) (option : ℕ) → Speaks option (reply_to o verb option)
-unfolding reply_to
-reply_speaks o verb option = now_speaks o (side_of verb) option (cause_of verb) (known_option option)
-
-answered_speaks : (side : Side) (option : ℕ) (a : Answer) → SpeaksAsked option (result_of_answer side option a)
-answered_speaks side option answer.SayOn = refl
-answered_speaks side option answer.SayOff = refl
-answered_speaks side option _ = tt
-
-asked_speaks : (o : Options) (side : Side) (option : ℕ) (cause : OptionEvent) (k : Option Known) → SpeaksAsked option (answer_now o side option cause k)
-asked_speaks o side option cause None = tt
-asked_speaks o side option cause (Some k) = answered_speaks side option (cell_now o side k cause).1
-
-pub wish_speaks : (o : Options) (side : Side) (option : ℕ) (on : Bool) → SpeaksAsked option (answer_to o side option on)
-unfolding answer_to
-wish_speaks o side option on = asked_speaks o side option (wish_for on) (known_option option)
-
-pub word_made : (P : Item → Type 0) (option : ℕ) (w : Option (Verb × ℕ)) → Speaks option w → ((verb : Verb) → P (Neg verb option)) → All P (word_items w)
-word_made P option None s p = All-nil P
-word_made P option (Some word_of_answer) s p = one P (Neg word_of_answer.0 word_of_answer.1)
-    (subst (λ (c : ℕ). P (Neg word_of_answer.0 c)) (sym s) (p word_of_answer.0))
-
-pub asked_made : (P : Item → Type 0) (option : ℕ) (w : Result (Option (Verb × ℕ)) AskFault) → SpeaksAsked option w → ((verb : Verb) → P (Neg verb option))
-    → All P (asked_word_items w)
-asked_made P option (Ok w) s p = word_made P option w s p
-asked_made P option (Err fault) s p = All-nil P
-
-pub echo_made : (P : Item → Type 0) (due wanted : Bool) (o : Options) → ((verb : Verb) → P (Neg verb 1)) → All P (echo_items due wanted o)
-echo_made P true wanted o p = asked_made P 1 (answer_to o Us 1 wanted) (wish_speaks o Us 1 wanted) p
-echo_made P false wanted o p = All-nil P
+use Rattle.tn_world.specs.relation.Machine.{Server, edit_by, read, read_all}
+use Rattle.tn_world.specs.relation.Pictures.{server_core, NeverEnds, IsAllowed, ServerStays}
+use Rattle.tn_world.proofs.Engines.{one, reply_made, echo_made, server_turned, server_asks, echo_keeps_state, word_keeps_state, echo_agrees, word_agrees}
+use Rattle.tn_world.proofs.Wishes.{allowed_wish, mask_asked, wish_asked}
+use Rattle.tn_world.proofs.Reading.{next_held, next_gain}
 
 -- an option word on another option leaves LINEMODE as it is
 pub words_keep_linemode : (o : Options) (verb : Verb) (option : ℕ) → (option == 34) ≡ false → linemode (options_after_word o verb option) ≡ linemode o
@@ -132,18 +61,16 @@ words_keep_linemode o verb option e = ap is_yes (word_keeps_state o Them verb op
 -- WHAT STAYS AS IT WAS AT THE MARK
 -- the rest of an end has no part in it
 pub stays_aside : (canon : Canon) (old new : End) → new.terms ≡ old.terms → new.table ≡ old.table → new.terminal.settings ≡ old.terminal.settings
-    → new.terminal.line ≡ old.terminal.line → ServerStays canon old → ServerStays canon new
-stays_aside canon old new terms table settings line k = record {
-  agreed = ap (λ (t : Terms). agrees_to t.options Them 34) terms ∙ k.agreed;
-  linemode = subst (λ (t : Terms). NeverEnds (state_of t.options Them 34)) (sym terms) k.linemode;
-  wish =
-      subst (λ (t : Terms). IsAllowed new.terminal.settings.flags t.wish) (sym terms)
-      (subst (λ (x : Settings). IsAllowed x.flags old.terms.wish) (sym settings) k.wish);
+    → new.terminal.line.limit ≡ old.terminal.line.limit → new.terminal.line.ahead ≡ old.terminal.line.ahead → ServerStays canon old → ServerStays canon new
+stays_aside canon old new terms table settings limit ahead k = record {
+  agreed = rw terms k.agreed;
+  linemode = rw terms k.linemode;
+  wish = rw (terms, settings) k.wish;
   chars = table ∙ k.chars;
-  own = ap (λ (x : Settings). x.chars) settings ∙ k.own;
-  flags = subst (λ (x : Settings). IsFlagged canon x) (sym settings) k.flags;
-  limit = ap (λ (l : HalfLine). l.limit) line ∙ k.limit;
-  ahead = ap (λ (l : HalfLine). l.ahead) line ∙ k.ahead;
+  own = rw settings k.own;
+  flags = rw settings k.flags;
+  limit = limit ∙ k.limit;
+  ahead = ahead ∙ k.ahead;
 }
 
 -- a key of this role
@@ -151,16 +78,7 @@ stays_typed : (canon : Canon) (old : End) (r : Role) (symbols : List Symbol) →
     → ServerStays canon (record old { terminal = terminal_after old.terminal r symbols })
 stays_typed canon old r symbols k =
     let moves = advances old.terminal.line r in
-    record {
-      agreed = k.agreed;
-      linemode = k.linemode;
-      wish = k.wish;
-      chars = k.chars;
-      own = k.own;
-      flags = k.flags;
-      limit = moves.limit ∙ k.limit;
-      ahead = omega (arith, moves.ahead, k.ahead);
-    }
+    stays_aside canon old (record old { terminal = terminal_after old.terminal r symbols }) refl refl refl moves.limit (omega (arith, moves.ahead, k.ahead)) k
 
 -- new options, and perhaps a wish
 stays_negotiated : (canon : Canon) (old : End) (was set : Bool) (f : Flags) (n : Negotiation) → agrees_to n.options Them 34 ≡ true
@@ -179,69 +97,7 @@ stays_negotiated canon old was set f n agrees never allowed k =
       ahead = k.ahead;
     }
 
--- THE CORE after a key
-plus_none : (n : ℕ) → 0 + n ≡ n
-plus_none n = omega arith
-
-held_if : (b : Bool) (one other : HalfLine) → (if◌then◌else◌ {A = HalfLine} b one other).held ≡ (if b then one.held else other.held)
-held_if true one other = refl
-held_if false one other = refl
-
-next_held : (held : List ℕ) (n : ℕ) (r : Role) → (line_after (record { held = held; ahead = 0; limit = n }) r).held ≡ half_next n held r
-next_held held n role.Ignored = refl
-next_held held n role.Nl = refl
-next_held held n (role.Eol b) = refl
-next_held held n (role.Eol2 b) = refl
-next_held held n role.Eof = refl
-next_held held n (role.Signal sig) = refl
-next_held held n role.Kill = refl
-next_held [] n role.Erase = refl
-next_held (x ∷ held) n role.Erase =
-    let one : HalfLine = record { held = front (x ∷ held); ahead = 0; limit = n } in
-    let other : HalfLine = record { held = []; ahead = 0; limit = n } in
-    ap (λ (b : Bool). (if◌then◌else◌ {A = HalfLine} b one other).held) (lt-ltb 0 (length (x ∷ held)) (omega arith))
-next_held held n (role.Ordinary byte) =
-    let one : HalfLine = record { held = held; ahead = 0; limit = n } in
-    let other : HalfLine = record { held = held ++ byte ∷ []; ahead = 0; limit = n } in
-    ap (λ (m : ℕ). (if◌then◌else◌ {A = HalfLine} (m == max_counted n) one other).held) (plus_none (length held)) ∙ held_if (length held == max_counted n) one other
-
-gives_none : (b : Bool) (one other : Effect) → effect_entries one ≡ [] → effect_entries other ≡ [] → effect_entries (if b then one else other) ≡ []
-gives_none true one other p q = p
-gives_none false one other p q = q
-
-none_if : (b : Bool) → ◌≡◌ {A = List Entry} [] (if◌then◌else◌ {A = List Entry} b [] [])
-none_if true = refl
-none_if false = refl
-
-next_gain : (held : List ℕ) (n : ℕ) (r : Role) → gain_of (record { held = held; ahead = 0; limit = n }) r ≡ gain_next n held r
-next_gain held n role.Ignored = refl
-next_gain held n role.Nl = refl
-next_gain held n (role.Eol b) = refl
-next_gain held n (role.Eol2 b) = refl
-next_gain held n role.Eof = refl
-next_gain held n (role.Signal sig) = refl
-next_gain held n role.Kill = refl
-next_gain held n role.Erase = gives_none (nat_lt 0 (length held)) effect.Erased effect.Nothing refl refl
-next_gain held n (role.Ordinary byte) =
-    gives_none (0 + length held == max_counted n) effect.Dropped effect.Kept refl refl ∙ none_if (length held == max_counted n)
-
-core_typed : (canon : Canon) (old : End) (r : Role) (symbols : List Symbol) → ServerStays canon old
-    → server_core (record old { terminal = terminal_after old.terminal r symbols })
-    ≡ record (server_core old) {
-      half = half_next canon.limit old.terminal.line.held r;
-      waiting = old.terminal.entries ++ gain_next canon.limit old.terminal.line.held r;
-    }
-core_typed canon old r symbols k =
-    let l = old.terminal.line in
-    let here : l ≡ record { held = l.held; ahead = 0; limit = canon.limit } =
-    ap (λ (n : ℕ). record l { ahead = n }) k.ahead ∙ ap (λ (n : ℕ). record { held = l.held; ahead = 0; limit = n }) k.limit in
-    ap (λ (x : HalfLine). record (server_core old) { half = (line_after x r).held; waiting = old.terminal.entries ++ gain_of x r }) here
-    ∙ ap (λ (bytes : List ℕ). record (server_core old)
-    { half = bytes; waiting = old.terminal.entries ++ gain_of (record { held = l.held; ahead = 0; limit = canon.limit }) r }) (next_held l.held canon.limit r)
-    ∙ ap (λ (es : List Entry). record (server_core old) { half = half_next canon.limit l.held r; waiting = old.terminal.entries ++ es })
-    (next_gain l.held canon.limit r)
-
--- and after new options and perhaps a wish
+-- THE CORE after new options and perhaps a wish
 asked_current : (on : Bool) (m : Modes) (wish : ℕ) → (modes_asked on m wish).current ≡ m.current
 asked_current true m wish = refl
 asked_current false m wish = refl
@@ -305,11 +161,16 @@ core_key : (canon : Canon) (old : End) (item : Item) (symbols : List Symbol) →
           ++ gain_next canon.limit old.terminal.line.held (role_at canon.settings (edits old.modes.current) item);
     }
 core_key canon old item symbols k =
-    core_typed canon old (role_at old.terminal.settings (edits old.modes.current) item) symbols k
-    ∙ ap (λ (r : Role). record (server_core old) {
-      half = half_next canon.limit old.terminal.line.held r;
-      waiting = old.terminal.entries ++ gain_next canon.limit old.terminal.line.held r;
-    }) (role_is canon old item k)
+    let l = old.terminal.line in
+    let r = role_at canon.settings (edits old.modes.current) item in
+    let here : l ≡ record { held = l.held; ahead = 0; limit = canon.limit } =
+    ap (λ (n : ℕ). record l { ahead = n }) k.ahead ∙ ap (λ (n : ℕ). record { held = l.held; ahead = 0; limit = n }) k.limit in
+    ap (λ (x : Role). server_core (record old { terminal = terminal_after old.terminal x symbols })) (role_is canon old item k)
+    ∙ ap (λ (x : HalfLine). record (server_core old) { half = (line_after x r).held; waiting = old.terminal.entries ++ gain_of x r }) here
+    ∙ ap (λ (bytes : List ℕ). record (server_core old)
+    { half = bytes; waiting = old.terminal.entries ++ gain_of (record { held = l.held; ahead = 0; limit = canon.limit }) r }) (next_held l.held canon.limit r)
+    ∙ ap (λ (es : List Entry). record (server_core old) { half = half_next canon.limit l.held r; waiting = old.terminal.entries ++ es })
+    (next_gain l.held canon.limit r)
 
 -- LINEMODE comes on with the one word that says so, and begins without a mask
 begins_unmasked : (l : Bool) (m : Modes) → edits (modes_before (differ l true) m).current ≡ l && edits m.current
@@ -393,10 +254,10 @@ core_got canon old (Sub option params) k f c = core_sub old option params (paylo
 
 -- and all stays as it was at the mark
 stays_sub : (canon : Canon) (old : End) (p : Option Payload) → SaysCalmly p → ServerStays canon old → ServerStays canon (end_after_payload old p)
-stays_sub canon old (Some (payload.Naws width height)) c k = stays_aside canon old (end_after_payload old (Some (payload.Naws width height))) refl refl refl refl k
+stays_sub canon old (Some (payload.Naws width height)) c k = stays_aside canon old (end_after_payload old (Some (payload.Naws width height))) refl refl refl refl refl k
 stays_sub canon old (Some (payload.Mode mask)) c k =
     subst (λ (b : Bool). ServerStays canon (end_after_mode_by old mask (if b then None else Some (edits mask)))) (sym c)
-    (stays_aside canon old (end_after_mode_by old mask None) refl refl refl refl k)
+    (stays_aside canon old (end_after_mode_by old mask None) refl refl refl refl refl k)
 stays_sub canon old (Some (payload.Slc triples)) c k = absurd c
 stays_sub canon old p c k = k
 
@@ -415,34 +276,6 @@ stays_got canon old (Neg verb option) k c =
 stays_got canon old (Sub option params) k c =
     stays_sub canon old (payload_at old.terms.options (Sub option params)) (calm_at canon.settings old.terms.options (Sub option params) c) k
 
--- a mask that a server with these settings asks for
-abbrev IsAskedMask : Settings → ℕ → Type 0
-IsAskedMask s mask = (is_acknowledged (mode_of mask) ≡ false) × IsAskable s (bits (mode_of mask))
-
-local_mask : (s : Settings) (allowed isig : Bool) (mask : ℕ) → allows_local s.flags ≡ allowed → s.flags.isig ≡ isig
-    → (if allowed then Some (if isig then 3 else 1) else None) ≡ Some mask → IsAskedMask s mask
-local_mask s false isig mask a i e = absurd (cc)
-local_mask s true true mask a i e =
-    let same : 3 ≡ mask = cc in
-    subst (IsAskedMask s) same (refl, inr (a, ap (λ (b : Bool). record { edit = true; trapsig = b }) (sym i)))
-local_mask s true false mask a i e =
-    let same : 1 ≡ mask = cc in
-    subst (IsAskedMask s) same (refl, inr (a, ap (λ (b : Bool). record { edit = true; trapsig = b }) (sym i)))
-
-mask_by : (s : Settings) (echo : Bool) (ed : Editing) (mask : ℕ) → mask_for (record (s.flags) { echo = echo }) ed ≡ Some mask → IsAskedMask s mask
-mask_by s echo Remote mask e = let same : 0 ≡ mask = cc in subst (IsAskedMask s) same (refl, inl refl)
-mask_by s echo Local mask e = local_mask s (allows_local s.flags) s.flags.isig mask refl refl e
-
-mask_asked : (s : Settings) (f : Flags) (ed : Editing) (mask : ℕ) → f ≡ record (s.flags) { echo = f.echo } → mask_for f ed ≡ Some mask → IsAskedMask s mask
-mask_asked s f ed mask same e = mask_by s f.echo ed mask (ap (λ (g : Flags). mask_for g ed) (sym same) ∙ e)
-
-pub mode_made : (P : Item → Type 0) (mask : ℕ) → P (Sub 34 (1 ∷ mask ∷ [])) → All P (payload_items (payload.Mode mask))
-mode_made P mask p = one P (Sub 34 (1 ∷ mask ∷ [])) p
-
-unless_made : (P : Item → Type 0) (b : Bool) (mask : ℕ) → P (Sub 34 (1 ∷ mask ∷ [])) → All P (mode_items (if b then None else Some mask))
-unless_made P true mask p = All-nil P
-unless_made P false mask p = mode_made P mask p
-
 -- WHAT A CALM ITEM IS ANSWERED WITH
 -- LINEMODE that comes on, with the table that the client has
 table_calm : (s : Settings) → s.chars ≡ standard_characters → All (IsCalmToClient s) (list_items (announcement standard_characters))
@@ -453,12 +286,12 @@ told_calm : (s : Settings) (c : Characters) (b : Bool) → c ≡ s.chars → s.c
 told_calm s c true same is = subst (λ (x : Characters). All (IsCalmToClient s) (list_items (announcement x))) (sym (same ∙ is)) (table_calm s is)
 told_calm s c false same is = All-nil (IsCalmToClient s)
 
-wish_asked : (s : Settings) (f : Flags) (wish : ℕ) → f ≡ record (s.flags) { echo = f.echo } → IsAllowed f wish → IsAskedMask s wish
-wish_asked s f wish same (inl is) = subst (IsAskedMask s) (sym is) (refl, inl refl)
-wish_asked s f wish same (inr is) = mask_asked s f Local wish same is
-
 told_made : (P : Item → Type 0) (on : Bool) (m : Modes) (wish : ℕ) → P (Sub 34 (1 ∷ mode_of wish ∷ [])) → All P (mode_items (modes_told on m wish))
-told_made P true m wish p = unless_made P (mode_of wish == m.asked) (mode_of wish) p
+told_made P true m wish p = by_test (mode_of wish == m.asked)
+  where
+    by_test : (b : Bool) → All P (mode_items (if b then None else Some (mode_of wish)))
+    by_test true = All-nil P
+    by_test false = one P (Sub 34 (1 ∷ mode_of wish ∷ [])) p
 told_made P false m wish p = All-nil P
 
 -- what is said once the options and perhaps a wish are new: the table, the mode, the server's ECHO
@@ -483,7 +316,7 @@ pub calm_got : (canon : Canon) (old : End) (item : Item) → ServerStays canon o
 calm_got canon old (Neg verb option) k (inl e) =
     let P = IsCalmToClient canon.settings in
     let o = old.terms.options in
-    All-append P _ _ (word_made P option (reply_to o verb option) (reply_speaks o verb option) (λ v. inl e))
+    All-append P _ _ (reply_made P o verb option (λ v. inl e))
     (negotiated_made P (linemode o) false old.terminal.settings.flags old.table (negotiation_heard old verb option)
     (untold_made P (linemode o) (linemode (options_after_word o verb option)) old.table (words_keep_linemode o verb option e))
     (wish_asked canon.settings old.terminal.settings.flags old.terms.wish k.flags k.wish) (λ v. inl refl))
@@ -523,7 +356,7 @@ goes_on canon old (item ∷ items) k f c =
 pub stays_fed : (canon : Canon) (old new : End) → new ≡ record old { decoder = new.decoder } → ServerStays canon old → ServerStays canon new
 stays_fed canon old new is k =
     stays_aside canon old new (ap (λ (e : End). e.terms) is) (ap (λ (e : End). e.table) is) (ap (λ (e : End). e.terminal.settings) is)
-    (ap (λ (e : End). e.terminal.line) is) k
+    (ap (λ (e : End). e.terminal.line.limit) is) (ap (λ (e : End). e.terminal.line.ahead) is) k
 
 -- THE OWNER'S CALLS that change no character
 abbrev pub IsCall : Event → Type 0
@@ -564,26 +397,22 @@ ga_made P p true = one P (Cmd Ga) p
 ga_made P p false = All-nil P
 
 -- a forward mask
-pub mask_made : (P : Item → Type 0) → ((octets : List ℕ) → P (Sub 34 (253 ∷ 2 ∷ octets))) → P (Sub 34 (254 ∷ 2 ∷ [])) → (mask : Option Mask)
-    → All P (payload_items (forward_payload mask))
-mask_made P on off (Some mask) = one P (Sub 34 (253 ∷ 2 ∷ trimmed_octets (take 32 mask.0))) (on (trimmed_octets (take 32 mask.0)))
-mask_made P on off None = one P (Sub 34 (254 ∷ 2 ∷ [])) off
-
 mask_calm : (s : Settings) (octets : List ℕ) (b : Bool) → AsksCalmly s (if b then Some (payload.ForwardOn (record { 0 = filled_octets octets })) else None)
 mask_calm s octets true = tt
 mask_calm s octets false = tt
 
 pub calm_call : (canon : Canon) (old : End) (e : Event) → IsCall e → ServerStays canon old → All (IsCalmToClient canon.settings) (says old e)
-calm_call canon old (got item) is k = absurd is
-calm_call canon old (char_set func value) is k = absurd is
 calm_call canon old took is k = ga_made (IsCalmToClient canon.settings) tt (owes_ga old old.terminal.entries)
 calm_call canon old (wrote bytes) is k = All-nil (IsCalmToClient canon.settings)
 calm_call canon old (pulled n) is k = pulled_made (IsCalmToClient canon.settings) (λ b. tt) tt (take n old.terminal.queue)
 calm_call canon old (wished ed) is k = wished_calm canon old ed (mask_for old.terminal.settings.flags ed) refl k
 calm_call canon old (echo_set on) is k =
     echo_made (IsCalmToClient canon.settings) true (wants_echo old.modes.asked (flags_with_echo old on)) old.terms.options (λ v. inl refl)
-calm_call canon old (mask_set mask) is k =
-    mask_made (IsCalmToClient canon.settings) (λ octets. mask_calm canon.settings octets (nat_le (length octets) 32)) tt mask
+calm_call canon old (mask_set (Some mask)) is k =
+    let octets = trimmed_octets (take 32 mask.0) in
+    one (IsCalmToClient canon.settings) (Sub 34 (253 ∷ 2 ∷ octets)) (mask_calm canon.settings octets (nat_le (length octets) 32))
+calm_call canon old (mask_set None) is k = one (IsCalmToClient canon.settings) (Sub 34 (254 ∷ 2 ∷ [])) tt
+calm_call canon old _ is k = absurd is
 
 stays_wished : (canon : Canon) (old : End) (ed : Editing) (mask : Option ℕ) → mask_for old.terminal.settings.flags ed ≡ mask → ServerStays canon old
     → ServerStays canon (end_after_wish old mask)
@@ -593,11 +422,9 @@ stays_wished canon old ed (Some mask) e k =
     (allowed_wish old.terminal.settings.flags ed mask e) k
 
 pub stays_call : (canon : Canon) (old : End) (e : Event) → IsCall e → ServerStays canon old → ServerStays canon (end_after old e)
-stays_call canon old (got item) is k = absurd is
-stays_call canon old (char_set func value) is k = absurd is
-stays_call canon old took is k = stays_aside canon old (end_after old took) refl refl refl refl k
-stays_call canon old (wrote bytes) is k = stays_aside canon old (end_after old (wrote bytes)) refl refl refl refl k
-stays_call canon old (pulled n) is k = stays_aside canon old (end_after old (pulled n)) refl refl refl refl k
+stays_call canon old took is k = stays_aside canon old (end_after old took) refl refl refl refl refl k
+stays_call canon old (wrote bytes) is k = stays_aside canon old (end_after old (wrote bytes)) refl refl refl refl refl k
+stays_call canon old (pulled n) is k = stays_aside canon old (end_after old (pulled n)) refl refl refl refl refl k
 stays_call canon old (wished ed) is k = stays_wished canon old ed (mask_for old.terminal.settings.flags ed) refl k
 stays_call canon old (echo_set on) is k =
     let wanted = wants_echo old.modes.asked (flags_with_echo old on) in
@@ -612,6 +439,7 @@ stays_call canon old (echo_set on) is k =
       ahead = k.ahead;
     }
 stays_call canon old (mask_set mask) is k = k
+stays_call canon old _ is k = absurd is
 
 -- a wish and the flag ECHO change nothing at LINEMODE
 core_wished : (old : End) (mask : Option ℕ) → server_core (end_after_wish old mask) ≡ server_core old
@@ -621,9 +449,6 @@ core_wished old (Some mask) =
     core_negotiated old l false old.terminal.settings.flags (negotiation_wishing old mask) ∙ turned_same old l
 
 pub core_call : (old : End) (e : Event) → KeepsEntries e → server_core (end_after old e) ≡ server_core old
-core_call old (got item) is = absurd is
-core_call old (char_set func value) is = absurd is
-core_call old took is = absurd is
 core_call old (wrote bytes) is = refl
 core_call old (pulled n) is = refl
 core_call old (wished ed) is = core_wished old (mask_for old.terminal.settings.flags ed)
@@ -631,3 +456,4 @@ core_call old (echo_set on) is =
     ap (λ (b : Bool). record (server_core old) { linemode = b })
     (echo_keeps_linemode true (wants_echo old.modes.asked (flags_with_echo old on)) old.terms.options)
 core_call old (mask_set mask) is = refl
+core_call old _ is = absurd is

@@ -188,9 +188,6 @@ module _ (answered : (c s : Characters) (ts : List Triple) → server_answers s 
   settled_half = (headline canon w (settles_follow s.before w s.settles canon s.follows)).half s.none_failed settled_empty
 
 -- THE CALL, which stops where nothing is in flight
-pub no_rounds : (w : World) → NothingInFlight w → Settles w w
-no_rounds w none = record { count = 0; rounds = refl; most = omega arith; ended = inl none }
-
 pub one_round : (old mid : World) → ¬ NothingInFlight old → IsRound old mid → NothingInFlight mid → Settles old mid
 one_round old mid some r none = record { count = 1; rounds = (old, refl, some, r); most = omega arith; ended = inl none }
 

@@ -9,7 +9,8 @@ use Rattle.tn_world.specs.Settling.{RefusesRound, RunsRounds, Settles, StopsSett
 use Rattle.tn_world.specs.Worlds.{World, RunsEvent, Refuses}
 use Rattle.tn_world.specs.declared.events.Event.TheVariants.{ToServer, ToClient}
 use Rattle.tn_world.specs.declared.faults.Cause.{Cause}
-use Rattle.tn_world.proofs.Showing.{output_grows, goes_on, refused_grows}
+use Rattle.tn_world.proofs.Happening.{does_keeps}
+use Rattle.tn_world.proofs.Showing.{output_grows, refused_grows}
 use Rattle.tn_world.proofs.Soundness.{sound_does, refusal_of}
 
 none_settles : (w : World) (text : List ℕ) → IsOutput w text → OutputSettles w w text
@@ -43,7 +44,7 @@ record Settled (old new : World) (text : List ℕ) : Type 0 where
 then_to_client : (old mid new : World) (n : ℕ) (text : List ℕ) → Settled old mid text → RunsEvent mid (ToClient n) new → Settled old new text
 then_to_client old mid new n text s r = record {
   past = sound_does mid new (ToClient n) r s.past;
-  runs = goes_on mid new (ToClient n) r ∙ s.runs;
+  runs = (does_keeps mid new (ToClient n) r).1 ∙ s.runs;
   output = joins old mid new text s.output (to_client_settles mid new n (text ++ screen s.output.symbols)
       (output_grows mid new (ToClient n) (text ++ screen s.output.symbols) s.past s.runs r s.output.output));
 }
@@ -51,7 +52,7 @@ then_to_client old mid new n text s r = record {
 then_to_server : (old mid new : World) (n : ℕ) (text : List ℕ) → Settled old mid text → RunsEvent mid (ToServer n) new → Settled old new text
 then_to_server old mid new n text s r = record {
   past = sound_does mid new (ToServer n) r s.past;
-  runs = goes_on mid new (ToServer n) r ∙ s.runs;
+  runs = (does_keeps mid new (ToServer n) r).1 ∙ s.runs;
   output = joins old mid new text s.output (to_server_settles mid new n (text ++ screen s.output.symbols)
       (output_grows mid new (ToServer n) (text ++ screen s.output.symbols) s.past s.runs r s.output.output));
 }

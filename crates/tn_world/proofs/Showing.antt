@@ -6,7 +6,7 @@ use Rattle.std.proofs.lemmas.List.{take-append-drop}
 use Rattle.std.proofs.lemmas.List.Elements.{All-nil}
 use Rattle.tn_discipline.specs.declared.echo.Symbol.{Symbol}
 use Rattle.tn_discipline.specs.declared.echo.Symbol.TheVariants as symbol
-use Rattle.tn_nvt.specs.Spelling.{lf, spells, Fits}
+use Rattle.tn_nvt.specs.Spelling.{spells, Fits}
 use Rattle.tn_nvt.specs.Feeding.{DecoderState, LeadsTo}
 use Rattle.tn_nvt.specs.declared.items.Item.{Item}
 use Rattle.tn_server.specs.Events as server_calls
@@ -18,22 +18,18 @@ use Rattle.tn_server.specs.Steps as server_steps
 use Rattle.tn_server.specs.declared.faults.ServerFault.{ServerFault}
 use Rattle.tn_server.specs.declared.faults.ServerFault.TheVariants as server_faults
 use Rattle.tn_server.proofs.lemmas.Fitting.{opening-fits}
-use Rattle.tn_client.specs.Events as client_calls
 use Rattle.tn_client.specs.Screen.{item_shown, symbol_shown}
-use Rattle.tn_client.proofs.lemmas.Standings.{fed_failed}
-use Rattle.tn_client.proofs.lemmas.Courses.{call_decoder}
 use Rattle.tn_world.specs.Past.{HasPast}
 use Rattle.tn_streams.specs.Prefixes.{IsPrefixOf}
 use Rattle.tn_world.specs.Flight.{InFlight}
 use Rattle.tn_world.specs.Output.{screen, text_of, IsOutput, Queues, IsNoneAt, OutputGrows, OutputGrowsTo, OutputGrowsAll, OutputGrowsBefore}
-use Rattle.tn_world.specs.Worlds.{World, UnlessStopped, Types, TypesKey, EntersLine, SendsCommand, CallsClient, DeliversToServer, DeliversToClient, CallsServer, Pulls, TakesEntry}
+use Rattle.tn_world.specs.Worlds.{World, UnlessStopped, DeliversToServer, DeliversToClient, CallsServer, Pulls, TakesEntry}
 use Rattle.tn_world.specs.Worlds.{RunsEvent, Runs, StopsWithin, ServerRefusesDelivery}
-use Rattle.tn_client.specs.declared.commands.UserCommand.{UserCommand}
 use Rattle.tn_world.specs.declared.events.Event.{Event}
-use Rattle.tn_world.specs.declared.events.Event.TheVariants.{Key, NewLine, Send, ToServer, ToClient, Write, Pull, Take, Wish, Resize, SetChar, Propose, Echo, Mask}
-use Rattle.tn_world.specs.declared.events.Event.TheVariants.{ServerStops, ClientStops}
+use Rattle.tn_world.specs.declared.events.Event.TheVariants.{ToClient, Pull}
 use Rattle.tn_world.specs.declared.faults.Cause.{Cause}
 use Rattle.tn_world.proofs.Cut.{start, said_behind, cut_at}
+use Rattle.tn_world.proofs.Happening.{AddsOnly, Done, unmoved, types, enters, sends, resizes, proposes, reaches, returns, asks, takes, stops, done_of, does_keeps}
 use Rattle.tn_world.proofs.Soundness.{sound_does, opposite, Refusal, unchanged, by_server, by_client, refusal_of, asked_fit, feeds_fit, halts_fit}
 use Rattle.tn_world.proofs.ServerItems.{IsUnpulled, says_none, opening_none, items_none, halts_none, queue_grows, items_grow}
 
@@ -91,29 +87,22 @@ same_grows old new e text is o =
     still_grows old new e text (ap (λ (w : World). w.client.decoder) is) (ap (λ (w : World). w.shown) is) (ap (λ (w : World). w.to_client) is)
     (ap (λ (w : World). w.server.terminal.queue) is) o
 
-types_grows : (old new : World) (call : client_calls.Event) (key : ℕ) (e : Event) (text : List ℕ) → Types old call key new → IsOutput old text
-    → OutputGrows old e new text
-types_grows old new call key e text t o =
-    still_grows old new e text (ap (λ (w : World). w.client.decoder) t.step ∙ call_decoder old.client call) (ap (λ (w : World). w.shown) t.step) (ap (λ (w : World). w.to_client) t.step)
-    (ap (λ (w : World). w.server.terminal.queue) t.step) o
-
-sends_grows : (old new : World) (command : UserCommand) (text : List ℕ) → SendsCommand old command new → IsOutput old text
-    → OutputGrows old (Send command) new text
-sends_grows old new command text t o =
-    still_grows old new (Send command) text (ap (λ (w : World). w.client.decoder) t.step) (ap (λ (w : World). w.shown) t.step) (ap (λ (w : World). w.to_client) t.step)
-    (ap (λ (w : World). w.server.terminal.queue) t.step) o
-
-tells_grows : (old new : World) (call : client_calls.Event) (e : Event) (text : List ℕ) → CallsClient old call new → IsOutput old text
-    → OutputGrows old e new text
-tells_grows old new call e text t o =
-    still_grows old new e text (ap (λ (w : World). w.client.decoder) t.step ∙ call_decoder old.client call) (ap (λ (w : World). w.shown) t.step)
-    (ap (λ (w : World). w.to_client) t.step) (ap (λ (w : World). w.server.terminal.queue) t.step) o
-
--- A CALL OF THE SERVER
+-- What the queue took, if none of it was pulled.
 pub record Took (old new : World) (text : List ℕ) : Type 0 where
   pub symbols : List Symbol
   pub took : new.server.terminal.queue ≡ old.server.terminal.queue ++ symbols
   pub output : IsOutput new (text ++ screen symbols)
+
+still_took : (old new mid : World) (text : List ℕ) → new ≡ mid → mid.client.decoder ≡ old.client.decoder → mid.shown ≡ old.shown
+    → mid.to_client ≡ old.to_client → mid.server.terminal.queue ≡ old.server.terminal.queue → IsOutput old text → Took old new text
+still_took old new mid text is decoder shown said took o = record {
+  symbols = [];
+  took = ap (λ (w : World). w.server.terminal.queue) is ∙ took ∙ sym (append-nil old.server.terminal.queue);
+  output = still_output old new text (ap (λ (w : World). w.client.decoder) is ∙ decoder) (ap (λ (w : World). w.shown) is ∙ shown)
+      (ap (λ (w : World). w.to_client) is ∙ said) (ap (λ (w : World). w.server.terminal.queue) is ∙ took) o;
+}
+
+-- A CALL OF THE SERVER
 
 goes_took : (old new : World) (e : server_calls.Event) (text : List ℕ) → IsUnpulled e → HasPast old → new.server ≡ server_steps.end_after old.server e
     → new.to_client ≡ old.to_client ++ spells (server_steps.says old.server e) → new.client.decoder ≡ old.client.decoder → new.shown ≡ old.shown
@@ -224,87 +213,27 @@ unless : (stopped : Bool) (old new : World) (e : Event) (text : List ℕ) (happe
 unless true old new e text happens done o is = same_grows old new e text is o
 unless false old new e text happens done o is = done is
 
+took_done : (old new : World) (e : Event) (text : List ℕ) → AddsOnly e → HasPast old → Done old e new → IsOutput old text → Took old new text
+took_done old new e text adds s (unmoved is) o = still_took old new old text is refl refl refl refl o
+took_done old new e text adds s (types key t) o = still_took old new _ text t.step refl refl refl refl o
+took_done old new e text adds s (enters t) o = still_took old new _ text t.step refl refl refl refl o
+took_done old new e text adds s (sends command is t) o = still_took old new _ text t.step refl refl refl refl o
+took_done old new e text adds s (resizes width height t) o = still_took old new _ text t.step refl refl refl refl o
+took_done old new e text adds s (proposes func value is t) o = still_took old new _ text t.step refl refl refl refl o
+took_done old new e text adds s (reaches n t) o = reaches_took old new n text s t o
+took_done old new e text adds s (returns n is t) o = absurd (subst AddsOnly is adds)
+took_done old new e text adds s (asks call is plain unpulled t) o = asks_took old new call text (unpulled adds) s t o
+took_done old new e text adds s (takes t) o = takes_took old new text s t o
+took_done old new e text adds s (stops a b is) o = still_took old new _ text is refl refl refl refl o
+
 pub output_grows : (old new : World) (e : Event) (text : List ℕ) → HasPast old → old.client.failed ≡ false → RunsEvent old e new → IsOutput old text
     → OutputGrows old e new text
-output_grows old new (Key key) text s runs d o = unless old.client_stopped old new (Key key) text (TypesKey old key new)
-    (λ t. types_grows old new (client_calls.typed key) key (Key key) text t o) o d
-output_grows old new NewLine text s runs d o = unless old.client_stopped old new NewLine text (EntersLine old new)
-    (λ t. types_grows old new client_calls.entered lf NewLine text t o) o d
-output_grows old new (Send command) text s runs d o = unless old.client_stopped old new (Send command) text (SendsCommand old command new)
-    (λ t. sends_grows old new command text t o) o d
-output_grows old new (ToServer n) text s runs d o =
-    unless old.server_stopped old new (ToServer n) text (DeliversToServer old n new)
-    (λ r. let t = reaches_took old new n text s r o in record { symbols = t.symbols; took = t.took; none = tt; output = t.output }) o d
 output_grows old new (ToClient n) text s runs d o = unless old.client_stopped old new (ToClient n) text (DeliversToClient old n new)
     (λ r. returns_grows old new n text s runs r o) o d
-output_grows old new (Write bytes) text s runs d o =
-    unless old.server_stopped old new (Write bytes) text (CallsServer old (server_calls.wrote bytes) new)
-    (λ a. let t = asks_took old new (server_calls.wrote bytes) text tt s a o in record { symbols = t.symbols; took = t.took; none = tt; output = t.output })
-    o d
 output_grows old new (Pull n) text s runs d o = unless old.server_stopped old new (Pull n) text (Pulls old n new) (λ p. pulls_grows old new n text s p o) o d
-output_grows old new Take text s runs d o = let t = takes_took old new text s d o in record { symbols = t.symbols; took = t.took; none = tt; output = t.output }
-output_grows old new (Wish editing) text s runs d o =
-    unless old.server_stopped old new (Wish editing) text (CallsServer old (server_calls.wished editing) new)
-    (λ a. let t = asks_took old new (server_calls.wished editing) text tt s a o
-    in record { symbols = t.symbols; took = t.took; none = tt; output = t.output }) o d
-output_grows old new (Resize width height) text s runs d o =
-    unless old.client_stopped old new (Resize width height) text (CallsClient old (client_calls.resized width height) new)
-    (λ t. tells_grows old new (client_calls.resized width height) (Resize width height) text t o) o d
-output_grows old new (SetChar func value) text s runs d o =
-    unless old.server_stopped old new (SetChar func value) text (CallsServer old (server_calls.char_set func value) new)
-    (λ a. let t = asks_took old new (server_calls.char_set func value) text tt s a o
-    in record { symbols = t.symbols; took = t.took; none = tt; output = t.output }) o d
-output_grows old new (Propose func value) text s runs d o =
-    unless old.client_stopped old new (Propose func value) text (CallsClient old (client_calls.proposed func value) new)
-    (λ t. tells_grows old new (client_calls.proposed func value) (Propose func value) text t o) o d
-output_grows old new (Echo on) text s runs d o =
-    unless old.server_stopped old new (Echo on) text (CallsServer old (server_calls.echo_set on) new)
-    (λ a. let t = asks_took old new (server_calls.echo_set on) text tt s a o in record { symbols = t.symbols; took = t.took; none = tt; output = t.output })
-    o d
-output_grows old new (Mask mask) text s runs d o =
-    unless old.server_stopped old new (Mask mask) text (CallsServer old (server_calls.mask_set mask) new)
-    (λ a. let t = asks_took old new (server_calls.mask_set mask) text tt s a o
-    in record { symbols = t.symbols; took = t.took; none = tt; output = t.output }) o d
-output_grows old new ServerStops text s runs d o =
-    still_grows old new ServerStops text (ap (λ (w : World). w.client.decoder) d) (ap (λ (w : World). w.shown) d) (ap (λ (w : World). w.to_client) d)
-    (ap (λ (w : World). w.server.terminal.queue) d) o
-output_grows old new ClientStops text s runs d o =
-    still_grows old new ClientStops text (ap (λ (w : World). w.client.decoder) d) (ap (λ (w : World). w.shown) d) (ap (λ (w : World). w.to_client) d)
-    (ap (λ (w : World). w.server.terminal.queue) d) o
-
--- THE CLIENT GOES ON: an event that is done fails no end
-abbrev pub KeepsOn : World → World → Type 0
-KeepsOn old new = new.client.failed ≡ old.client.failed
-
-on_unless : (stopped : Bool) (old new : World) (happens : Type 0) → (happens → KeepsOn old new) → UnlessStopped stopped old new happens → KeepsOn old new
-on_unless true old new happens done is = ap (λ (w : World). w.client.failed) is
-on_unless false old new happens done is = done is
-
-asks_on : (old new : World) (e : server_calls.Event) → CallsServer old e new → KeepsOn old new
-asks_on old new e a = ap (λ (w : World). w.client.failed) a.step
-
-pub goes_on : (old new : World) (e : Event) → RunsEvent old e new → KeepsOn old new
-goes_on old new (Key key) d = on_unless old.client_stopped old new (TypesKey old key new) (λ t. ap (λ (w : World). w.client.failed) t.step) d
-goes_on old new NewLine d = on_unless old.client_stopped old new (EntersLine old new) (λ t. ap (λ (w : World). w.client.failed) t.step) d
-goes_on old new (Send command) d = on_unless old.client_stopped old new (SendsCommand old command new) (λ t. ap (λ (w : World). w.client.failed) t.step) d
-goes_on old new (ToServer n) d = on_unless old.server_stopped old new (DeliversToServer old n new) (λ r. ap (λ (w : World). w.client.failed) r.rest) d
-goes_on old new (ToClient n) d = on_unless old.client_stopped old new (DeliversToClient old n new) (λ r. fed_failed old.client new.client _ _ _ _ _ r.feeds) d
-goes_on old new (Write bytes) d = on_unless old.server_stopped old new (CallsServer old (server_calls.wrote bytes) new)
-    (asks_on old new (server_calls.wrote bytes)) d
-goes_on old new (Pull n) d = on_unless old.server_stopped old new (Pulls old n new) (asks_on old new (server_calls.pulled (min n (length old.server.terminal.queue)))) d
-goes_on old new Take d = ap (λ (w : World). w.client.failed) d
-goes_on old new (Wish editing) d = on_unless old.server_stopped old new (CallsServer old (server_calls.wished editing) new)
-    (asks_on old new (server_calls.wished editing)) d
-goes_on old new (Resize width height) d = on_unless old.client_stopped old new (CallsClient old (client_calls.resized width height) new) (λ t. ap (λ (w : World). w.client.failed) t.step) d
-goes_on old new (SetChar func value) d = on_unless old.server_stopped old new (CallsServer old (server_calls.char_set func value) new)
-    (asks_on old new (server_calls.char_set func value)) d
-goes_on old new (Propose func value) d = on_unless old.client_stopped old new (CallsClient old (client_calls.proposed func value) new) (λ t. ap (λ (w : World). w.client.failed) t.step) d
-goes_on old new (Echo on) d = on_unless old.server_stopped old new (CallsServer old (server_calls.echo_set on) new)
-    (asks_on old new (server_calls.echo_set on)) d
-goes_on old new (Mask mask) d = on_unless old.server_stopped old new (CallsServer old (server_calls.mask_set mask) new)
-    (asks_on old new (server_calls.mask_set mask)) d
-goes_on old new ServerStops d = ap (λ (w : World). w.client.failed) d
-goes_on old new ClientStops d = ap (λ (w : World). w.client.failed) d
+output_grows old new e text s runs d o =
+    let t = took_done old new e text tt s (done_of old new e d) o in
+    record { symbols = t.symbols; took = t.took; none = tt; output = t.output }
 
 -- A REFUSED EVENT adds to it as long as the client does not fail
 halted : (old new : World) (n : ℕ) (fault : ServerFault) (text : List ℕ) → HasPast old → ServerRefusesDelivery old n fault new → IsOutput old text
@@ -324,17 +253,10 @@ halted old new n fault text s r o x =
 halts_took : (old new : World) (n : ℕ) (fault : ServerFault) (text : List ℕ) → HasPast old → ServerRefusesDelivery old n fault new → IsOutput old text
     → (f : ServerFault) → fault ≡ f → Took old new text
 halts_took old new n fault text s r o server_faults.Failed e =
-    let same = (r.again e).1 in
-    record {
-      symbols = [];
-      took = ap (λ (w : World). w.server.terminal.queue) same ∙ sym (append-nil old.server.terminal.queue);
-      output = still_output old new text (ap (λ (w : World). w.client.decoder) same) (ap (λ (w : World). w.shown) same) (ap (λ (w : World). w.to_client) same)
-          (ap (λ (w : World). w.server.terminal.queue) same) o;
-    }
-halts_took old new n fault text s r o (server_faults.Char f) e = absurd (subst IsOfPiece e r.is_fault)
-halts_took old new n fault text s r o server_faults.NotOn e = absurd (subst IsOfPiece e r.is_fault)
+    still_took old new _ text (r.again e).1 refl refl refl refl o
 halts_took old new n fault text s r o (server_faults.Pty f) e = halted old new n fault text s r o (r.halts (subst IsOfItem (sym e) tt))
 halts_took old new n fault text s r o server_faults.Memory e = halted old new n fault text s r o (r.halts (subst IsOfItem (sym e) tt))
+halts_took old new n fault text s r o _ e = absurd (subst IsOfPiece e r.is_fault)
 
 pub refused_grows : (old new : World) (e : Event) (text : List ℕ) → HasPast old → Refusal old e new → IsOutput old text → new.client.failed ≡ false
     → OutputGrows old e new text
@@ -350,7 +272,7 @@ pub runs_grow : (old new : World) (events : List Event) (text : List ℕ) → Ha
 runs_grow old new [] text s runs r o = (text, (r, refl))
 runs_grow old new (e ∷ events) text s runs r o =
     let g = output_grows old r.0 e text s runs r.1 o in
-    let later = runs_grow r.0 new events (text ++ screen g.symbols) (sound_does old r.0 e r.1 s) (goes_on old r.0 e r.1 ∙ runs) r.2 g.output in
+    let later = runs_grow r.0 new events (text ++ screen g.symbols) (sound_does old r.0 e r.1 s) ((does_keeps old r.0 e r.1).1 ∙ runs) r.2 g.output in
     (later.0, (r.0, r.1, g, later.1))
 
 -- where they lead

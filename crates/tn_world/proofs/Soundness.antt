@@ -1,5 +1,5 @@
 -- Whatever happens, each end stands where some history leads, and what flies to an end that goes on are whole items.
-use Rattle.std.proofs.Common.{◌≡◌, ℕ, Bool, true, false, Some, None, List, [], ◌∷◌, ◌++◌, length, min, take, drop, refl, sym, ap, ◌∙◌, subst, if◌then◌else◌, append-nil}
+use Rattle.std.proofs.Common.{◌≡◌, ℕ, Bool, true, false, Some, None, List, [], ◌∷◌, ◌++◌, take, drop, refl, sym, ap, ◌∙◌, subst, if◌then◌else◌, append-nil}
 use Rattle.std.specs.Prelude.{All}
 use Rattle.std.proofs.lemmas.List.Elements.{All-nil, All-append}
 use Rattle.tn_nvt.specs.declared.items.Item.{Item}
@@ -42,14 +42,14 @@ use Rattle.tn_client.proofs.lemmas.Fitting as client_fits
 use Rattle.tn_client.proofs.lemmas.Words as client_words
 use Rattle.tn_world.specs.Past.{HasPast, engines, opening_pair, WishesNothing}
 use Rattle.tn_world.specs.Flight.{InFlight}
-use Rattle.tn_world.specs.Worlds.{World, UnlessStopped, Types, TypesKey, EntersLine, SendsCommand, CallsClient, DeliversToServer, DeliversToClient, CallsServer, Pulls, TakesEntry}
+use Rattle.tn_world.specs.Worlds.{World, Types, SendsCommand, CallsClient, DeliversToServer, DeliversToClient, CallsServer, TakesEntry}
 use Rattle.tn_world.specs.Worlds.{RunsEvent, ServerRefusesDelivery, ClientRefusesDelivery, Refuses, client_fault}
 use Rattle.tn_client.specs.declared.commands.UserCommand.{UserCommand}
 use Rattle.tn_world.specs.declared.events.Event.{Event}
-use Rattle.tn_world.specs.declared.events.Event.TheVariants.{Key, NewLine, Send, ToServer, ToClient, Write, Pull, Take, Wish, Resize, SetChar, Propose, Echo, Mask}
-use Rattle.tn_world.specs.declared.events.Event.TheVariants.{ServerStops, ClientStops}
+use Rattle.tn_world.specs.declared.events.Event.TheVariants.{ToServer, ToClient}
 use Rattle.tn_world.specs.declared.faults.Cause.{Cause}
 use Rattle.tn_world.specs.declared.faults.Cause.TheVariants as cause
+use Rattle.tn_world.proofs.Happening.{Done, unmoved, types, enters, sends, resizes, proposes, reaches, returns, asks, takes, stops, done_of}
 use Rattle.tn_world.proofs.Cut.{said_behind, cut_at}
 use Rattle.tn_world.proofs.Reading.{all_parts}
 use Rattle.tn_world.proofs.Saying.{says_no_wish, said_no_wish}
@@ -116,11 +116,7 @@ propose_goes_on end (client_calls.proposed func value) e = by_test end.failed re
     by_test : (b : Bool) → end.failed ≡ b → end.failed ≡ false
     by_test true is = absurd (let f = ap (λ (b : Bool). client.propose_fault (record end { failed = b }) func value) (sym is) ∙ e in cc)
     by_test false is = is
-propose_goes_on end (client_calls.typed key) e = call_goes_on end e
-propose_goes_on end client_calls.entered e = call_goes_on end e
-propose_goes_on end (client_calls.got item) e = call_goes_on end e
-propose_goes_on end (client_calls.resized width height) e = call_goes_on end e
-propose_goes_on end (client_calls.sent command) e = call_goes_on end e
+propose_goes_on end _ e = call_goes_on end e
 
 -- THE OPTION WORDS in flight
 -- two engines of a server and a client, from their beginning
@@ -369,36 +365,21 @@ sound_returns old new n t s =
     (all_parts WishesNothing (client_says.items_said at.history) said
     (subst (All WishesNothing) (says_all at.history old.client f.items at.leads) (said_no_wish (client_calls.gets at.history f.items)))).1))
 
-unless : (stopped : Bool) (old new : World) (happens : Type 0) → (happens → HasPast old → HasPast new) → UnlessStopped stopped old new happens → HasPast old
-    → HasPast new
-unless true old new happens done is s = subst (λ w. HasPast w) (sym is) s
-unless false old new happens done is s = done is s
+sound_done : (old new : World) (e : Event) → Done old e new → HasPast old → HasPast new
+sound_done old new e (unmoved is) s = subst (λ w. HasPast w) (sym is) s
+sound_done old new e (types key t) s = sound_types old new (client_calls.typed key) key tt t s
+sound_done old new e (enters t) s = sound_types old new client_calls.entered lf tt t s
+sound_done old new e (sends command is t) s = sound_sends old new command t s
+sound_done old new e (resizes width height t) s = sound_tells old new (client_calls.resized width height) tt t s
+sound_done old new e (proposes func value is t) s = sound_tells old new (client_calls.proposed func value) tt t s
+sound_done old new e (reaches n t) s = sound_reaches old new n t s
+sound_done old new e (returns n is t) s = sound_returns old new n t s
+sound_done old new e (asks call is plain adds t) s = sound_asks old new call is t s
+sound_done old new e (takes t) s = sound_takes old new t s
+sound_done old new e (stops a b is) s = subst (λ w. HasPast w) (sym is) (sound_as old _ refl refl refl refl s)
 
 pub sound_does : (old new : World) (e : Event) → RunsEvent old e new → HasPast old → HasPast new
-sound_does old new (Key key) d s = unless old.client_stopped old new (TypesKey old key new) (sound_types old new (client_calls.typed key) key tt) d s
-sound_does old new NewLine d s = unless old.client_stopped old new (EntersLine old new) (sound_types old new client_calls.entered lf tt) d s
-sound_does old new (Send command) d s = unless old.client_stopped old new (SendsCommand old command new) (sound_sends old new command) d s
-sound_does old new (ToServer n) d s = unless old.server_stopped old new (DeliversToServer old n new) (sound_reaches old new n) d s
-sound_does old new (ToClient n) d s = unless old.client_stopped old new (DeliversToClient old n new) (sound_returns old new n) d s
-sound_does old new (Write bytes) d s = unless old.server_stopped old new (CallsServer old (server_calls.wrote bytes) new)
-    (sound_asks old new (server_calls.wrote bytes) tt) d s
-sound_does old new (Pull n) d s =
-    unless old.server_stopped old new (Pulls old n new) (sound_asks old new (server_calls.pulled (min n (length old.server.terminal.queue))) tt) d s
-sound_does old new Take d s = sound_takes old new d s
-sound_does old new (Wish editing) d s = unless old.server_stopped old new (CallsServer old (server_calls.wished editing) new)
-    (sound_asks old new (server_calls.wished editing) tt) d s
-sound_does old new (Resize width height) d s =
-    unless old.client_stopped old new (CallsClient old (client_calls.resized width height) new) (sound_tells old new (client_calls.resized width height) tt) d s
-sound_does old new (SetChar func value) d s =
-    unless old.server_stopped old new (CallsServer old (server_calls.char_set func value) new) (sound_asks old new (server_calls.char_set func value) tt) d s
-sound_does old new (Propose func value) d s =
-    unless old.client_stopped old new (CallsClient old (client_calls.proposed func value) new) (sound_tells old new (client_calls.proposed func value) tt) d s
-sound_does old new (Echo on) d s = unless old.server_stopped old new (CallsServer old (server_calls.echo_set on) new)
-    (sound_asks old new (server_calls.echo_set on) tt) d s
-sound_does old new (Mask mask) d s = unless old.server_stopped old new (CallsServer old (server_calls.mask_set mask) new)
-    (sound_asks old new (server_calls.mask_set mask) tt) d s
-sound_does old new ServerStops d s = subst (λ w. HasPast w) (sym d) (sound_as old _ refl refl refl refl s)
-sound_does old new ClientStops d s = subst (λ w. HasPast w) (sym d) (sound_as old _ refl refl refl refl s)
+sound_does old new e d s = sound_done old new e (done_of old new e d) s
 
 -- REFUSALS
 -- the server stood where the items that were done lead, or failed before
@@ -410,8 +391,7 @@ stood old new piece before after (server_faults.Pty f) h s again halts of =
 stood old new piece before after server_faults.Memory h s again halts of =
     let x = halts tt in (x.done, stands_stopped h old new piece before after server_faults.Memory x s)
 stood old new piece before after server_faults.Failed h s again halts of = ([], subst (server.LeadsTo h) (sym (again refl)) s)
-stood old new piece before after (server_faults.Char f) h s again halts of = absurd of
-stood old new piece before after server_faults.NotOn h s again halts of = absurd of
+stood old new piece before after _ h s again halts of = absurd of
 
 -- what it said before it failed
 pub record SaidOn (before after : List ℕ) : Type 0 where
@@ -428,8 +408,7 @@ said_on old new piece before after server_faults.Memory h s again halts of = let
     halts tt in record { said = server_steps.says_items old x.done ++ x.part; appended = x.said; fit = halts_fit h old new piece before after server_faults.Memory s x }
 said_on old new piece before after server_faults.Failed h s again halts of =
     record { said = []; appended = again refl ∙ sym (append-nil before); fit = All-nil Fits }
-said_on old new piece before after (server_faults.Char f) h s again halts of = absurd of
-said_on old new piece before after server_faults.NotOn h s again halts of = absurd of
+said_on old new piece before after _ h s again halts of = absurd of
 
 -- the server failed, at a piece or before
 pub halts_sound : (old : World) (end : server.End) (piece left later : List ℕ) (fault : ServerFault) → (fault ≡ server_faults.Failed → end ≡ old.server)
@@ -484,33 +463,5 @@ pub refusal_of : (old new : World) (e : Event) (c : Cause) → Refuses old e c n
 refusal_of old new e cause.Memory r = unchanged r.1
 refusal_of old new (ToServer n) (cause.Server fault) r = by_server n fault refl r
 refusal_of old new (ToClient n) (cause.Client fault) r = by_client n fault refl r
-refusal_of old new (Key key) (cause.Server fault) r = unchanged r.1
-refusal_of old new NewLine (cause.Server fault) r = unchanged r.1
-refusal_of old new (Send command) (cause.Server fault) r = unchanged r.1
-refusal_of old new (ToClient n) (cause.Server fault) r = unchanged r.1
-refusal_of old new (Write bytes) (cause.Server fault) r = unchanged r.1
-refusal_of old new (Pull n) (cause.Server fault) r = unchanged r.1
-refusal_of old new Take (cause.Server fault) r = unchanged r.1
-refusal_of old new (Wish editing) (cause.Server fault) r = unchanged r.1
-refusal_of old new (Resize width height) (cause.Server fault) r = unchanged r.1
-refusal_of old new (SetChar func value) (cause.Server fault) r = unchanged r.1
-refusal_of old new (Propose func value) (cause.Server fault) r = unchanged r.1
-refusal_of old new (Echo on) (cause.Server fault) r = unchanged r.1
-refusal_of old new (Mask mask) (cause.Server fault) r = unchanged r.1
-refusal_of old new ServerStops (cause.Server fault) r = unchanged r.1
-refusal_of old new ClientStops (cause.Server fault) r = unchanged r.1
-refusal_of old new (Key key) (cause.Client fault) r = unchanged r.1
-refusal_of old new NewLine (cause.Client fault) r = unchanged r.1
-refusal_of old new (Send command) (cause.Client fault) r = unchanged r.1
-refusal_of old new (ToServer n) (cause.Client fault) r = unchanged r.1
-refusal_of old new (Write bytes) (cause.Client fault) r = unchanged r.1
-refusal_of old new (Pull n) (cause.Client fault) r = unchanged r.1
-refusal_of old new Take (cause.Client fault) r = unchanged r.1
-refusal_of old new (Wish editing) (cause.Client fault) r = unchanged r.1
-refusal_of old new (Resize width height) (cause.Client fault) r = unchanged r.1
-refusal_of old new (SetChar func value) (cause.Client fault) r = unchanged r.1
-refusal_of old new (Propose func value) (cause.Client fault) r = unchanged r.1
-refusal_of old new (Echo on) (cause.Client fault) r = unchanged r.1
-refusal_of old new (Mask mask) (cause.Client fault) r = unchanged r.1
-refusal_of old new ServerStops (cause.Client fault) r = unchanged r.1
-refusal_of old new ClientStops (cause.Client fault) r = unchanged r.1
+refusal_of old new e (cause.Server fault) r = unchanged r.1
+refusal_of old new e (cause.Client fault) r = unchanged r.1

@@ -11,7 +11,7 @@ use Rattle.tn_discipline.specs.Keys.{mapped_key, signal_of, role_by_signal, role
 use Rattle.tn_discipline.specs.Characters.{Characters}
 use Rattle.tn_discipline.specs.declared.termios.Settings.{Settings}
 use Rattle.tn_discipline.specs.declared.reads.Sig.{Sig}
-use Rattle.tn_discipline.specs.declared.reads.Sig.TheVariants.{Int, Quit, Tstp}
+use Rattle.tn_discipline.specs.declared.reads.Sig.TheVariants.{Int}
 use Rattle.tn_discipline.specs.declared.keys.Role.{Role}
 use Rattle.tn_discipline.specs.declared.keys.Role.TheVariants as role
 use Rattle.tn_codes.specs.declared.codes.Command.TheVariants.{Eof}
@@ -192,8 +192,7 @@ module _ (s : Canon) (l : Bool) (h : List ℕ) (w : List Entry) (held : List ℕ
 
   signal-follows : (sig : Sig) → Follows s l h w held (role.Signal sig) old (command_items (command_of (role.Signal sig)) ++ [])
   signal-follows Int = record { half = h; reads = refl; line = refl; ahead = count; plain = plain }
-  signal-follows Quit = record { half = h; reads = refl; line = refl; ahead = count; plain = plain }
-  signal-follows Tstp = record { half = h; reads = refl; line = refl; ahead = count; plain = plain }
+  signal-follows _ = record { half = h; reads = refl; line = refl; ahead = count; plain = plain }
 
   -- what closes a line
   closed : (item : Item) → read_all s (server_at l true h w) ((byte_items held ++ item ∷ []) ++ []) ≡ read s (server_at l true (h ++ held) w) item

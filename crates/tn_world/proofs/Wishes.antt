@@ -1,14 +1,16 @@
 -- The wish in force at a server is always one that its flags allow, and what else stays.
-use Rattle.std.proofs.Common.{◌≡◌, inl, inr, ℕ, Option, Some, None, refl, sym, ap, ◌∙◌, subst}
+use Rattle.std.proofs.Common.{◌≡◌, inl, inr, ℕ, Bool, true, false, if◌then◌else◌, Option, Some, None, refl, sym, ap, ◌∙◌, subst}
 use Rattle.tn_discipline.specs.Canon.{Canon}
 use Rattle.tn_discipline.specs.declared.termios.Flags.{Flags}
 use Rattle.tn_discipline.specs.declared.termios.Settings.{Settings}
 use Rattle.tn_option.specs.Options.{agrees_to, state_of}
 use Rattle.tn_option.specs.declared.q_method.Side.TheVariants.{Them}
 use Rattle.tn_server.specs.Calls.{End, LeadsTo}
-use Rattle.tn_server.specs.Events.{History, begun, next, got, took, wrote, pulled, wished, char_set, echo_set, mask_set}
+use Rattle.tn_server.specs.Events.{History, begun, next, got, wished}
 use Rattle.tn_server.specs.Terms as terms
-use Rattle.tn_server.specs.Terms.{mask_for, wish_after}
+use Rattle.tn_server.specs.Terms.{mask_for, wish_after, allows_local}
+use Rattle.tn_linemode.specs.Modes.{mode_of, is_acknowledged}
+use Rattle.tn_world.specs.relation.Machine.{bits, IsAskable}
 use Rattle.tn_server.specs.declared.wishes.Editing.{Editing}
 use Rattle.tn_server.specs.declared.wishes.Editing.TheVariants.{Remote, Local}
 use Rattle.tn_world.specs.relation.Pictures.{NeverEnds, IsAllowed, IsFlagged, ServerStays}
@@ -17,6 +19,31 @@ use Rattle.tn_world.proofs.Engines.{server_agrees}
 pub allowed_wish : (f : Flags) (editing : Editing) (mask : ℕ) → mask_for f editing ≡ Some mask → IsAllowed f mask
 allowed_wish f Remote mask e = inl (cc)
 allowed_wish f Local mask e = inr e
+
+-- a mask that a server with these settings asks for
+abbrev pub IsAskedMask : Settings → ℕ → Type 0
+IsAskedMask s mask = (is_acknowledged (mode_of mask) ≡ false) × IsAskable s (bits (mode_of mask))
+
+local_mask : (s : Settings) (allowed isig : Bool) (mask : ℕ) → allows_local s.flags ≡ allowed → s.flags.isig ≡ isig
+    → (if allowed then Some (if isig then 3 else 1) else None) ≡ Some mask → IsAskedMask s mask
+local_mask s false isig mask a i e = absurd (cc)
+local_mask s true true mask a i e =
+    let same : 3 ≡ mask = cc in
+    subst (IsAskedMask s) same (refl, inr (a, ap (λ (b : Bool). record { edit = true; trapsig = b }) (sym i)))
+local_mask s true false mask a i e =
+    let same : 1 ≡ mask = cc in
+    subst (IsAskedMask s) same (refl, inr (a, ap (λ (b : Bool). record { edit = true; trapsig = b }) (sym i)))
+
+mask_by : (s : Settings) (echo : Bool) (ed : Editing) (mask : ℕ) → mask_for (record (s.flags) { echo = echo }) ed ≡ Some mask → IsAskedMask s mask
+mask_by s echo Remote mask e = let same : 0 ≡ mask = cc in subst (IsAskedMask s) same (refl, inl refl)
+mask_by s echo Local mask e = local_mask s (allows_local s.flags) s.flags.isig mask refl refl e
+
+pub mask_asked : (s : Settings) (f : Flags) (ed : Editing) (mask : ℕ) → f ≡ record (s.flags) { echo = f.echo } → mask_for f ed ≡ Some mask → IsAskedMask s mask
+mask_asked s f ed mask same e = mask_by s f.echo ed mask (ap (λ (g : Flags). mask_for g ed) (sym same) ∙ e)
+
+pub wish_asked : (s : Settings) (f : Flags) (wish : ℕ) → f ≡ record (s.flags) { echo = f.echo } → IsAllowed f wish → IsAskedMask s wish
+wish_asked s f wish same (inl is) = subst (IsAskedMask s) (sym is) (refl, inl refl)
+wish_asked s f wish same (inr is) = mask_asked s f Local wish same is
 
 allowed_or : (f : Flags) (before : ℕ) (mask : Option ℕ) → mask_for f Local ≡ mask → IsAllowed f before → IsAllowed f (terms.mask_or before mask)
 allowed_or f before None is h = h
@@ -30,13 +57,8 @@ allowed_after f before (Some Local) h = allowed_or f before (mask_for f Local) r
 pub wish_allowed : (h : History) → IsAllowed (terms.flags h) (terms.terms h).wish
 wish_allowed (begun s) = inl refl
 wish_allowed (next h (got item)) = allowed_after (terms.flags h) (terms.terms h).wish (terms.wish_at (terms.options h) (got item)) (wish_allowed h)
-wish_allowed (next h took) = wish_allowed h
-wish_allowed (next h (wrote bytes)) = wish_allowed h
-wish_allowed (next h (pulled n)) = wish_allowed h
 wish_allowed (next h (wished editing)) = allowed_after (terms.flags h) (terms.terms h).wish (Some editing) (wish_allowed h)
-wish_allowed (next h (char_set func value)) = wish_allowed h
-wish_allowed (next h (echo_set on)) = wish_allowed h
-wish_allowed (next h (mask_set mask)) = wish_allowed h
+wish_allowed (next h _) = wish_allowed h
 
 -- what stays at a server that a history leads to
 pub stays_at : (canon : Canon) (h : History) (end : End) → LeadsTo h end → NeverEnds (state_of end.terms.options Them 34)

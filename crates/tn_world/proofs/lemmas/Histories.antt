@@ -56,7 +56,7 @@ same_core h a b s t =
 
 same_stays : (canon : Canon) (h : server.History) (a b : ServerEnd) → LeadsTo h a → LeadsTo h b → ServerStays canon a → ServerStays canon b
 same_stays canon h a b s t k =
-    server_steps.stays_aside canon a b (t.terms ∙ sym s.terms) (t.table ∙ sym s.table) (t.settings ∙ sym s.settings) (line_is h b t ∙ sym (line_is h a s)) k
+    server_steps.stays_aside canon a b (t.terms ∙ sym s.terms) (t.table ∙ sym s.table) (t.settings ∙ sym s.settings) (t.limit ∙ sym s.limit) (t.ahead ∙ sym s.ahead) k
 
 -- the end after one more event
 next_core : (h : server.History) (e : server.Event) → server_core (server_at (server.next h e)) ≡ server_core (server_after (server_at h) e)
@@ -76,12 +76,7 @@ next_said h e = server_leads.says_as h (server_at h) e (server_there h)
 items_call : (h : server.History) (e : server.Event) → IsCall e → server.items (server.next h e) ≡ server.items h
 items_call h (server.got item) is = absurd is
 items_call h (server.char_set func value) is = absurd is
-items_call h server.took is = refl
-items_call h (server.wrote bytes) is = refl
-items_call h (server.pulled n) is = refl
-items_call h (server.wished editing) is = refl
-items_call h (server.echo_set on) is = refl
-items_call h (server.mask_set mask) is = refl
+items_call h _ is = refl
 
 -- what was typed at a client, a new line as LF and a command as the key that it stands for at a terminal with these settings
 abbrev pub keys_typed : Settings → client.History → List ℕ
@@ -141,8 +136,6 @@ reaches canon h k x p t =
 tied_called : (canon : Canon) (h : server.History) (k : client.History) (e : server.Event) (there back : List Item) → IsCall e
     → IsTied canon (keys_typed canon.settings k) (taken_at h) there back (server_at h) (end_at k)
     → IsTied canon (keys_typed canon.settings k) (taken_at (server.next h e)) there (back ++ server_said (server_at h) e) (server_after (server_at h) e) (end_at k)
-tied_called canon h k (server.got item) there back is t = absurd is
-tied_called canon h k (server.char_set func value) there back is t = absurd is
 tied_called canon h k server.took there back is t =
     subst (λ (es : List Entry). IsTied canon (keys_typed canon.settings k) es there (back ++ server_said (server_at h) server.took)
     (server_after (server_at h) server.took) (end_at k)) (sym (taken_took h)) (take-tied t)
@@ -151,6 +144,7 @@ tied_called canon h k (server.pulled n) there back is t = call-tied t (server.pu
 tied_called canon h k (server.wished editing) there back is t = call-tied t (server.wished editing) tt
 tied_called canon h k (server.echo_set on) there back is t = call-tied t (server.echo_set on) tt
 tied_called canon h k (server.mask_set mask) there back is t = call-tied t (server.mask_set mask) tt
+tied_called canon h k _ there back is t = absurd is
 
 pub called : (canon : Canon) (h : server.History) (k : client.History) (e : server.Event) → IsCall e → TiedHistories canon h k
     → TiedHistories canon (server.next h e) k
