@@ -193,6 +193,19 @@ def at_a_served_terminal_brk_and_ip_do_what_the_key_does(world, is_local):
         expect_same((by_key[-1], 1), (by_command[-1], b"".join(by_command).count(b"int")), f"the last line by {command!r}, and its signals")
 
 
+@case(each={f"{name}, edited at {end}": (words, *is_local) for end, is_local in EDITED_AT.items()
+            for name, words in {"CR LF": ("--return", "crlf"), "LF": ("--return", "lf"), "CR NUL": ()}.items()})
+def a_line_ends_by_whatever_return_sends(world, words, is_local):
+    shown = typed_to_ours(world, is_local, (b"abc\rd", b"abc\r\n", b"abc\r\n", b"d"), (b"\x7fe\r", b"e\r\n", b"e\r\n"), client=words)
+    expect_same(2, shown.count(b"abc\r\n"), "how often the line is shown")
+
+
+@case(each={"another word": ("--return", "cr"), "no word": ("--return=",)})
+def what_return_may_send_is_reported(world, *words):
+    run = world.run("connect", *words, "127.0.0.1:1")
+    expect_same((2, True), (run.returncode, b"it is none of `crnul`, `crlf` and `lf`" in run.stderr), "the status, and that it is reported")
+
+
 @case(each=EDITED_AT)
 def the_terminals_own_characters_are_taken(world, is_local):
     own = {termios.VERASE: b"\x08", termios.VINTR: b"\x18", termios.VKILL: b"\x03", termios.VEOF: b"\x05"}
@@ -221,6 +234,9 @@ ESCAPED = bytes([IAC, BRK])
     "a long line": (b"a\x1d" + b"b" * 300 + b"\rc\x1d" + b"b" * 300 + b"\x7f" * 254 + b"\rd.", b"ac" + ESCAPED + b"d."),
     "another escape character": (b"\x1dq\x01b\r.", b"\x1dq" + ESCAPED + b".", {}, "--escape", "^A"),
     "no escape character": (b"\x1dq.", b"\x1dq.", {}, "--escape", "none"),
+    "RETURN as CR NUL": (b"a\r\r\n.", b"a\r\0\r\0\n.", {}, "--return", "crnul"),
+    "RETURN as CR LF": (b"a\r\r\n\x1d\r.", b"a\r\n\r\n\n.", {}, "--return", "crlf"),
+    "RETURN as LF": (b"a\r\r\n.", b"a\n\n\n.", {}, "--return=lf"),
     "own characters": (b"123456\x1d\x1d.", b"\x03\x1c\x1a\x7f\x15\x04\x1d.", {
         termios.VINTR: b"1", termios.VQUIT: b"2", termios.VSUSP: b"3", termios.VERASE: b"4", termios.VKILL: b"5", termios.VEOF: b"6"}),
     "own characters that are taken otherwise": (b"\x1d\x1d#\x1db\r.", b"\x1d\x7f" + ESCAPED + b".", {

@@ -100,7 +100,7 @@ def faults_are_reported(world):
 
 @case
 def options_of_telnet_are_not_for_plain(world):
-    for word in ("--trace=f", "--escape=^]", "--escape=none", "--width=80", "--height=24"):
+    for word in ("--trace=f", "--return=crlf", "--escape=^]", "--escape=none", "--width=80", "--height=24"):
         run = world.run("connect", "--plain", word, "127.0.0.1:1")
         expect_same((2, True), (run.returncode, b"--plain" in run.stderr), f"the status of {word}, and that it is reported")
 

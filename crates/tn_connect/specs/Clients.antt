@@ -11,6 +11,7 @@ use Rattle.tn_connect.specs.declared.settings.KeySource.{KeySource}
 use Rattle.tn_connect.specs.declared.settings.KeySource.TheVariants.{Reader, Input, Terminal}
 use Rattle.tn_sockets.specs.Typing.{of_bytes}
 use Rattle.tn_sockets.specs.declared.escaping.Keyboard.{Keyboard}
+use Rattle.tn_sockets.specs.declared.escaping.ReturnKey.{ReturnKey}
 use Rattle.tn_session.specs.Client.{RunningClient}
 use Rattle.tn_session.specs.Facts.{Window, client_result}
 use Rattle.tn_session.specs.declared.parties.ClientPorts.{ClientPorts}
@@ -44,13 +45,14 @@ foreseen (Terminal own) bytes =
     }
 
 -- what the bytes of keys stand for: only at a terminal for anything but themselves
-abbrev pub keyboard_by : KeySource → Option ℕ → Keyboard
-keyboard_by Reader escape = of_bytes
-keyboard_by Input escape = of_bytes
-keyboard_by (Terminal own) escape = record { escape = escape; own = own; editing = own }
+abbrev pub keyboard_by : KeySource → Option ℕ → ReturnKey → Keyboard
+keyboard_by Reader escape returns = of_bytes
+keyboard_by Input escape returns = of_bytes
+keyboard_by (Terminal own) escape returns =
+    record { escape = escape; own = own; editing = own; returns = returns }
 
 abbrev pub keyboard_of : Connecting → Keyboard
-keyboard_of connecting = keyboard_by connecting.origin connecting.escape
+keyboard_of connecting = keyboard_by connecting.origin connecting.escape connecting.returns
 
 -- A client's session ran with these keys and this screen, before and after it, wrote these bytes, and gave
 -- back this. Of what the connection brings nothing was known before, but that it tells no size; all that was

@@ -279,6 +279,7 @@ fn keyboard_of(connecting: &Connecting) -> Keyboard
             escape: connecting.escape,
             own,
             editing: own,
+            returns: connecting.returns,
         },
         KeySource::Reader | KeySource::Input => Keyboard::of_bytes(),
     }

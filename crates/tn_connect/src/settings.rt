@@ -6,7 +6,7 @@ use std::fs::File;
 use std::sync::Arc;
 use tn_discipline::Limit;
 use tn_lines::LineEnd;
-use tn_sockets::{Link, OwnCharacters};
+use tn_sockets::{Link, OwnCharacters, ReturnKey};
 
 /// Where the keys of a client come from.
 #[derive(Clone, Copy, PartialEq, Eq)]
@@ -35,6 +35,8 @@ pub struct Connecting {
     pub origin: KeySource,
     /// The escape character of a terminal, if it has one.
     pub escape: Option<u8>,
+    /// What RETURN sends at a terminal.
+    pub returns: ReturnKey,
     /// How many seconds after the end of standard input the server is told that no more comes.
     pub wait: u32,
     /// For how many seconds nothing may come after that; at 0 it may for ever.

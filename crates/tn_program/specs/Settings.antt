@@ -21,7 +21,11 @@ use Rattle.tn_words.specs.declared.settings.Characters.TheVariants.{Own, Standar
 use Rattle.tn_words.specs.declared.settings.ConnectWords.{ConnectWords}
 use Rattle.tn_words.specs.declared.settings.Escape.{Escape}
 use Rattle.tn_words.specs.declared.settings.Escape.TheVariants as escape
+use Rattle.tn_words.specs.declared.settings.ReturnBytes.{ReturnBytes}
+use Rattle.tn_words.specs.declared.settings.ReturnBytes.TheVariants as bytes
 use Rattle.tn_words.specs.declared.settings.ServeWords.{ServeWords}
+use Rattle.tn_sockets.specs.declared.escaping.ReturnKey.{ReturnKey}
+use Rattle.tn_sockets.specs.declared.escaping.ReturnKey.TheVariants.{CrNul, CrLf, Lf}
 
 abbrev pub editing_as : Bool → Editing
 editing_as true = Local
@@ -85,6 +89,11 @@ window_as asked =
 abbrev pub escape_as : Escape → Option ℕ
 escape_as (escape.Key key) = Some key
 escape_as escape.None = None
+
+abbrev pub return_as : ReturnBytes → ReturnKey
+return_as bytes.CrNul = CrNul
+return_as bytes.CrLf = CrLf
+return_as bytes.Lf = Lf
 
 -- where the keys come from: with the standard characters a terminal has none of its own
 abbrev pub origin_as : Characters → KeySource → KeySource

@@ -2,16 +2,16 @@
 
 ghost use Rattle.std.specs.Prelude.{◌≡◌};
 ghost use Rattle.tn_connect.specs.Clients.{window_of};
-ghost use Rattle.tn_program.specs.Settings.{count_as, escape_as, lines_as, options_as, origin_as, plain_as};
+ghost use Rattle.tn_program.specs.Settings.{count_as, escape_as, lines_as, options_as, origin_as, plain_as, return_as};
 ghost use Rattle.tn_program.specs.Settings.{window_as};
 
 use log::Level;
 use std::alloc::{AllocError, Global};
-use tn_connect::{Connecting, KeySource, OwnCharacters, Plain};
+use tn_connect::{Connecting, KeySource, OwnCharacters, Plain, ReturnKey};
 use tn_serve::{Call, Finished, NoteFormat, NoteStyle, Service, Serving, SessionOptions};
 use tn_server::Editing;
 use tn_services::{Answerer, Answerers, LineFormat};
-use tn_words::{Characters, Escape, LineEnd, USUAL_HEIGHT, USUAL_WIDTH};
+use tn_words::{Characters, Escape, LineEnd, ReturnBytes, USUAL_HEIGHT, USUAL_WIDTH};
 
 /// After how many connections a server without end stops: more than can ever be accepted.
 const WITHOUT_END: u64 = u64::MAX;
@@ -127,6 +127,7 @@ pub(crate) fn connecting_of(asked: &tn_words::ConnectWords, origin: KeySource) -
     ensures window { window_of result ≡ window_as asked.now }
     ensures origin { result.origin ≡ origin_as asked.now.characters origin }
     ensures escape { result.escape ≡ escape_as asked.now.escape }
+    ensures returns { result.returns ≡ return_as asked.now.returns }
     ensures port { result.port ≡ asked.now.port }
     ensures wait { result.wait ≡ asked.now.wait }
     ensures patience { result.patience ≡ asked.now.patience }
@@ -139,6 +140,7 @@ pub(crate) fn connecting_of(asked: &tn_words::ConnectWords, origin: KeySource) -
         line_limit: asked.line_limit,
         origin: origin_of(asked.characters, origin),
         escape: escape_of(asked.escape),
+        returns: return_of(asked.returns),
         wait: asked.wait,
         patience: asked.patience,
         timeout: asked.timeout,
@@ -175,6 +177,16 @@ fn origin_of(characters: Characters, origin: KeySource) -> KeySource
             OwnCharacters::none(),
         ),
         _ => origin,
+    }
+}
+
+fn return_of(returns: ReturnBytes) -> ReturnKey
+    ensures { result ≡ return_as returns }
+{
+    match returns {
+        ReturnBytes::CrNul => ReturnKey::CrNul,
+        ReturnBytes::CrLf => ReturnKey::CrLf,
+        ReturnBytes::Lf => ReturnKey::Lf,
     }
 }
 

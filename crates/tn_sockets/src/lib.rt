@@ -9,7 +9,7 @@
 //! let sent = sending.run()?; // in a thread of its own
 //!
 //! let own = OwnCharacters::none();
-//! let keyboard = Keyboard { escape: Some(0x1d), own, editing: own }; // ^]
+//! let keyboard = Keyboard { escape: Some(0x1d), own, editing: own, returns: ReturnKey::CrNul }; // ^]
 //! let mut escaping = Escaping::new(keyboard);
 //! escaping.take(b'a'); // Typed::Key(b'a')
 //! escaping.take(0x1d); // Typed::Nothing

@@ -113,6 +113,7 @@ connect = with_rules (codes "connect") (
     ∷ whole_rule (codes "line") 255 4095
     ∷ text_rule (codes "escape")
     ∷ text_rule (codes "keys")
+    ∷ text_rule (codes "return")
     ∷ text_rule (codes "trace")
     ∷ text_rule (codes "log")
     ∷ wait_rule

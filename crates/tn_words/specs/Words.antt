@@ -18,6 +18,9 @@ use Rattle.tn_words.specs.declared.words.Asked.TheVariants.{Local, Replay, Decod
 use Rattle.tn_words.specs.declared.settings.Address.{Address}
 use Rattle.tn_words.specs.declared.settings.Characters.{Characters}
 use Rattle.tn_words.specs.declared.settings.Characters.TheVariants.{Own, Standard}
+use Rattle.tn_words.specs.declared.settings.ReturnBytes.{ReturnBytes}
+use Rattle.tn_words.specs.declared.settings.ReturnBytes.TheVariants.{CrNul}
+use Rattle.tn_words.specs.declared.settings.ReturnBytes.TheVariants as returns
 use Rattle.tn_words.specs.declared.settings.ConnectWords.{ConnectWords}
 use Rattle.tn_words.specs.declared.settings.Escape.{Escape}
 use Rattle.tn_words.specs.declared.settings.ServeWords.{ServeWords}
@@ -187,7 +190,8 @@ pub record AsksPlace (rows : List Row) (host : Text) (port : ℕ) : Type 0 where
 
 -- an option is given that is of use to a client of Telnet alone
 abbrev pub has_telnet_option : List Row → Bool
-has_telnet_option rows = is_given (codes "escape") rows || is_given (codes "trace") rows
+has_telnet_option rows =
+    is_given (codes "escape") rows || is_given (codes "return") rows || is_given (codes "trace") rows
     || is_given (codes "width") rows || is_given (codes "height") rows
 
 -- the line end that `--plain`, `--lf` and `--cr` choose, or none of it; no other choice of them is accepted,
@@ -221,6 +225,20 @@ chosen_characters (Some text) = named_characters text
 abbrev pub characters_in : List Row → Option Characters
 characters_in rows = chosen_characters (first_of (codes "keys") rows)
 
+-- what RETURN sends, by this word, and CR NUL if there is none
+abbrev pub named_return : Text → Option ReturnBytes
+named_return text =
+    if bytes_eq text (codes "crnul") then Some CrNul
+    else (if bytes_eq text (codes "crlf") then Some returns.CrLf
+    else (if bytes_eq text (codes "lf") then Some returns.Lf else None))
+
+abbrev pub chosen_return : Option Text → Option ReturnBytes
+chosen_return None = Some CrNul
+chosen_return (Some text) = named_return text
+
+abbrev pub return_in : List Row → Option ReturnBytes
+return_in rows = chosen_return (first_of (codes "return") rows)
+
 -- how many bytes a line may have if no number is given
 abbrev pub usual_line : Bool → ℕ
 usual_line true = 4095
@@ -241,6 +259,7 @@ pub record AsksConnect (rows : List Row) (asked : ConnectWords) : Type 0 where
   pub line : AsksLine rows asked.line_limit
   pub escape : HasEscape rows asked.escape
   pub characters : characters_in rows ≡ Some asked.characters
+  pub returns : return_in rows ≡ Some asked.returns
   pub trace : option_map string_bytes asked.trace ≡ first_of (codes "trace") rows
   pub log : option_map string_bytes asked.log ≡ first_of (codes "log") rows
   pub wait : HasNumber rows (codes "wait") 0 86400 asked.wait

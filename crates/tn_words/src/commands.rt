@@ -137,6 +137,7 @@ pub(crate) const HOST: &str = "host";
 pub(crate) const ESCAPE: &str = "escape";
 
 pub(crate) const KEYS: &str = "keys";
+pub(crate) const RETURN: &str = "return";
 
 pub(crate) const TRACE: &str = "trace";
 
@@ -326,6 +327,11 @@ const CONNECT_CHOICES: &[Choice] = &[
         "WHOSE",
         "Takes the keys of a terminal by its `own` special characters, which is the default, or by the \
          `standard` ones",
+    ),
+    Choice::Text(
+        RETURN,
+        "BYTES",
+        "What RETURN sends at a terminal while keys go one at a time: `crnul`, which is the default, `crlf` or `lf`",
     ),
     Choice::Text(
         TRACE,

@@ -9,7 +9,7 @@
 
 pub use commands::VERSION_LINE;
 pub use settings::{
-    Address, Characters, ConnectWords, Escape, ServeWords, USUAL_HEIGHT, USUAL_WIDTH,
+    Address, Characters, ConnectWords, Escape, ReturnBytes, ServeWords, USUAL_HEIGHT, USUAL_WIDTH,
 };
 pub use tn_lines::LineEnd;
 pub use words::{Asked, WordsFault, read_words};

@@ -4,7 +4,7 @@ ghost use Rattle.std.specs.Prelude.{◌≡◌, ℕ, Bool, List, Option, Ok, None
 ghost use Rattle.tn_words.specs.Addresses.{WritesAddress, WritesHost, WritesName, WritesPlace};
 ghost use Rattle.tn_words.specs.Addresses.{has_colon, has_one_colon, has_port};
 ghost use Rattle.tn_words.specs.Escapes.{IsControlOf, WritesEscape};
-ghost use Rattle.tn_words.specs.Words.{named_characters};
+ghost use Rattle.tn_words.specs.Words.{named_characters, named_return};
 
 use std::alloc::{AllocError, Global};
 use tn_discipline::Limit;
@@ -223,6 +223,32 @@ impl Characters {
     }
 }
 
+/// What RETURN sends while keys go one at a time (RFC 1123, section 3.3.1).
+#[derive(Clone, Copy, Debug, PartialEq, Eq)]
+pub enum ReturnBytes {
+    CrNul,
+    CrLf,
+    Lf,
+}
+
+impl ReturnBytes {
+    // What a word names.
+    pub(crate) fn from_text(text: &str) -> Option<ReturnBytes>
+        ensures { result ≡ named_return text.now }
+    {
+        if text == "crnul" {
+            return Some(ReturnBytes::CrNul);
+        }
+        if text == "crlf" {
+            return Some(ReturnBytes::CrLf);
+        }
+        if text == "lf" {
+            return Some(ReturnBytes::Lf);
+        }
+        None
+    }
+}
+
 /// How to connect.
 #[derive(Debug, Drop, PartialEq, Eq)]
 pub struct ConnectWords {
@@ -240,6 +266,8 @@ pub struct ConnectWords {
     pub escape: Escape,
     /// Whose special characters the keys of a terminal are taken by.
     pub characters: Characters,
+    /// What RETURN sends at a terminal.
+    pub returns: ReturnBytes,
     /// The file that gets a trace of the connection.
     pub trace: Option<String>,
     /// The file that gets what the screen gets.

@@ -10,18 +10,18 @@ ghost use Rattle.tn_words.specs.Words.{HasEscape, HasNumber, HasPlace, IsPath, L
 ghost use Rattle.tn_words.specs.Words.{MayHaveAddress, MayHaveNumber};
 ghost use Rattle.tn_words.specs.Words.{MayHavePath, MissesNumber, Refuses, TellsKind, chosen_count};
 ghost use Rattle.tn_words.specs.Words.{chosen_logfmt, chosen_word, logfmt_in, sends_signals_in};
-ghost use Rattle.tn_words.specs.Words.{characters_in, chosen_line_end, detail_of, ends_cut_in};
+ghost use Rattle.tn_words.specs.Words.{characters_in, return_in, chosen_line_end, detail_of, ends_cut_in};
 ghost use Rattle.tn_words.specs.Words.{has_telnet_option};
 ghost use Rattle.tn_words.specs.Words.{is_flagged, is_given, line_end_in, one_port, service_line_end};
 ghost use Rattle.tn_words.specs.Words.{service_line_end_in, usual_line};
 
 use crate::commands::{
-    AT, CONNECT, COUNT, CR, CRLF, DECODE, DRAIN, ESCAPE, FOREVER, HEIGHT, HOST, IDLE, KEYS, LF,
+    AT, CONNECT, COUNT, CR, CRLF, DECODE, DRAIN, ESCAPE, FOREVER, HEIGHT, HOST, IDLE, KEYS, LF, RETURN,
     LIMIT, LINE, LINE_CUT, LOCAL, LOCALLY, LOG, LONGEST, METRICS, MOST_PATH, NOTES, PATIENCE,
     PER_HOST, PLAIN, PORT, PROXIED, QUIET, REPLAY, SERVE, SIGNALS, TICKS, TIMEOUT, TO, TRACE,
     UNTIL, VERBOSE, VERSION_LINE, WAIT, WIDTH, WORLD, Whole, tn_command,
 };
-use crate::settings::{Address, Characters, ConnectWords, Escape, ServeWords, place_in};
+use crate::settings::{Address, Characters, ConnectWords, Escape, ReturnBytes, ServeWords, place_in};
 use clap::error::ErrorKind;
 use clap::{ArgMatches, Error};
 use std::alloc::{AllocError, Global};
@@ -111,11 +111,12 @@ const NO_HOST: &str = "'[HOST]': it is no host, nor one with a port of 1 to 6553
 
 const NO_LINE_END: &str = "'--lf' and '--cr' exclude each other, and need '--plain'";
 
-const NO_TELNET: &str = "'--plain' excludes '--escape', '--trace', '--width' and '--height'";
+const NO_TELNET: &str = "'--plain' excludes '--escape', '--return', '--trace', '--width' and '--height'";
 
 const NO_ESCAPE: &str =
     "'--escape <C>': it is neither `none` nor a caret and one of A to Z, [, \\, ], ^ and _";
 
+const NO_RETURN: &str = "'--return <BYTES>': it is none of `crnul`, `crlf` and `lf`";
 const NO_CHARACTERS: &str = "'--keys <WHOSE>': it is neither `own` nor `standard`";
 
 const NO_SERVICE_LINE_END: &str = "'--crlf' and '--cr' exclude each other, and need '--to'";
@@ -477,6 +478,7 @@ fn connecting(alloc: Global, words: &ArgMatches<'_>) -> Result<ConnectWords, Wor
     let place = place_of(alloc, words)?;
     let escape = escape_of(alloc, words)?;
     let characters = characters_of(alloc, words)?;
+    let returns = return_of(alloc, words)?;
     let Some(plain) = line_end_in(words) else {
         return Err(lacking(alloc, &line_end_lack(words)));
     };
@@ -490,6 +492,7 @@ fn connecting(alloc: Global, words: &ArgMatches<'_>) -> Result<ConnectWords, Wor
         line_limit: numbers.line_limit,
         escape,
         characters,
+        returns,
         trace,
         log,
         wait: numbers.wait,
@@ -631,6 +634,19 @@ fn characters_of(alloc: Global, words: &ArgMatches<'_>) -> Result<Characters, Wo
     }
 }
 
+fn return_of(alloc: Global, words: &ArgMatches<'_>) -> Result<ReturnBytes, WordsFault>
+    ensures asked { IfOk result (λ returns. return_in (rows_of (found_of words.now)) ≡ Some returns) }
+    ensures lacks { IfErr result (Lacks (return_in (rows_of (found_of words.now)) ≡ None)) }
+{
+    let Some(text) = words.get_str(RETURN) else {
+        return Ok(ReturnBytes::CrNul);
+    };
+    match ReturnBytes::from_text(text) {
+        Some(returns) => Ok(returns),
+        None => Err(lacking(alloc, &Lack::Value(text, NO_RETURN))),
+    }
+}
+
 // What ends a line that is sent without Telnet, where that is asked for; `None` where the flags make no
 // sense.
 fn line_end_in(words: &ArgMatches<'_>) -> Option<Option<LineEnd>>
@@ -661,10 +677,11 @@ fn has_telnet_option(words: &ArgMatches<'_>) -> bool
     ensures { result ≡ has_telnet_option (rows_of (found_of words.now)) }
 {
     let escape = is_given(words, ESCAPE);
+    let returns = is_given(words, RETURN);
     let trace = is_given(words, TRACE);
     let width = is_given(words, WIDTH.name);
     let height = is_given(words, HEIGHT.name);
-    escape || trace || width || height
+    escape || returns || trace || width || height
 }
 
 // What is wrong where the words choose no line end.

@@ -8,7 +8,7 @@ use std::test::Fail;
 use std::thread;
 use std::thread::JoinHandle;
 use tn_connect::{
-    ClientContext, ConnectFault, Connecting, Host, KeySource, Link, News, Screen, connect,
+    ClientContext, ConnectFault, Connecting, Host, KeySource, Link, News, ReturnKey, Screen, connect,
 };
 use tn_discipline::Limit;
 
@@ -53,6 +53,7 @@ where
         line_limit: Limit::standard(),
         origin: KeySource::Reader,
         escape: None,
+        returns: ReturnKey::CrNul,
         wait: 0,
         patience: 0,
         timeout: 0,

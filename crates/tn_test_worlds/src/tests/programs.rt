@@ -64,21 +64,21 @@ const ASKED: &[(&str, &str)] = &[
          local: false, verbose: false, logfmt: false, metrics: None, to: Some(Address { host: \"h\", port: 7 }), line_end: Cr, ends_cut: false, sends_signals: false })",
     ),
     (
-        "tn connect -p7 --width 65535 --height 0 --escape ^a -q 86400 -w 7 --timeout 5 --log l --quiet --keys standard",
+        "tn connect -p7 --width 65535 --height 0 --escape ^a -q 86400 -w 7 --timeout 5 --log l --quiet --keys standard --return crlf",
         "Connect(ConnectWords { host: \"127.0.0.1\", port: 7, width: Some(65535), height: Some(0), \
-         line_limit: Limit { bytes: 255 }, escape: Key(1), characters: Standard, trace: None, log: Some(\"l\"), wait: 86400, patience: 7, timeout: 5, \
+         line_limit: Limit { bytes: 255 }, escape: Key(1), characters: Standard, returns: CrLf, trace: None, log: Some(\"l\"), wait: 86400, patience: 7, timeout: 5, \
          quiet: true, plain: None })",
     ),
     (
         "tn connect example.org",
         "Connect(ConnectWords { host: \"example.org\", port: 23, width: None, height: None, \
-         line_limit: Limit { bytes: 255 }, escape: Key(29), characters: Own, trace: None, log: None, wait: 0, patience: 0, timeout: 0, \
+         line_limit: Limit { bytes: 255 }, escape: Key(29), characters: Own, returns: CrNul, trace: None, log: None, wait: 0, patience: 0, timeout: 0, \
          quiet: false, plain: None })",
     ),
     (
         "tn connect --escape none --port 7 ::1 --trace a/b",
         "Connect(ConnectWords { host: \"::1\", port: 7, width: None, height: None, \
-         line_limit: Limit { bytes: 255 }, escape: None, characters: Own, trace: Some(\"a/b\"), log: None, wait: 0, patience: 0, timeout: 0, \
+         line_limit: Limit { bytes: 255 }, escape: None, characters: Own, returns: CrNul, trace: Some(\"a/b\"), log: None, wait: 0, patience: 0, timeout: 0, \
          quiet: false, plain: None })",
     ),
     ("tn connect --port 7", AT_PORT_7),
@@ -91,7 +91,7 @@ const ASKED: &[(&str, &str)] = &[
 /// A connection to port 7 of this machine, without any option.
 const AT_PORT_7: &str =
     "Connect(ConnectWords { host: \"127.0.0.1\", port: 7, width: None, height: None, \
-     line_limit: Limit { bytes: 255 }, escape: Key(29), characters: Own, trace: None, log: None, wait: 0, patience: 0, timeout: 0, quiet: false, \
+     line_limit: Limit { bytes: 255 }, escape: Key(29), characters: Own, returns: CrNul, trace: None, log: None, wait: 0, patience: 0, timeout: 0, quiet: false, \
      plain: None })";
 
 #[test]
@@ -121,6 +121,8 @@ const REFUSED: &[&str] = &[
     "tn serve --port 7 --count 0",
     "tn serve --port 7 --count 1000001",
     "tn serve --port 7 --ticks 1001",
+    "tn connect h --return cr",
+    "tn connect h --plain --return crlf",
     "tn serve --port 7 --to h",
     "tn serve --port 7 --to :7",
     "tn serve --port 7 --to h:",
