@@ -216,10 +216,6 @@ abbrev open_count : List Triple → ℕ
 open_count [] = 0
 open_count (t ∷ ts) = open_if (has_ack t) + open_count ts
 
-open_count-append : (ts us : List Triple) → open_count (ts ++ us) ≡ open_count ts + open_count us
-open_count-append [] us = omega arith
-open_count-append (t ∷ ts) us = omega (arith, open_count-append ts us)
-
 within_if : (acks : Bool) (few many : ℕ) → few ≤ many → open_if acks + few ≤ 1 + many
 within_if true few many h = omega (arith, h)
 within_if false few many h = omega (arith, h)

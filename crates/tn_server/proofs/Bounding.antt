@@ -10,7 +10,7 @@ use Rattle.tn_codes.specs.declared.codes.Func.{Func}
 use Rattle.tn_codes.specs.declared.codes.Verb.{Verb}
 use Rattle.tn_codes.specs.declared.masks.Mask.{Mask}
 use Rattle.tn_codes.specs.declared.payloads.Payload.{Payload}
-use Rattle.tn_codes.specs.declared.payloads.Payload.TheVariants.{Naws, Mode, ForwardOn, ForwardOff, ForwardYes, ForwardNo, Slc}
+use Rattle.tn_codes.specs.declared.payloads.Payload.TheVariants.{Slc}
 use Rattle.tn_codes.specs.declared.triples.Triple.{Triple}
 use Rattle.tn_codes.proofs.lemmas.Masks.{length-trimmed}
 use Rattle.tn_discipline.specs.Characters.{Characters, AreAllowed, slot, with_slot, char_fault, is_settable}

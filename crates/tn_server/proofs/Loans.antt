@@ -19,7 +19,7 @@ use Rattle.tn_server.specs.Faults.{IsOfPiece}
 use Rattle.tn_server.specs.Lending.{IsSameLoan, TakesItems, RefusesItems, RefusesByte}
 use Rattle.tn_server.specs.Steps.{IsShut, IsRefusedFor, end_after_item, says_item, end_after_items, says_items}
 use Rattle.tn_server.specs.declared.faults.ServerFault.{ServerFault}
-use Rattle.tn_server.specs.declared.faults.ServerFault.TheVariants.{Pty, Memory, Failed, Char, NotOn}
+use Rattle.tn_server.specs.declared.faults.ServerFault.TheVariants.{Pty, Memory, Failed}
 use Rattle.tn_server.specs.declared.taking.Lent.{Lent}
 use Rattle.tn_server.proofs.lemmas.Gathering.{after_both, says_both, says_plain, after_aside, item_says, says_aside, items_keep}
 

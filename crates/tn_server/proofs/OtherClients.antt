@@ -27,7 +27,7 @@ use Rattle.tn_nvt.specs.declared.items.Item.{Item}
 use Rattle.tn_nvt.specs.declared.items.Item.TheVariants.{Byte, Newline, Cmd, Neg, Sub}
 use Rattle.tn_option.specs.Options.{state_of, is_yes}
 use Rattle.tn_option.specs.declared.q_method.Side.TheVariants.{Them}
-use Rattle.tn_server.specs.Events.{got, took, wrote, pulled, wished, char_set, echo_set, mask_set, History, begun, next, items, gets, limit, opening_settings}
+use Rattle.tn_server.specs.Events.{got, char_set, echo_set, History, begun, next, items, gets, limit, opening_settings}
 use Rattle.tn_server.specs.Lines.{role_of_byte, role_at, roles, entries, half}
 use Rattle.tn_server.specs.OtherClients.{AcknowledgesNoEdit, KeepsCharacters, StaysRemote, opening_canon, roles_of_items, keys_of, IsNoCommand, line_items}
 use Rattle.tn_server.specs.OtherClients.{AreOrdinary}

@@ -44,14 +44,6 @@ spelled_run (suc n) (Byte x ∷ rest) within =
           rw (t, cr, iac) (ap (λ ys. x ∷ ys) (spelled_run n rest (omega (arith, more))))
     ]
 
--- a run, and the symbol behind it
-pub spelled_next : (before : List ℕ) (queue : List Symbol) (n : ℕ) (symbol : Symbol) → n ≤ length (leading_run 13 255 queue)
-    → slice_get (drop n queue) 0 ≡ Some symbol → (before ++ take n (leading_run 13 255 queue)) ++ spelling (data_of symbol) ≡ before
-    ++ spells (map data_of (take (suc n) queue))
-spelled_next before queue n symbol within e =
-    ap (λ xs. (before ++ xs) ++ spelling (data_of symbol)) (sym (spelled_run n queue within))
-    ∙ spelled_more before queue n symbol e
-
 -- symbols, and those behind them
 pub spelled_both : (before : List ℕ) (queue : List Symbol) (i n : ℕ)
     → (before ++ spells (map data_of (take i queue))) ++ spells (map data_of (take n (drop i queue))) ≡ before ++ spells (map data_of (take (i + n) queue))

@@ -7,7 +7,7 @@ use Rattle.tn_nvt.specs.Stream.{Reading}
 use Rattle.tn_nvt.specs.declared.items.Item.{Item}
 use Rattle.tn_nvt.proofs.lemmas.Reading.{one_standing, reads_none}
 use Rattle.tn_linemode.proofs.lemmas.Reading.{same_more, part_in_two}
-use Rattle.tn_client.specs.Events.{Event, typed, got, resized, proposed, sent, History, next, items, gets, entered}
+use Rattle.tn_client.specs.Events.{Event, typed, got, History, next, items, gets, entered}
 use Rattle.tn_client.specs.Replies.{items_said}
 use Rattle.tn_client.specs.Screen.{text_shown}
 use Rattle.tn_client.specs.Answering.{Feeds, IsStopCause, StopsWithin}

@@ -1,25 +1,22 @@
 -- What holds of every history.
-use Rattle.std.proofs.Common.{◌≡◌, ◌<◌, ◌≤◌, ℕ, min, ◌==◌, Bool, true, false, not, ◌&&◌, Option, Some, None, List, [], ◌∷◌, ◌++◌, length, take, drop, refl, sym}
+use Rattle.std.proofs.Common.{◌≡◌, ◌≤◌, ℕ, min, ◌==◌, Bool, true, false, not, ◌&&◌, Option, None, List, [], ◌∷◌, ◌++◌, length, take, drop, refl, sym}
 use Rattle.std.proofs.Common.{ap, ◌∙◌, if◌then◌else◌, append-nil, append_assoc, arith}
 use Rattle.std.proofs.lemmas.List.{take-append-drop}
-use Rattle.std.proofs.lemmas.Nat.{and_mask}
 use Rattle.tn_codes.specs.declared.masks.Mask.{Mask}
 use Rattle.tn_codes.specs.declared.payloads.Payload.{Payload}
-use Rattle.tn_codes.specs.declared.payloads.Payload.TheVariants as payload
 use Rattle.tn_discipline.specs.Entries.{half_of}
-use Rattle.tn_discipline.specs.HalfLine.{empty_line}
 use Rattle.tn_discipline.specs.Keys.{role_of_key, roles_from}
 use Rattle.tn_discipline.specs.declared.keys.Role.{Role}
-use Rattle.tn_linemode.specs.Modes.{edits, traps, mode_of, is_acknowledged}
+use Rattle.tn_linemode.specs.Modes.{edits, traps}
 use Rattle.tn_nvt.specs.declared.items.Item.{Item}
-use Rattle.tn_nvt.specs.declared.items.Item.TheVariants.{Byte, Newline, Cmd, Neg, Sub}
+use Rattle.tn_nvt.specs.declared.items.Item.TheVariants.{Neg, Sub}
 use Rattle.tn_option.specs.Options.{Options, options_after_word}
 use Rattle.tn_nvt.specs.Spelling.{lf}
-use Rattle.tn_client.specs.Events.{History, begun, next, typed, got, resized, proposed, sent, items, keys, gets, entered}
-use Rattle.tn_client.specs.Terms.{options, mode, forward, chars, linemode, payload_at, changes, mode_by, mode_at, forward_by}
+use Rattle.tn_client.specs.Events.{History, begun, next, typed, got, items, keys, gets, entered}
+use Rattle.tn_client.specs.Terms.{options, mode, forward, chars, linemode, payload_at, mode_by, forward_by}
 use Rattle.tn_linemode.specs.Words.{payload_under, differ}
 use Rattle.tn_client.specs.Lines.{settings_by, role_at, role_under, isig_told, roles_under, line_limit, edited_roles, half_line, is_sent_ahead, lengths_with}
-use Rattle.tn_client.specs.Lines.{lengths_kept, lengths_since_sent, least, ahead, held_bytes, count_under, line}
+use Rattle.tn_client.specs.Lines.{lengths_kept, lengths_since_sent, least, ahead, held_bytes, count_under}
 
 pub items-gets : (h : History) (more : List Item) → items (gets h more) ≡ items h ++ more
 items-gets h [] = sym (append-nil (items h))
@@ -284,13 +281,3 @@ forward-off (next h _) e = forward-off h e
 
 pub unedited-held : (h : History) → edits (mode h) ≡ false → held_bytes h ≡ []
 unedited-held h e = ap (λ (bytes : List ℕ). drop (ahead h) bytes) (unedited_half h e) ∙ ap (λ (n : ℕ). drop {A = ℕ} n []) (unedited-ahead h e)
-
--- MASKS
--- a mask in force has no bits but EDIT and TRAPSIG
-mode_by-small : (m : ℕ) (p : Option Payload) → m < 4 → mode_by m p < 4
-mode_by-small m (Some (payload.Mode mask)) h = by_test (is_acknowledged mask)
-  where
-    by_test : (b : Bool) → (if b then m else mode_of mask) < 4
-    by_test true = h
-    by_test false = omega (arith, and_mask mask 2)
-mode_by-small m _ h = h

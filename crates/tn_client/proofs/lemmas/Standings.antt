@@ -17,7 +17,7 @@ use Rattle.tn_option.specs.Options.{Options}
 use Rattle.tn_nvt.specs.Feeding.{DecoderState}
 use Rattle.tn_client.specs.Answering.{Feeds}
 use Rattle.tn_nvt.specs.Spelling.{lf}
-use Rattle.tn_client.specs.Events.{Event, typed, got, resized, proposed, sent, History, next, gets, entered}
+use Rattle.tn_client.specs.Events.{Event, typed, got, resized, History, next, gets, entered}
 use Rattle.tn_client.specs.Terms.{options, mode, forward, chars, size, options_after, mode_at, forward_at, chars_by, payload_at, is_echoed, tells_size}
 use Rattle.tn_client.specs.Lines.{settings_by, key_settings, role_of_typed, role_at, roles_under, edited_roles, line_limit, half_line, sends_ahead}
 use Rattle.tn_client.specs.Lines.{is_sent_ahead, ahead, count_under, line}

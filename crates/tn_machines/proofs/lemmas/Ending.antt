@@ -4,7 +4,7 @@ use Rattle.std.specs.List.{FoldsTo}
 use Rattle.tn_machines.specs.Counting.{first_end}
 use Rattle.tn_machines.specs.Ending.{IsEndedAt}
 use Rattle.tn_machines.specs.declared.faults.Ended.{Ended}
-use Rattle.tn_machines.specs.declared.faults.Ended.TheVariants.{HangUp, Done, Fault}
+use Rattle.tn_machines.specs.declared.faults.Ended.TheVariants.{HangUp, Fault}
 use Rattle.tn_machines.specs.declared.faults.SessionFault.{SessionFault}
 
 -- the first end counts

@@ -8,7 +8,7 @@ use Rattle.tn_nvt.specs.Spelling.{spells}
 use Rattle.tn_nvt.specs.declared.items.Item.{Item}
 use Rattle.tn_pty.specs.Terminal.{queue_with}
 use Rattle.tn_server.specs.Course.{in_parts, IsCall}
-use Rattle.tn_server.specs.Events.{Event, History, begun, next, got, took, wrote, pulled, wished, char_set, echo_set, mask_set}
+use Rattle.tn_server.specs.Events.{Event, History, begun, next, got, wrote, pulled}
 use Rattle.tn_server.specs.Replies.{items_said, replies}
 use Rattle.tn_server.specs.Screen.{queue}
 use Rattle.tn_server.specs.Calls.{End, LeadsTo}

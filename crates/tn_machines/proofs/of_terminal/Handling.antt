@@ -3,14 +3,13 @@ use Rattle.std.proofs.Common.{◌≡◌, ℕ, Bool, true, false, not, ◌&&◌, 
 use Rattle.std.proofs.Common.{refl, sym, ap, ◌∙◌, subst, append-nil}
 use Rattle.tn_discipline.specs.declared.reads.Entry.{Entry}
 use Rattle.tn_jobs.specs.Jobs.{Jobs, state_at, is_foreground}
-use Rattle.tn_jobs.specs.declared.held_jobs.JobId.{JobId}
 use Rattle.tn_jobs.specs.declared.verdicts.JobState.{JobState}
 use Rattle.tn_jobs.specs.declared.verdicts.After.{After}
 use Rattle.tn_jobs.specs.declared.verdicts.Verdict.{Verdict}
 use Rattle.tn_jobs.specs.Judging.{judged}
 use Rattle.tn_server.specs.Replies.{items_said}
 use Rattle.tn_machines.specs.declared.messages.Message.{Message}
-use Rattle.tn_machines.specs.declared.messages.Message.TheVariants.{Piece, HangUp, ReadFailed, Take, Said, Refused, Left, Resized, Asked}
+use Rattle.tn_machines.specs.declared.messages.Message.TheVariants.{Piece, HangUp, ReadFailed, Take, Refused, Left, Resized, Asked}
 use Rattle.tn_machines.specs.declared.faults.Ended.TheVariants.{Fault}
 use Rattle.tn_machines.specs.declared.faults.SessionFault.TheVariants as fault
 use Rattle.tn_streams.specs.declared.control.Control.{Control}
@@ -21,7 +20,7 @@ use Rattle.tn_machines.specs.declared.server.progress.ServerProgress.{ServerProg
 use Rattle.tn_machines.specs.declared.server.terminal.Term.{Term}
 use Rattle.tn_machines.specs.declared.server.terminal.Stuck.{Stuck}
 use Rattle.tn_machines.specs.server.Run.{Run, puts_of, flush, hang_up, ends_by, feed, ask, ask_if, show, move, after_said, halt, halt_if, is_end, in_foreground}
-use Rattle.tn_machines.specs.server.Run.{verdict, verdict_at, has_text, writes, answer, Cuts, Acts, ActsUnless}
+use Rattle.tn_machines.specs.server.Run.{verdict, verdict_at, has_text, answer, Acts, ActsUnless}
 use Rattle.tn_machines.specs.server.Reaching.{LeadsTo, AdvancesRun, BreaksOff, Feeds, FeedBreaksOff, Says, SayBreaksOff, DoesWhole, StopsWithin, HaltsIf}
 use Rattle.tn_machines.proofs.of_terminal.Doing.{does_then, does_same, does_halt_if, foreground_as}
 use Rattle.tn_machines.proofs.of_terminal.Breaking.{breaks_after, breaks_same, breaks_halt_if, grows_then, grows_ask, grows_ask_if, grows_flushed, spelled_more}
@@ -111,27 +110,6 @@ pub same_verdict : (id : ℕ) (text : List ℕ) (after : After) (old : Term) (c 
 same_verdict id text after old c on at =
     ap (λ (j : Jobs). verdict_at (state_at j id) (has_text text) after old.tostop) (at.live on).jobs
     ∙ ap (λ (b : Bool). verdict_at (state_at c.jobs id) (has_text text) after b) (at.live on).tostop
-
-acts_said : (id : JobId) (text : List ℕ) (after : After) (old : Term) (parts : List (List ℕ)) → old.progress.over ≡ false
-    → Cuts (writes (verdict_at (state_at old.table id.0) (has_text text) after old.tostop)) text parts → (c : Run) → LeadsTo c old
-    → Acts c (Said id text after) (after_said id.0 parts (verdict_at (state_at old.table id.0) (has_text text) after old.tostop) c)
-acts_said id text after old parts on cuts c at =
-    let P : Option Verdict → Type 0 = λ v. Cuts (writes v) text parts in
-    let same = same_verdict id.0 text after old c on at in
-    (parts, subst P same cuts, ap (λ (v : Option Verdict). after_said id.0 parts v c) same)
-
-pub handled_said : (id : JobId) (text : List ℕ) (after : After) (old new : Term) (x y : List ℕ) (put : Put) → old.progress.over ≡ false
-    → Says id.0 text (verdict_at (state_at old.table id.0) (has_text text) after old.tostop) old x y put new → DoesWhole old (Said id text after) x y put new
-handled_said id text after old new x y put on s =
-    handled_by (Said id text after) (after_said id.0 s.parts (verdict_at (state_at old.table id.0) (has_text text) after old.tostop)) old new x y put on
-    (acts_said id text after old s.parts on s.cuts) s.does
-
-pub stops_said : (id : JobId) (text : List ℕ) (after : After) (old new : Term) (x y : List ℕ) (put : Put) → old.progress.over ≡ false
-    → SayBreaksOff id.0 text (verdict_at (state_at old.table id.0) (has_text text) after old.tostop) old x y put new
-    → StopsWithin old (Said id text after) true x y put new
-stops_said id text after old new x y put on s =
-    stops_by (Said id text after) (after_said id.0 s.parts (verdict_at (state_at old.table id.0) (has_text text) after old.tostop)) old new x y put on
-    (acts_said id text after old s.parts on s.cuts) s.breaks
 
 pub with_ok : {A E : Type 0} (H : A → Type 0) (D : Type 0) (r : Result A E) (p : A) → (D → H p) → IfOk r (λ x. (x ≡ p) × D) → IfOk r H
 with_ok {A} H D (Ok x) p make e = subst H (sym e.0) (make e.1)

@@ -10,7 +10,7 @@ use Rattle.tn_jobs.specs.declared.verdicts.Why.{Why}
 use Rattle.tn_machines.specs.declared.faults.SessionFault.{SessionFault}
 use Rattle.tn_machines.specs.declared.faults.SessionFault.TheVariants as fault
 use Rattle.tn_machines.specs.declared.messages.Message.{Message}
-use Rattle.tn_machines.specs.declared.messages.Message.TheVariants.{Piece, HangUp, ReadFailed, Take, Said, Refused, Left, Resized, Asked}
+use Rattle.tn_machines.specs.declared.messages.Message.TheVariants.{Piece, HangUp, ReadFailed, Take, Said, Refused}
 use Rattle.tn_machines.specs.declared.faults.Ended.TheVariants.{Fault}
 use Rattle.tn_server.specs.Events.{next, took}
 use Rattle.tn_server.specs.Lines.{waiting}

@@ -15,7 +15,7 @@ use Rattle.tn_nvt.proofs.lemmas.Reading.{reads_none, has_reading}
 use Rattle.tn_linemode.proofs.lemmas.Reading.{same_more, part_in_two}
 use Rattle.tn_server.specs.Course.{Course, started, fed, called, stream, IsCall, ReadsAs, CourseLeadsTo, in_parts}
 use Rattle.tn_linemode.specs.Prefixes.{IsRead}
-use Rattle.tn_server.specs.Events.{Event, History, begun, next, got, took, wrote, pulled, wished, char_set, echo_set, mask_set, items, gets}
+use Rattle.tn_server.specs.Events.{Event, History, begun, next, got, wrote, pulled, items, gets}
 use Rattle.tn_server.specs.Replies.{data_of, items_said}
 use Rattle.tn_server.specs.Screen.{queue}
 use Rattle.tn_server.specs.Terms.{settings}

@@ -10,7 +10,7 @@ use Rattle.tn_codes.specs.declared.codes.Verb.TheVariants as verb
 use Rattle.tn_codes.specs.declared.masks.Mask.{Mask}
 use Rattle.tn_codes.specs.Payloads.{parameters_of}
 use Rattle.tn_codes.specs.declared.payloads.Payload.{Payload}
-use Rattle.tn_codes.specs.declared.payloads.Payload.TheVariants.{Naws, Mode, ForwardOn, ForwardOff, ForwardYes, ForwardNo, Slc}
+use Rattle.tn_codes.specs.declared.payloads.Payload.TheVariants.{ForwardOn, ForwardOff, Slc}
 use Rattle.tn_discipline.specs.Characters.{Characters, slot}
 use Rattle.tn_discipline.specs.declared.echo.Symbol.{Symbol}
 use Rattle.tn_discipline.specs.declared.echo.Symbol.TheVariants as symbol

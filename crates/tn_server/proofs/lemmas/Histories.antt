@@ -3,7 +3,6 @@ use Rattle.std.proofs.Common.{◌≡◌, List, [], ◌∷◌, ◌++◌, refl, sy
 use Rattle.tn_linemode.proofs.lemmas.Folding as folding
 use Rattle.tn_nvt.specs.declared.items.Item.{Item}
 use Rattle.tn_server.specs.Events.{History, next, got, items, gets, limit, opening_settings}
-use Rattle.tn_server.specs.Replies.{replies, items_said}
 
 pub items-gets : (h : History) (more : List Item) → items (gets h more) ≡ items h ++ more
 items-gets h [] = sym (append-nil (items h))

@@ -15,9 +15,9 @@ use Rattle.tn_discipline.specs.declared.keys.Role.TheVariants as role
 use Rattle.tn_discipline.specs.declared.reads.Entry.{Entry}
 use Rattle.tn_nvt.specs.Feeding.{DecoderState}
 use Rattle.tn_nvt.specs.Spelling.{spelling}
-use Rattle.tn_nvt.specs.Stream.{Segment, spelled, lone_cr, escaped, unread, cut, IsSegment, text, look_ahead, gives, Splits, IsPartial, Reading}
+use Rattle.tn_nvt.specs.Stream.{Segment, spelled, IsSegment, text, look_ahead, gives, Splits, IsPartial, Reading}
 use Rattle.tn_nvt.specs.declared.items.Item.{Item}
-use Rattle.tn_nvt.specs.declared.items.Item.TheVariants.{Byte, Newline, Cmd, Neg, Sub}
+use Rattle.tn_nvt.specs.declared.items.Item.TheVariants.{Byte}
 use Rattle.tn_nvt.proofs.lemmas.Reading.{one_reading, reads_on, has_reading}
 use Rattle.tn_nvt.proofs.lemmas.Sizes.{doubled_some, total, IsWeight, weighs_at_most}
 use Rattle.tn_pty.specs.declared.pty.PtyFault.TheVariants.{TooFarAhead}

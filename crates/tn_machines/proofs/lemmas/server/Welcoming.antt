@@ -21,7 +21,7 @@ use Rattle.tn_machines.specs.declared.server.progress.ServerProgress.{ServerProg
 use Rattle.tn_machines.specs.declared.server.terminal.Term.{Term}
 use Rattle.tn_machines.specs.declared.faults.Ended.{Ended}
 use Rattle.tn_machines.specs.declared.messages.Message.{Message}
-use Rattle.tn_machines.specs.declared.messages.Message.TheVariants.{Piece, HangUp, ReadFailed, Take, Said, Refused, Left, Resized, Asked}
+use Rattle.tn_machines.specs.declared.messages.Message.TheVariants.{Piece}
 
 -- A WELCOME MESSAGE
 
