@@ -33,7 +33,9 @@ use Rattle.tn_client.specs.Replies.{raw_items, typed_items, edit_items, byte_ite
 use Rattle.tn_client.specs.Steps.{role_now, line_typed, end_after_key, says_key, says_new_line, with_mode, line_left, count_left, count_told}
 use Rattle.tn_client.specs.Terms.{linemode}
 use Rattle.tn_client.proofs.lemmas.Keying.{end_by, says_by}
-use Rattle.tn_world.specs.relation.Machine.{Mode, bits, Server, read, read_all, remote_mode, local_mode, IsAskable}
+use Rattle.tn_world.specs.relation.Calm.{Mode, bits, remote_mode, local_mode, IsAskable}
+use Rattle.tn_world.specs.relation.Pictures.{Server}
+use Rattle.tn_world.proofs.Machine.{read, read_all}
 use Rattle.tn_world.specs.relation.Pictures.{ClientStays}
 use Rattle.tn_world.proofs.Reading.{read-bytes_then, half-typed, entries-typed}
 use Rattle.tn_world.proofs.Typing.{Follows, literal_key, key-follows}

@@ -35,9 +35,11 @@ use Rattle.tn_client.proofs.lemmas.Gathering.{says_both}
 use Rattle.tn_client.proofs.lemmas.Standings.{typed_limit, left_limit}
 use Rattle.tn_client.proofs.lemmas.Stopping.{front_said}
 use Rattle.tn_nvt.specs.Feeding.{DecoderState}
-use Rattle.tn_world.specs.relation.Machine.{Server, bits, read_all, IsAskable}
+use Rattle.tn_world.specs.relation.Calm.{bits, IsAskable}
+use Rattle.tn_world.specs.relation.Pictures.{Server}
+use Rattle.tn_world.proofs.Machine.{read_all}
 use Rattle.tn_world.specs.relation.Calm.{IsCalmToServer, IsCalmToClient}
-use Rattle.tn_world.specs.relation.Ends.{AreSaid, SaysItems}
+use Rattle.tn_world.proofs.Machine.{AreSaid, SaysItems}
 use Rattle.tn_world.specs.relation.Pictures.{IsOffOrOn, ClientStays}
 use Rattle.tn_world.specs.relation.Relation.{Agrees}
 use Rattle.tn_world.proofs.Changing.{taken-agrees, beside-agrees, turned-agrees}

@@ -25,9 +25,11 @@ use Rattle.tn_option.specs.declared.q_method.Side.TheVariants.{Us}
 use Rattle.tn_client.specs.Terms.{linemode, tells_size, payload_at, mode_by, mode_at, chars_by}
 use Rattle.tn_linemode.specs.Words.{differ, word_items, list_items}
 use Rattle.tn_client.specs.Replies.{byte_items, size_items, new_size_items, payload_answers, answer_items}
-use Rattle.tn_world.specs.relation.Machine.{Server, bits, read, read_all, IsAskable}
+use Rattle.tn_world.specs.relation.Calm.{bits, IsAskable}
+use Rattle.tn_world.specs.relation.Pictures.{Server}
+use Rattle.tn_world.proofs.Machine.{read, read_all}
 use Rattle.tn_world.specs.relation.Calm.{IsCalmToServer, AsksCalmly}
-use Rattle.tn_world.specs.relation.Ends.{SaysItems}
+use Rattle.tn_world.proofs.Machine.{SaysItems}
 use Rattle.tn_world.proofs.Engines.{reply_made, word_keeps_state}
 use Rattle.tn_world.proofs.Reading.{read_all-append}
 

@@ -18,7 +18,7 @@ use Rattle.tn_server.specs.Events as server_calls
 use Rattle.tn_server.specs.Faults.{IsOfItem, IsOfPiece}
 use Rattle.tn_server.specs.Answering as server_answers
 use Rattle.tn_server.specs.Calls as server
-use Rattle.tn_server.specs.Steps.{end_after_items as end_all_there}
+use Rattle.tn_server.specs.Steps.{end_after as end_there, says as says_there, end_after_items as end_all_there}
 use Rattle.tn_server.proofs.lemmas.Gathering.{call_keeps}
 use Rattle.tn_server.specs.declared.faults.ServerFault.{ServerFault}
 use Rattle.tn_server.specs.declared.faults.ServerFault.TheVariants as server_faults
@@ -33,7 +33,8 @@ use Rattle.tn_streams.specs.Prefixes.{IsPrefixOf}
 use Rattle.tn_world.specs.Past.{HasPast}
 use Rattle.tn_world.specs.relation.Calm.{IsCalmToServer, IsCalmToClient}
 use Rattle.tn_client.specs.Steps.{end_after_items, says_items}
-use Rattle.tn_world.specs.relation.Machine.{Server, read_all}
+use Rattle.tn_world.specs.relation.Pictures.{Server}
+use Rattle.tn_world.proofs.Machine.{read_all}
 use Rattle.tn_world.specs.relation.Pictures.{server_core, ServerStays}
 use Rattle.tn_world.specs.relation.Relation.{IsRelated, IsBehind}
 use Rattle.tn_world.specs.Worlds.{World, Types, SendsCommand, key_sent, DeliversToServer, CallsServer}
@@ -42,7 +43,9 @@ use Rattle.tn_client.specs.declared.commands.UserCommand.{UserCommand}
 use Rattle.tn_world.specs.declared.events.Event.{Event}
 use Rattle.tn_world.proofs.ClientSteps.{items-come, stops_front}
 use Rattle.tn_world.proofs.Cut.{said_behind, cut_at}
-use Rattle.tn_world.proofs.Following.{flight_fits, holds_does}
+use Rattle.tn_world.proofs.Following.{holds_does}
+use Rattle.tn_world.proofs.Tied.{seen}
+use Rattle.tn_nvt.specs.Spelling.{spells}
 use Rattle.tn_world.proofs.Happening.{Done, unmoved, types, enters, sends, resizes, proposes, reaches, returns, asks, takes, stops, done_of, does_keeps}
 use Rattle.tn_world.proofs.Prefixes.{prefix_trans, prefix_after, prefix_same, read-more, agreed, taken-waits}
 use Rattle.tn_world.proofs.Reading.{read_all-append, entries-typed}
@@ -94,23 +97,41 @@ server_goes_on end e = by_test end.failed refl
 -- THE CLIENT SAYS NOTHING MORE
 pub related_behind : (s : Canon) (w : World) → IsRelated s w → IsBehind s w
 related_behind s w h =
-    let v = read_all s (server_core w.server) h.items in
+    let v = end_all_there w.server h.items in
     record {
       items = h.items;
       flight = h.flight;
+      fit = h.tied.fit;
       calm = h.tied.calm;
-      begins = prefix_same (w.taken ++ v.waiting) (local_entries s w.typed) (agreed s w.typed w.taken v w.client h.tied.agrees);
+      begins = prefix_same (w.taken ++ v.terminal.entries) (local_entries s w.typed) (agreed s w.typed w.taken (server_core v) w.client h.tied.agrees);
       server = h.tied.server;
       past = h.past;
     }
+
+-- by what the steps of lines make of the server
+behind_by : (s : Canon) (w : World) (items : List Item) → InFlight w.server.decoder w.to_server items → All Fits items
+    → All (IsCalmToServer s.settings) items → ServerStays s w.server
+    → IsPrefixOf (w.taken ++ (read_all s (server_core w.server) items).waiting) (local_entries s w.typed) → HasPast w → IsBehind s w
+behind_by s w items flight fit calm server begins past = record {
+  items = items;
+  flight = flight;
+  fit = fit;
+  calm = calm;
+  begins = subst (λ (v : Server). IsPrefixOf (w.taken ++ v.waiting) (local_entries s w.typed)) (sym (goes_on s w.server items server fit calm).core) begins;
+  server = server;
+  past = past;
+}
+
+begins_by : (s : Canon) (w : World) (h : IsBehind s w) → IsPrefixOf (w.taken ++ (read_all s (server_core w.server) h.items).waiting) (local_entries s w.typed)
+begins_by s w h =
+    subst (λ (v : Server). IsPrefixOf (w.taken ++ v.waiting) (local_entries s w.typed)) (goes_on s w.server h.items h.server h.fit h.calm).core h.begins
 
 -- those that wait now are the first of those that will
 pub behind_begins : (s : Canon) (w : World) → IsBehind s w → Begins s w
 behind_begins s w h =
     let v = server_core w.server in
-    let items = h.items in
-    prefix_trans (entries_made w) (w.taken ++ (read_all s v items).waiting) (local_entries s w.typed)
-    (prefix_after w.taken w.server.terminal.entries (read_all s v items).waiting (read-more s v items)) h.begins
+    prefix_trans (entries_made w) (w.taken ++ (read_all s v h.items).waiting) (local_entries s w.typed)
+    (prefix_after w.taken w.server.terminal.entries (read_all s v h.items).waiting (read-more s v h.items)) (begins_by s w h)
 
 -- an event that has no part in it
 behind_as : (s : Canon) (old new : World) → new.server ≡ old.server → new.to_server ≡ old.to_server → new.typed ≡ old.typed → new.taken ≡ old.taken
@@ -118,6 +139,7 @@ behind_as : (s : Canon) (old new : World) → new.server ≡ old.server → new.
 behind_as s old new a b c d sound h = record {
   items = h.items;
   flight = rw (a, b) h.flight;
+  fit = h.fit;
   calm = h.calm;
   begins = rw (a, c, d) h.begins;
   server = rw a h.server;
@@ -135,47 +157,39 @@ behind_reaches : (s : Canon) (old new : World) (n : ℕ) → HasPast new → Del
 behind_reaches s old new n sound t h =
     let f = t.feeds in
     let d = cut_at old.server.decoder new.server.decoder n old.to_server h.items f.items h.flight f.reads in
-    let fit = (all_parts Fits f.items d.left (subst (λ l. All Fits l) d.all (flight_fits old.server.decoder old.to_server h.items h.flight))).0 in
+    let fit = all_parts Fits f.items d.left (subst (λ l. All Fits l) d.all h.fit) in
     let calm = all_parts (IsCalmToServer s.settings) f.items d.left (subst (λ l. All (IsCalmToServer s.settings) l) d.all h.calm) in
-    let later = goes_on s old.server f.items h.server fit calm.0 in
+    let later = goes_on s old.server f.items h.server fit.0 calm.0 in
     let same : read_all s (server_core old.server) h.items ≡ read_all s (server_core new.server) d.left =
     read_two s (server_core old.server) h.items f.items d.left d.all
     ∙ ap (λ v. read_all s v d.left) (sym (ap server_core f.step ∙ later.core)) in
-    subst (λ (w : World). HasPast w → IsBehind s w) (sym t.rest) (λ past. record {
-      items = d.left;
-      flight = d.flight;
-      calm = calm.1;
-      begins = subst (λ (v : Server). IsPrefixOf (old.taken ++ v.waiting) (local_entries s old.typed)) same h.begins;
-      server = stays_fed s (end_all_there old.server f.items) new.server f.step later.stays;
-      past = past;
-    }) sound
+    subst (λ (w : World). HasPast w → IsBehind s w) (sym t.rest)
+    (behind_by s (record old { server = new.server; to_server = drop n old.to_server; to_client = new.to_client }) d.left d.flight fit.1 calm.1
+    (stays_fed s (end_all_there old.server f.items) new.server f.step later.stays)
+    (subst (λ (v : Server). IsPrefixOf (old.taken ++ v.waiting) (local_entries s old.typed)) same (begins_by s old h))) sound
 
 -- a call of the server that makes no entry and takes none
 behind_asks : (s : Canon) (old new : World) (e : server_calls.Event) → KeepsEntries e → HasPast new → CallsServer old e new → IsBehind s old → IsBehind s new
 behind_asks s old new e plain sound t h =
-    subst (λ (w : World). HasPast w → IsBehind s w) (sym t.step) (λ past. record {
-      items = h.items;
-      flight = subst (λ d. InFlight d old.to_server h.items) (sym (ap (λ (x : server.End). x.decoder) (call_keeps old.server e))) h.flight;
-      calm = h.calm;
-      begins =
-          subst (λ (v : Server). IsPrefixOf (old.taken ++ (read_all s v h.items).waiting) (local_entries s old.typed))
-          (sym (core_call old.server e plain)) h.begins;
-      server = stays_call s old.server e (calls e plain) h.server;
-      past = past;
-    }) sound
+    subst (λ (w : World). HasPast w → IsBehind s w) (sym t.step)
+    (behind_by s (record old { server = end_there old.server e; to_client = old.to_client ++ spells (says_there old.server e) }) h.items
+    (subst (λ d. InFlight d old.to_server h.items) (sym (ap (λ (x : server.End). x.decoder) (call_keeps old.server e))) h.flight) h.fit h.calm
+    (stays_call s old.server e (calls e plain) h.server)
+    (subst (λ (v : Server). IsPrefixOf (old.taken ++ (read_all s v h.items).waiting) (local_entries s old.typed)) (sym (core_call old.server e plain))
+    (begins_by s old h))) sound
 
 -- an entry is asked for
 behind_takes : (s : Canon) (old new : World) → HasPast new → TakesEntry old new → IsBehind s old → IsBehind s new
 behind_takes s old new sound t h =
-    subst (λ (w : World). HasPast w → IsBehind s w) (sym t) (λ past. record {
-      items = h.items;
-      flight = h.flight;
-      calm = h.calm;
-      begins =
-          subst (λ (xs : List Entry). IsPrefixOf xs (local_entries s old.typed)) (sym (taken-waits s (server_core old.server) old.taken h.items)) h.begins;
-      server = stays_call s old.server server_calls.took tt h.server;
-      past = past;
-    }) sound
+    let e = server_calls.took in
+    subst (λ (w : World). HasPast w → IsBehind s w) (sym t)
+    (behind_by s (record old {
+      server = end_there old.server e;
+      to_client = old.to_client ++ spells (says_there old.server e);
+      taken = old.taken ++ take 1 old.server.terminal.entries;
+    }) h.items h.flight h.fit h.calm (stays_call s old.server e tt h.server)
+    (subst (λ (xs : List Entry). IsPrefixOf xs (local_entries s old.typed)) (sym (taken-waits s (server_core old.server) old.taken h.items))
+    (begins_by s old h))) sound
 
 -- A REFUSED DELIVERY
 -- the items of a prefix of a piece are the first of those in flight
@@ -195,14 +209,14 @@ halted s old new n fault r h x =
     let v = server_core old.server in
     let f = front_at old.server.decoder x.here n old.to_server x.front x.back h.items (x.done ++ x.left) h.flight x.whole x.reads in
     let all : h.items ≡ x.done ++ (x.left ++ f.0) = f.1 ∙ append_assoc x.done x.left f.0 in
-    let fit = (all_parts Fits x.done (x.left ++ f.0) (subst (λ l. All Fits l) all (flight_fits old.server.decoder old.to_server h.items h.flight))).0 in
+    let fit = (all_parts Fits x.done (x.left ++ f.0) (subst (λ l. All Fits l) all h.fit)).0 in
     let calm = (all_parts (IsCalmToServer s.settings) x.done (x.left ++ f.0) (subst (λ l. All (IsCalmToServer s.settings) l) all h.calm)).0 in
     let here = read_all s v x.done in
     let there = read_all s here (x.left ++ f.0) in
     let waits : new.server.terminal.entries ≡ here.waiting =
     ap (λ (e : server.End). e.terminal.entries) x.step ∙ ap (λ (u : Server). u.waiting) (goes_on s old.server x.done h.server fit calm).core in
     let begins : IsPrefixOf (old.taken ++ there.waiting) (local_entries s old.typed) =
-    subst (λ (u : Server). IsPrefixOf (old.taken ++ u.waiting) (local_entries s old.typed)) (read_two s v h.items x.done (x.left ++ f.0) all) h.begins in
+    subst (λ (u : Server). IsPrefixOf (old.taken ++ u.waiting) (local_entries s old.typed)) (read_two s v h.items x.done (x.left ++ f.0) all) (begins_by s old h) in
     subst (λ (w : World). IsPrefixOf (w.taken ++ new.server.terminal.entries) (local_entries s w.typed)) (sym r.rest)
     (subst (λ (es : List Entry). IsPrefixOf (old.taken ++ es) (local_entries s old.typed)) (sym waits)
     (prefix_trans (old.taken ++ here.waiting) (old.taken ++ there.waiting) (local_entries s old.typed)
@@ -241,26 +255,16 @@ behind_breaks s old new n fault none r h =
     let made : old.taken ++ there.waiting ≡ local_entries s old.typed =
     ap (λ (u : Server). old.taken ++ u.waiting) (sym (read_two s v (says_items old.client got) said w.0 w.1))
     ∙ agreed s old.typed old.taken (read_all s v (says_items old.client got)) (end_after_items old.client got)
-    (all.agrees old.typed old.taken v h.tied.agrees) in
-    let end : new.server ≡ old.server = ap (λ (u : World). u.server) r.rest in
-    let begins : IsPrefixOf (old.taken ++ (read_all s (server_core old.server) (h.items ++ said)).waiting) (local_entries s old.typed) =
-    subst (λ (u : Server). IsPrefixOf (old.taken ++ u.waiting) (local_entries s old.typed))
+    (all.agrees old.typed old.taken v (seen h.tied)) in
+    subst (λ (w : World). HasPast w → IsBehind s w) (sym r.rest)
+    (behind_by s (record old { client = new.client; to_client = drop n old.to_client; to_server = new.to_server; shown = new.shown }) (h.items ++ said)
+    (said_behind old.server.decoder old.to_server new.to_server h.items said x.said fit h.flight) (All-append Fits h.items said h.tied.fit fit)
+    (All-append (IsCalmToServer s.settings) h.items said h.tied.calm hushed) h.tied.server
+    (subst (λ (u : Server). IsPrefixOf (old.taken ++ u.waiting) (local_entries s old.typed))
     (sym (read_two s (server_core old.server) (h.items ++ said) h.items said refl))
     (prefix_trans (old.taken ++ here.waiting) (old.taken ++ there.waiting) (local_entries s old.typed)
     (prefix_after old.taken here.waiting there.waiting (read-more s here w.0))
-    (prefix_same (old.taken ++ there.waiting) (local_entries s old.typed) made)) in
-    record {
-      items = h.items ++ said;
-      flight =
-          subst (λ (e : server.End). InFlight e.decoder new.to_server (h.items ++ said)) (sym end)
-          (said_behind old.server.decoder old.to_server new.to_server h.items said x.said fit h.flight);
-      calm = All-append (IsCalmToServer s.settings) h.items said h.tied.calm hushed;
-      begins =
-          subst (λ (u : World). IsPrefixOf (u.taken ++ (read_all s (server_core u.server) (h.items ++ said)).waiting)
-          (local_entries s u.typed)) (sym r.rest) begins;
-      server = subst (λ (e : server.End). ServerStays s e) (sym end) h.tied.server;
-      past = sound_breaks old new n fault r h.past;
-    }
+    (prefix_same (old.taken ++ there.waiting) (local_entries s old.typed) made)))) (sound_breaks old new n fault r h.past)
 
 -- EACH EVENT, once the client has failed
 gone_silent : (s : Canon) (old new : World) → old.client.failed ≡ true → old.client.failed ≡ false → IsBehind s new

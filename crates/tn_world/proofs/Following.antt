@@ -1,8 +1,7 @@
 -- From a settled moment at rest the relation of the ends holds after every quiet list of events at which no end failed.
-use Rattle.std.proofs.Common.{◌≡◌, inl, inr, ℕ, Bool, Option, Some, None, List, [], ◌∷◌, ◌++◌, take, drop, flat_map, refl, sym, ap, ◌∙◌, subst}
+use Rattle.std.proofs.Common.{◌≡◌, inl, inr, ℕ, Bool, Option, Some, None, List, [], ◌∷◌, ◌++◌, take, drop, refl, sym, ap, ◌∙◌, subst}
 use Rattle.std.proofs.Common.{append-nil}
 use Rattle.std.specs.Prelude.{All, option_to_list}
-use Rattle.std.proofs.lemmas.List.Elements.{All-nil, All-cons}
 use Rattle.tn_discipline.specs.Canon.{Canon}
 use Rattle.tn_discipline.specs.Characters.{Characters}
 use Rattle.tn_discipline.specs.Keys.{role_of_key}
@@ -11,8 +10,6 @@ use Rattle.tn_discipline.specs.declared.reads.Sig.TheVariants.{Int}
 use Rattle.tn_discipline.specs.declared.termios.Flags.{Flags}
 use Rattle.tn_discipline.specs.declared.termios.Settings.{Settings}
 use Rattle.tn_nvt.specs.Spelling.{lf, spells, Fits}
-use Rattle.tn_nvt.specs.Feeding.{DecoderState}
-use Rattle.tn_nvt.specs.Stream.{Segment, spelled, lone_cr, escaped, unread, cut, Splits, gives, Reading}
 use Rattle.tn_codes.specs.declared.codes.Command.TheVariants as command
 use Rattle.tn_nvt.specs.declared.items.Item.{Item}
 use Rattle.tn_nvt.specs.declared.items.Item.TheVariants.{Cmd}
@@ -29,7 +26,7 @@ use Rattle.tn_world.proofs.Interrupting.{interrupts_there}
 use Rattle.tn_world.specs.Past.{HasPast}
 use Rattle.tn_world.specs.Headline.{RunsQuietly, IsQuietEvent, PassesQuietly, NoneFailed}
 use Rattle.tn_world.specs.relation.Calm.{IsCalmToClient}
-use Rattle.tn_world.specs.relation.Ends.{SaysItems}
+use Rattle.tn_world.proofs.Machine.{SaysItems}
 use Rattle.tn_world.specs.Flight.{InFlight}
 use Rattle.tn_world.specs.relation.Pictures.{server_core, ServerStays}
 use Rattle.tn_world.specs.Worlds.{World, canon_of, TypesKey, EntersLine, key_sent, SendsCommand, CallsClient, DeliversToServer, DeliversToClient}
@@ -49,21 +46,6 @@ use Rattle.tn_world.proofs.Cut.{behind, cut_at}
 use Rattle.tn_world.proofs.Reading.{all_parts}
 use Rattle.tn_world.proofs.Tied.{key-tied, line-tied, interrupt-tied, aside-tied, resize-tied, return-tied, client-as, reach-tied, call-tied, take-tied, server-as}
 use Rattle.tn_world.specs.relation.Relation.{IsRelated, IsTied}
-
--- the items of a reading fit
-segments_fit : (segments : List Segment) (rest stream : List ℕ) → Splits segments rest stream → All Fits (flat_map gives segments)
-segments_fit [] rest stream h = All-nil Fits
-segments_fit (spelled item ∷ segments) rest stream h = All-cons Fits item (flat_map gives segments) h.1 (segments_fit segments rest h.0 h.3)
-segments_fit (lone_cr next ∷ segments) rest stream h = All-cons Fits _ (flat_map gives segments) tt (segments_fit segments rest (next ∷ h.0) h.3)
-segments_fit (escaped byte ∷ segments) rest stream h = segments_fit segments rest h.0 h.3
-segments_fit (unread bytes ∷ segments) rest stream h = segments_fit segments rest h.0 h.3
-segments_fit (cut bytes next ∷ segments) rest stream h = segments_fit segments rest (255 ∷ next ∷ h.0) h.3
-
-reading_fits : (stream : List ℕ) (items : List Item) (rest : List ℕ) → Reading stream items rest → All Fits items
-reading_fits stream items rest r = subst (λ l. All Fits l) (sym r.read) (segments_fit r.segments rest stream r.splits)
-
-pub flight_fits : (d : DecoderState) (flight : List ℕ) (items : List Item) → InFlight d flight items → All Fits items
-flight_fits d flight items f = (all_parts Fits f.had items (reading_fits (f.stream ++ flight) (f.had ++ items) [] f.reads)).1
 
 -- what the client says joins what is in flight to the server
 module _ (s : Canon) (old : World) (h : IsRelated s old) (new : World) (sound : HasPast new) where
@@ -167,8 +149,7 @@ holds_reaches : (s : Canon) (old new : World) (n : ℕ) → HasPast new → Deli
 holds_reaches s old new n sound t h =
     let f = t.feeds in
     let d = cut_at old.server.decoder new.server.decoder n old.to_server h.items f.items h.flight f.reads in
-    let fit = (all_parts Fits f.items d.left (subst (λ l. All Fits l) d.all (flight_fits old.server.decoder old.to_server h.items h.flight))).0 in
-    let tied = reach-tied h.tied f.items d.left d.all fit in
+    let tied = reach-tied h.tied f.items d.left d.all in
     subst (λ (w : World). HasPast w → IsRelated s w)
     (sym (t.rest ∙ ap (λ (x : List ℕ). record old { server = new.server; to_server = drop n old.to_server; to_client = x }) f.said)) (λ past. record {
       items = d.left;

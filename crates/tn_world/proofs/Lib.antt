@@ -12,6 +12,7 @@ pub mod Hearing
 pub mod Happening
 pub mod Interrupting
 pub mod lemmas
+pub mod Machine
 pub mod Marking
 pub mod Opening
 pub mod Prefixes

@@ -5,6 +5,7 @@ use Rattle.tn_discipline.specs.declared.reads.Entry.{Entry}
 use Rattle.tn_discipline.specs.Canon.{Canon}
 use Rattle.tn_discipline.specs.declared.termios.Settings.{Settings}
 use Rattle.tn_linemode.specs.Modes.{Modes, edits}
+use Rattle.tn_nvt.specs.Spelling.{Fits}
 use Rattle.tn_option.specs.Options.{Options, agrees_to, is_yes, state_of}
 use Rattle.tn_option.specs.declared.q_method.Side.TheVariants.{Us, Them}
 use Rattle.tn_server.specs.Terms as terms
@@ -13,7 +14,7 @@ use Rattle.tn_client.specs.Terms as client_terms
 use Rattle.tn_world.specs.Headline.{IsMark, AgreeOnLinemode}
 use Rattle.tn_world.specs.relation.Calm.{IsCalmToServer, IsCalmToClient}
 use Rattle.tn_world.specs.Flight.{InFlight}
-use Rattle.tn_world.specs.relation.Machine.{bits, IsAskable}
+use Rattle.tn_world.specs.relation.Calm.{bits, IsAskable}
 use Rattle.tn_world.specs.relation.Pictures.{server_core, NeverEnds, IsAllowed, IsOffOrOn}
 use Rattle.tn_world.specs.Worlds.{World}
 use Rattle.tn_world.proofs.Cut.{no_items}
@@ -96,6 +97,7 @@ mark_holds s w m =
       messages = [];
       back = subst (λ x. InFlight w.client.decoder w.to_client x) silent back.1;
       tied = record {
+        fit = All-nil Fits;
         calm = All-nil (IsCalmToServer s.settings);
         calm_back = All-nil (IsCalmToClient s.settings);
         agrees = mark_agrees s w m;

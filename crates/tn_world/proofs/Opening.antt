@@ -6,6 +6,7 @@ use Rattle.tn_discipline.specs.Canon.{Canon}
 use Rattle.tn_discipline.specs.Characters.{standard_characters}
 use Rattle.tn_discipline.specs.declared.termios.Settings.{Settings}
 use Rattle.tn_codes.specs.declared.codes.Verb.TheVariants.{Will, DoIt}
+use Rattle.tn_nvt.specs.Spelling.{Fits}
 use Rattle.tn_nvt.specs.Feeding as nvt
 use Rattle.tn_nvt.specs.declared.items.Item.TheVariants.{Neg}
 use Rattle.tn_option.specs.QMethod.{cell}
@@ -27,7 +28,8 @@ use Rattle.tn_world.specs.Past.{HasPast}
 use Rattle.tn_world.specs.Flight.{InFlight}
 use Rattle.tn_world.specs.Worlds.{World}
 use Rattle.tn_world.specs.relation.Calm.{IsCalmToServer, IsCalmToClient}
-use Rattle.tn_world.specs.relation.Machine.{Server, bits}
+use Rattle.tn_world.specs.relation.Calm.{bits}
+use Rattle.tn_world.specs.relation.Pictures.{Server}
 use Rattle.tn_world.specs.relation.Pictures.{server_core, NeverEnds, IsFlagged, IsOffOrOn, ServerStays, ClientStays}
 use Rattle.tn_world.specs.relation.Relation.{Agrees, IsTied, IsRelated}
 use Rattle.tn_world.proofs.Bodies.{open_sound}
@@ -96,6 +98,7 @@ begun_agrees s width height v c stands begins =
 pub begun_tied : (s : Canon) (width height : ℕ) (v : server.End) (c : client.End) → s.settings.chars ≡ standard_characters
     → server.LeadsTo (server_calls.begun s) v → client.LeadsTo (client_calls.begun width height s.limit) c → IsTied s [] [] [] opening v c
 begun_tied s width height v c standard stands begins = record {
+  fit = All-nil Fits;
   calm = All-nil (IsCalmToServer s.settings);
   calm_back = opening_calm s.settings standard;
   agrees = begun_agrees s width height v c stands begins;

@@ -6,7 +6,8 @@ use Rattle.tn_discipline.specs.Steps.{gain_next}
 use Rattle.tn_client.specs.Calls.{End}
 use Rattle.tn_nvt.specs.declared.items.Item.{Item}
 use Rattle.tn_server.specs.Lines.{role_at}
-use Rattle.tn_world.specs.relation.Machine.{Server, read, read_all}
+use Rattle.tn_world.specs.relation.Pictures.{Server}
+use Rattle.tn_world.proofs.Machine.{read, read_all}
 use Rattle.tn_streams.specs.Prefixes.{IsPrefixOf}
 use Rattle.tn_world.specs.relation.Relation.{Agrees}
 

@@ -23,7 +23,8 @@ use Rattle.tn_discipline.proofs.lemmas.KeyRoles.{roles_of-append, roles_of-one}
 use Rattle.tn_nvt.specs.declared.items.Item.{Item}
 use Rattle.tn_nvt.specs.declared.items.Item.TheVariants.{Byte}
 use Rattle.tn_client.specs.Replies.{byte_items}
-use Rattle.tn_world.specs.relation.Machine.{Server, read, read_all}
+use Rattle.tn_world.specs.relation.Pictures.{Server}
+use Rattle.tn_world.proofs.Machine.{read, read_all}
 use Rattle.tn_world.specs.relation.Relation.{AreOrdinary, server_at}
 
 -- both parts

@@ -48,7 +48,8 @@ use Rattle.tn_server.specs.declared.terms.Negotiation.{Negotiation}
 use Rattle.tn_server.specs.declared.wishes.Editing.{Editing}
 use Rattle.tn_server.proofs.lemmas.Terms.{differ_self, table_again, echo_keeps_linemode}
 use Rattle.tn_world.specs.relation.Calm.{SaysCalmly, IsCalmToServer, AsksCalmly, IsCalmToClient}
-use Rattle.tn_world.specs.relation.Machine.{Server, edit_by, read, read_all}
+use Rattle.tn_world.specs.relation.Pictures.{Server}
+use Rattle.tn_world.proofs.Machine.{edit_by, read, read_all}
 use Rattle.tn_world.specs.relation.Pictures.{server_core, NeverEnds, IsAllowed, ServerStays}
 use Rattle.tn_world.proofs.Engines.{one, reply_made, echo_made, server_turned, server_asks, echo_keeps_state, word_keeps_state, echo_agrees, word_agrees}
 use Rattle.tn_world.proofs.Wishes.{allowed_wish, mask_asked, wish_asked}

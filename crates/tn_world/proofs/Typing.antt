@@ -22,7 +22,7 @@ use Rattle.tn_nvt.specs.declared.items.Item.TheVariants.{Byte, Newline, Cmd}
 use Rattle.tn_client.specs.Lines.{is_forward}
 use Rattle.tn_client.specs.Replies.{byte_items, command_of, command_items, sent_ahead_items, edit_items}
 use Rattle.tn_client.specs.Steps.{line_sent, line_typed}
-use Rattle.tn_world.specs.relation.Machine.{read, read_all}
+use Rattle.tn_world.proofs.Machine.{read, read_all}
 use Rattle.tn_world.proofs.Reading.{ordinary-append, ordinary-take, read-bytes, read-bytes_then}
 use Rattle.tn_world.specs.relation.Relation.{AreOrdinary, server_at}
 

@@ -10,7 +10,7 @@ use Rattle.tn_server.specs.Events.{History, begun, next, got, wished}
 use Rattle.tn_server.specs.Terms as terms
 use Rattle.tn_server.specs.Terms.{mask_for, wish_after, allows_local}
 use Rattle.tn_linemode.specs.Modes.{mode_of, is_acknowledged}
-use Rattle.tn_world.specs.relation.Machine.{bits, IsAskable}
+use Rattle.tn_world.specs.relation.Calm.{bits, IsAskable}
 use Rattle.tn_server.specs.declared.wishes.Editing.{Editing}
 use Rattle.tn_server.specs.declared.wishes.Editing.TheVariants.{Remote, Local}
 use Rattle.tn_world.specs.relation.Pictures.{NeverEnds, IsAllowed, IsFlagged, ServerStays}

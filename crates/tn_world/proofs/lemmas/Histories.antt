@@ -1,9 +1,8 @@
 -- The relation of two histories, with no end and no flight of bytes: it holds of the opening where the special
 -- characters are the standard ones, and each event keeps it.
 use Rattle.std.proofs.Common.{◌≡◌, ℕ, false, List, [], ◌∷◌, ◌++◌, refl, sym, ap, ◌∙◌, subst, append_assoc, append-nil}
-use Rattle.std.specs.Prelude.{All, Option, Some, None, option_to_list}
+use Rattle.std.specs.Prelude.{Option, Some, None, option_to_list}
 use Rattle.std.proofs.lemmas.List.{append_cancel_left, take-append-drop}
-use Rattle.tn_client.proofs.lemmas.Fitting.{sent-fits}
 use Rattle.tn_client.specs.Events as client
 use Rattle.tn_client.specs.Replies as client_says
 use Rattle.tn_client.specs.Replies.{command_sent}
@@ -16,7 +15,7 @@ use Rattle.tn_discipline.specs.declared.termios.Settings.{Settings}
 use Rattle.tn_discipline.specs.declared.reads.Entry.{Entry}
 use Rattle.tn_discipline.specs.HalfLine.{HalfLine}
 use Rattle.tn_linemode.specs.Modes.{Modes, edits}
-use Rattle.tn_nvt.specs.Spelling.{lf, Fits}
+use Rattle.tn_nvt.specs.Spelling.{lf}
 use Rattle.tn_nvt.specs.declared.items.Item.{Item}
 use Rattle.tn_nvt.specs.declared.items.Item.TheVariants.{Cmd}
 use Rattle.tn_server.specs.Events as server
@@ -39,10 +38,9 @@ use Rattle.tn_world.proofs.Interrupting.{interrupts_there}
 use Rattle.tn_world.proofs.Opening.{begun_tied}
 use Rattle.tn_world.proofs.ServerSteps as server_steps
 use Rattle.tn_world.proofs.ServerSteps.{IsCall}
-use Rattle.tn_world.proofs.Reading.{all_parts}
 use Rattle.tn_streams.specs.Prefixes.{IsPrefixOf}
 use Rattle.tn_world.specs.Commands.{IsTypeable, key_for, interrupt_key}
-use Rattle.tn_world.specs.relation.Ends.{SaysItems}
+use Rattle.tn_world.proofs.Machine.{SaysItems}
 use Rattle.tn_world.specs.relation.Pictures.{server_core, ServerStays}
 use Rattle.tn_world.specs.relation.Relation.{IsTied}
 
@@ -118,9 +116,8 @@ reaches canon h k x p t =
     let n = next_of (server.items h) t.there (client_says.items_said k) x t.said p in
     let r = server_says.replies h (server.got x) in
     let whole = t.said ∙ ap (λ (l : List Item). server.items h ++ l) n.1 in
-    let fit = (all_parts Fits (x ∷ []) n.0 (all_parts Fits (server.items h) (x ∷ n.0) (subst (λ (l : List Item). All Fits l) whole (sent-fits k))).1).0 in
     let said = server_said (server_at h) (server.got x) in
-    let one = reach-tied t.tied (x ∷ []) n.0 n.1 fit in
+    let one = reach-tied t.tied (x ∷ []) n.0 n.1 in
     let end = server_after (server_at h) (server.got x) in
     record {
       there = n.0;

@@ -1,6 +1,6 @@
 -- What is in flight after a mark, and from the opening on: nothing that turns LINEMODE off or changes a
 -- special character, and nothing that turns it on but where the special characters are the standard ones.
-use Rattle.std.specs.Prelude.{◌≡◌, ◌⊎◌, ℕ, ◌==◌, IsTrue, IsFalse, Option, Some}
+use Rattle.std.specs.Prelude.{◌≡◌, ◌⊎◌, ℕ, ◌==◌, Bool, true, IsTrue, false, IsFalse, Option, Some}
 use Rattle.tn_codes.specs.declared.codes.Verb.{Verb}
 use Rattle.tn_codes.specs.declared.codes.Verb.TheVariants.{Will, DoIt}
 use Rattle.tn_codes.specs.OptionCodes as option_code
@@ -10,10 +10,28 @@ use Rattle.tn_codes.specs.declared.payloads.Payload.TheVariants as payload
 use Rattle.tn_discipline.specs.Characters.{standard_characters}
 use Rattle.tn_discipline.specs.declared.termios.Settings.{Settings}
 use Rattle.tn_linemode.specs.Exchange.{announcement}
-use Rattle.tn_linemode.specs.Modes.{is_acknowledged}
+use Rattle.tn_linemode.specs.Modes.{edits, is_acknowledged, traps}
+use Rattle.tn_server.specs.Terms.{allows_local}
 use Rattle.tn_nvt.specs.declared.items.Item.{Item}
 use Rattle.tn_nvt.specs.declared.items.Item.TheVariants.{Neg, Sub}
-use Rattle.tn_world.specs.relation.Machine.{bits, IsAskable}
+
+-- RFC 1184, section 2.2: the two bits of a mask that both ends keep
+pub record Mode : Type 0 where
+  pub edit : Bool
+  pub trapsig : Bool
+
+abbrev pub bits : ℕ → Mode
+bits mask = record { edit = edits mask; trapsig = traps mask }
+
+abbrev pub remote_mode : Mode
+remote_mode = record { edit = false; trapsig = false }
+
+abbrev pub local_mode : Settings → Mode
+local_mode s = record { edit = true; trapsig = s.flags.isig }
+
+-- a mode that a server asks for
+abbrev pub IsAskable : Settings → Mode → Type 0
+IsAskable s m = (m ≡ remote_mode) ⊎ (IsTrue (allows_local s.flags) × (m ≡ local_mode s))
 
 -- to the server: no MODE but one that acknowledges, and no list of characters
 abbrev pub SaysCalmly : Option Payload → Type 0

@@ -1,5 +1,6 @@
 -- The server as the relation between both ends sees it, and what stays as it was at a mark.
-use Rattle.std.specs.Prelude.{◌≡◌, ◌⊎◌, ℕ, IsTrue, Some}
+use Rattle.std.specs.Prelude.{◌≡◌, ◌⊎◌, ℕ, Bool, IsTrue, Some, List}
+use Rattle.tn_discipline.specs.declared.reads.Entry.{Entry}
 use Rattle.tn_codes.specs.OptionCodes as option_code
 use Rattle.tn_discipline.specs.Canon.{Canon}
 use Rattle.tn_discipline.specs.declared.termios.Flags.{Flags}
@@ -14,7 +15,14 @@ use Rattle.tn_server.specs.Calls as server
 use Rattle.tn_server.specs.Terms as server_terms
 use Rattle.tn_server.specs.declared.wishes.Editing.TheVariants.{Local}
 use Rattle.tn_client.specs.Calls as client
-use Rattle.tn_world.specs.relation.Machine.{Server}
+
+-- A server as far as lines go: whether LINEMODE is on, whether it takes bytes as edited, its half line, and
+-- the entries that wait.
+pub record Server : Type 0 where
+  pub linemode : Bool
+  pub edit : Bool
+  pub half : List ℕ
+  pub waiting : List Entry
 
 abbrev pub server_core : server.End → Server
 server_core end =

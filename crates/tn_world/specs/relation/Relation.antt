@@ -17,10 +17,14 @@ use Rattle.tn_streams.specs.Prefixes.{IsPrefixOf}
 use Rattle.tn_world.specs.Past.{HasPast}
 use Rattle.tn_world.specs.relation.Calm.{IsCalmToServer, IsCalmToClient}
 use Rattle.tn_world.specs.Flight.{InFlight}
-use Rattle.tn_world.specs.relation.Machine.{bits, Server, read_all, IsAskable}
+use Rattle.tn_world.specs.relation.Calm.{bits, IsAskable}
+use Rattle.tn_world.specs.relation.Pictures.{Server}
+use Rattle.tn_nvt.specs.Spelling.{Fits}
+use Rattle.tn_server.specs.Steps.{end_after_items}
 use Rattle.tn_world.specs.relation.Pictures.{server_core, ServerStays, ClientStays}
 use Rattle.tn_world.specs.Worlds.{World}
 
+-- a server with these
 abbrev pub server_at : Bool → Bool → List ℕ → List Entry → Server
 server_at linemode edit half waiting =
     record { linemode = linemode; edit = edit; half = half; waiting = waiting }
@@ -50,17 +54,19 @@ pub record Agrees (canon : Canon) (typed : List ℕ) (taken : List Entry) (v : S
   pub count : IsFalse (edits c.mode) → IsTrue (allows_local canon.settings.flags)
       → (if canon.settings.flags.isig then c.trapped else c.plain) ≡ length half
 
--- The same of two ends and the items between them, which are calm, with what stays as it was.
+-- Two ends and the items that are on their way between them: these fit a stream and are calm, the server that
+-- has read its items agrees with the client, and what stays at each end is as it was at the mark.
 pub record IsTied (canon : Canon) (typed : List ℕ) (taken : List Entry) (there back : List Item)
     (s : server.End) (c : client.End) : Type 0 where
+  pub fit : All Fits there
   pub calm : All (IsCalmToServer canon.settings) there
   pub calm_back : All (IsCalmToClient canon.settings) back
-  pub agrees : Agrees canon typed taken (read_all canon (server_core s) there) c
+  pub agrees : Agrees canon typed taken (server_core (end_after_items s there)) c
   pub server : ServerStays canon s
   pub client : ClientStays canon c
 
--- The relation of a world, with the server's settings and line limit at its mark: the bytes in flight are whole
--- items, and the ends are tied by these.
+-- The relation of a world, with the server's settings and line limit at its mark: the bytes in flight are
+-- whole items, and the ends are tied by these.
 pub record IsRelated (canon : Canon) (w : World) : Type 0 where
   pub items : List Item
   pub flight : InFlight w.server.decoder w.to_server items
@@ -74,9 +80,9 @@ pub record IsRelated (canon : Canon) (w : World) : Type 0 where
 pub record IsBehind (canon : Canon) (w : World) : Type 0 where
   pub items : List Item
   pub flight : InFlight w.server.decoder w.to_server items
+  pub fit : All Fits items
   pub calm : All (IsCalmToServer canon.settings) items
-  pub begins : IsPrefixOf (w.taken
-      ++ (read_all canon (server_core w.server) items).waiting)
+  pub begins : IsPrefixOf (w.taken ++ (end_after_items w.server items).terminal.entries)
       (local_entries canon w.typed)
   pub server : ServerStays canon w.server
   pub past : HasPast w

@@ -1,27 +1,19 @@
--- The server as far as lines go: what it makes of what comes.
-use Rattle.std.specs.Prelude.{◌≡◌, ◌⊎◌, ℕ, ◌==◌, Bool, true, IsTrue, false, ◌&&◌, ◌||◌, Option, Some}
-use Rattle.std.specs.Prelude.{List, [], ◌∷◌, ◌++◌, if◌then◌else◌}
+-- What a server makes of calm items, as far as lines go, and what its client says of lines.
+use Rattle.std.proofs.Common.{◌≡◌, ◌==◌, Bool, ◌&&◌, ◌||◌, Option, Some, List, [], ◌∷◌, ◌++◌, if◌then◌else◌}
+use Rattle.std.specs.Prelude.{All}
 use Rattle.tn_codes.specs.OptionCodes as option_code
 use Rattle.tn_codes.specs.PayloadOf.{payload_of}
 use Rattle.tn_codes.specs.declared.payloads.Payload.{Payload}
 use Rattle.tn_codes.specs.declared.payloads.Payload.TheVariants as payload
 use Rattle.tn_discipline.specs.Canon.{Canon}
 use Rattle.tn_discipline.specs.Steps.{half_next, gain_next}
-use Rattle.tn_discipline.specs.declared.reads.Entry.{Entry}
-use Rattle.tn_discipline.specs.declared.termios.Settings.{Settings}
-use Rattle.tn_linemode.specs.Modes.{edits, traps}
+use Rattle.tn_linemode.specs.Modes.{edits}
+use Rattle.tn_nvt.specs.Spelling.{Fits}
 use Rattle.tn_nvt.specs.declared.items.Item.{Item}
 use Rattle.tn_nvt.specs.declared.items.Item.TheVariants.{Neg, Sub}
 use Rattle.tn_server.specs.Lines.{role_at}
-use Rattle.tn_server.specs.Terms.{allows_local}
-
--- The server: whether LINEMODE is on, whether it takes bytes as edited, its half line, and the entries that
--- wait.
-pub record Server : Type 0 where
-  pub linemode : Bool
-  pub edit : Bool
-  pub half : List ℕ
-  pub waiting : List Entry
+use Rattle.tn_world.specs.relation.Calm.{IsCalmToServer}
+use Rattle.tn_world.specs.relation.Pictures.{Server}
 
 -- a calm word on LINEMODE turns it on
 abbrev pub linemode_after : Bool → Item → Bool
@@ -54,20 +46,13 @@ abbrev pub read_all : Canon → Server → List Item → Server
 read_all canon v [] = v
 read_all canon v (item ∷ items) = read_all canon (read canon v item) items
 
--- RFC 1184, section 2.2: the two bits of a mask that both ends keep
-pub record Mode : Type 0 where
-  pub edit : Bool
-  pub trapsig : Bool
+-- what the client says: items that fit a stream and are calm
+pub record AreSaid (canon : Canon) (said : List Item) : Type 0 where
+  pub fit : All Fits said
+  pub calm : All (IsCalmToServer canon.settings) said
 
-abbrev pub bits : ℕ → Mode
-bits mask = record { edit = edits mask; trapsig = traps mask }
-
-abbrev pub remote_mode : Mode
-remote_mode = record { edit = false; trapsig = false }
-
-abbrev pub local_mode : Settings → Mode
-local_mode s = record { edit = true; trapsig = s.flags.isig }
-
--- a mode that a server asks for
-abbrev pub IsAskable : Settings → Mode → Type 0
-IsAskable s m = (m ≡ remote_mode) ⊎ (IsTrue (allows_local s.flags) × (m ≡ local_mode s))
+-- and any server reads them as these
+pub record SaysItems (canon : Canon) (says said : List Item) : Type 0 where
+  pub fit : All Fits said
+  pub calm : All (IsCalmToServer canon.settings) said
+  pub says_so : (v : Server) → read_all canon v said ≡ read_all canon v says
