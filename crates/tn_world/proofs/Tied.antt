@@ -75,8 +75,8 @@ module _ {canon : Canon} {typed : List ℕ} {taken : List Entry} {there back : L
 
   pub line-tied : IsTied canon (typed ++ lf ∷ []) taken (there ++ says_new_line c) back s (end_after_key c lf)
   line-tied =
-      client-says back (says_new_line c) (typed ++ lf ∷ []) (end_after_key c lf) (line_said canon c).calm t.calm_back (key_stays canon c lf t.client)
-      (line-agrees canon typed taken v c t.client t.agrees)
+      client-says back (says_new_line c) (typed ++ lf ∷ []) (end_after_key c lf) (line_said canon c) t.calm_back (key_stays canon c lf t.client)
+      (line-agrees canon typed taken v c t.client seen)
 
   pub interrupt-tied : (key : ℕ) (said : List Item) → role_of_key canon.settings key ≡ role.Signal Int → SaysItems canon (Cmd Ip ∷ []) said
       → IsTied canon (typed ++ key ∷ []) taken (there ++ said) back s c
