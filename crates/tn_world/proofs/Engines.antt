@@ -20,7 +20,7 @@ use Rattle.tn_option.specs.declared.q_method.OptionEvent.TheVariants.{HeardOn}
 use Rattle.tn_option.specs.declared.q_method.Side.{Side}
 use Rattle.tn_option.specs.declared.q_method.Side.TheVariants.{Us, Them}
 use Rattle.tn_option.specs.declared.q_method.QState.{QState}
-use Rattle.tn_option.specs.declared.q_method.QState.TheVariants.{No, Yes, WantNoEmpty, WantNoOpposite, WantYesEmpty, WantYesOpposite}
+use Rattle.tn_option.specs.declared.q_method.QState.TheVariants.{No, Yes, WantYesEmpty}
 use Rattle.tn_option.proofs.lemmas.OptionLaws.{LeavesOthers-moved, AgreesAsBefore-moved}
 use Rattle.tn_linemode.specs.Words.{word_items}
 use Rattle.tn_server.specs.Events as server_calls
@@ -67,13 +67,11 @@ echo_made P false wanted o p = All-nil P
 -- LINEMODE comes on
 server_cell : (a : Bool) (q : QState) → a ≡ true → NeverEnds q → (cell a HeardOn q).0 ≡ Yes
 unfolding cell
+server_cell false q e n = absurd (cc)
 server_cell true No e n = refl
 server_cell true Yes e n = refl
 server_cell true WantYesEmpty e n = refl
-server_cell true WantNoEmpty e n = absurd n
-server_cell true WantNoOpposite e n = absurd n
-server_cell true WantYesOpposite e n = absurd n
-server_cell false q e n = absurd (cc)
+server_cell true _ e n = absurd n
 
 pub server_turned : (o : Options) → agrees_to o Them 34 ≡ true → NeverEnds (state_of o Them 34) → state_of (options_after_word o Will 34) Them 34 ≡ Yes
 unfolding options_after_word state_of agrees_to
@@ -83,13 +81,11 @@ server_turned o a n = server_cell o.them.linemode.agreed o.them.linemode.state a
 server_answer : (P : Item → Type 0) (a : Bool) (q : QState) → a ≡ true → NeverEnds q → P (Neg DoIt 34)
     → All P (word_items (word_of_answer Them 34 (cell a HeardOn q).1))
 unfolding cell
-server_answer P true No e n p = All-cons P (Neg DoIt 34) [] p (All-nil P)
+server_answer P false q e n p = absurd (cc)
+server_answer P true No e n p = one P (Neg DoIt 34) p
 server_answer P true Yes e n p = All-nil P
 server_answer P true WantYesEmpty e n p = All-nil P
-server_answer P true WantNoEmpty e n p = absurd n
-server_answer P true WantNoOpposite e n p = absurd n
-server_answer P true WantYesOpposite e n p = absurd n
-server_answer P false q e n p = absurd (cc)
+server_answer P true _ e n p = absurd n
 
 pub server_asks : (P : Item → Type 0) (o : Options) → agrees_to o Them 34 ≡ true → NeverEnds (state_of o Them 34) → P (Neg DoIt 34)
     → All P (word_items (reply_to o Will 34))
@@ -153,13 +149,10 @@ server_agrees (server_calls.next h _) = server_agrees h
 -- THE CLIENT'S, of which LINEMODE is its own side
 client_cell : (a : Bool) (q : QState) → a ≡ true → IsOffOrOn q → (cell a HeardOn q).0 ≡ Yes
 unfolding cell
+client_cell false q e n = absurd (cc)
 client_cell true No e n = refl
 client_cell true Yes e n = refl
-client_cell true WantYesEmpty e n = absurd n
-client_cell true WantNoEmpty e n = absurd n
-client_cell true WantNoOpposite e n = absurd n
-client_cell true WantYesOpposite e n = absurd n
-client_cell false q e n = absurd (cc)
+client_cell true _ e n = absurd n
 
 pub client_turned : (o : Options) → agrees_to o Us 34 ≡ true → IsOffOrOn (state_of o Us 34) → state_of (options_after_word o DoIt 34) Us 34 ≡ Yes
 unfolding options_after_word state_of agrees_to
@@ -172,13 +165,10 @@ consent false = Some (Will, 34)
 
 client_answer : (a : Bool) (q : QState) → a ≡ true → IsOffOrOn q → word_of_answer Us 34 (cell a HeardOn q).1 ≡ consent (is_yes q)
 unfolding cell
+client_answer false q e n = absurd (cc)
 client_answer true No e n = refl
 client_answer true Yes e n = refl
-client_answer true WantYesEmpty e n = absurd n
-client_answer true WantNoEmpty e n = absurd n
-client_answer true WantNoOpposite e n = absurd n
-client_answer true WantYesOpposite e n = absurd n
-client_answer false q e n = absurd (cc)
+client_answer true _ e n = absurd n
 
 pub client_consents : (o : Options) → agrees_to o Us 34 ≡ true → IsOffOrOn (state_of o Us 34) → reply_to o DoIt 34 ≡ consent (client_terms.linemode o)
 unfolding reply_to state_of agrees_to

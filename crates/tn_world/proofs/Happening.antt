@@ -17,7 +17,7 @@ use Rattle.tn_world.specs.declared.events.Event.TheVariants.{ServerStops, Client
 use Rattle.tn_world.proofs.ServerItems.{IsUnpulled}
 use Rattle.tn_world.proofs.ServerSteps.{KeepsEntries}
 
--- no symbol is pulled or shown
+-- no pull, and no delivery to the client
 abbrev pub AddsOnly : Event → Type 0
 AddsOnly (Pull n) = ⊥
 AddsOnly (ToClient n) = ⊥
@@ -65,7 +65,7 @@ done_of old new (Mask mask) d = asks_by old new (Mask mask) (server_calls.mask_s
 done_of old new ServerStops d = stops true old.client_stopped d
 done_of old new ClientStops d = stops old.server_stopped true d
 
--- It fails no end, so that no end had failed before where none has now.
+-- It fails no end: if none has failed after it, none had before.
 abbrev pub FailsNone : World → World → Type 0
 FailsNone old new = (new.server.failed ≡ old.server.failed) × (new.client.failed ≡ old.client.failed)
 

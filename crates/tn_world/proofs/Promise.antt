@@ -23,16 +23,15 @@ use Rattle.tn_world.specs.relation.Relation.{IsRelated}
 use Rattle.tn_world.specs.Flight.{InFlight}
 use Rattle.tn_world.proofs.Cut.{no_items}
 
+none_flies : (s : Canon) (w : World) (r : IsRelated s w) → w.to_server ≡ [] → r.items ≡ []
+none_flies s w r nothing = no_items w.server.decoder r.items (subst (λ x. InFlight w.server.decoder x r.items) nothing r.flight)
+
 -- the headline, from where the relation holds and no end has failed
 related_headline : (s : Canon) (start w : World) (events : List Event) → NoneFailed start → IsRelated s start → PassesQuietly start events w → Headline s w
 related_headline s start w events runs h p = record {
   prefix = stage_begins s w (stage_passes s start w events p (both runs h));
-  complete = λ none nothing.
-      let r = holds_passes s start w events none p h in
-      tied-complete r.tied (no_items w.server.decoder r.items (subst (λ x. InFlight w.server.decoder x r.items) nothing r.flight));
-  half = λ none nothing.
-      let r = holds_passes s start w events none p h in
-      tied-half r.tied (no_items w.server.decoder r.items (subst (λ x. InFlight w.server.decoder x r.items) nothing r.flight));
+  complete = λ none nothing. let r = holds_passes s start w events none p h in tied-complete r.tied (none_flies s w r nothing);
+  half = λ none nothing. let r = holds_passes s start w events none p h in tied-half r.tied (none_flies s w r nothing);
 }
 
 -- the relation holds at each beginning
