@@ -19,7 +19,7 @@
 
 pub use faults::{Ended, SessionFault};
 pub use messages::Message;
-pub use watching::{Gate, Place};
+pub use watching::{Gate, Place, Typed};
 
 pub mod client;
 mod faults;

@@ -23,10 +23,24 @@ pub enum Place {
     TermTook,
 }
 
+/// How far a server's session is with what its user typed.
+#[derive(Clone, Copy)]
+pub struct Typed {
+    /// The pieces that had their effect.
+    pub pieces: u64,
+    /// All that was typed in them has gone to the foreground job, which waits for more.
+    pub is_answered: bool,
+    /// An interrupt or a quit waits for the foreground job.
+    pub is_interrupted: bool,
+}
+
 /// Who watches the threads. It changes no answer.
 pub trait Gate {
     /// A thread comes by this place.
     fn at(&self, place: Place);
+
+    /// A server's terminal has handled a message, and is so far with what was typed.
+    fn typed(&self, _typed: Typed) {}
 
     /// A client's core has handled a message, and these are its terms now.
     fn agreed(&self, _terms: Terms) {}

@@ -127,6 +127,11 @@ fn tell_said<G: Gate>(gate: &G, job: Option<JobId>) {
     }
 }
 
+// Tells the gate how far the terminal is with what was typed.
+fn tell_typed<G: Gate>(gate: &G, term: &Term) {
+    gate.typed(term.typed());
+}
+
 // Whether nothing more is to be done after a write.
 fn is_done(written: bool, mark: ServerMark) -> bool
     ensures { result ≡ (written || not (is_whole mark)) }
@@ -277,6 +282,7 @@ pub(crate) fn run_term<R: Wait, W: Finish, G: Gate>(
         )?;
         tell_took(&*watched.gate, before, term.progress().entries);
         tell_said(&*watched.gate, job);
+        tell_typed(&*watched.gate, term);
         closed = finish_once(writer, term.progress().over, closed);
         told = watched
             .stops

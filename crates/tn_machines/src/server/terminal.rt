@@ -29,14 +29,18 @@ use crate::faults::{Ended, SessionFault};
 use crate::messages::Message;
 use crate::server::messages::{MessageOutcome, Put, ServerMark};
 use crate::server::progress::ServerProgress;
+use crate::watching::Typed;
 use std::alloc::Global;
-use tn_discipline::{Entry, Limit, Settings};
+use tn_discipline::{Entry, Limit, Settings, Sig};
 use tn_jobs::{After, JobId, JobState, Table, Verdict, Why, judge};
 use tn_pty::QUEUE_SYMBOLS;
 use tn_server::{Editing, ServerEnd, ServerFault};
 
 /// How many entries may wait for one more piece to be welcome.
 const MAX_BEFORE_PIECE: usize = 511;
+
+/// How many entries wait at most.
+const MAX_WAITING: usize = 1_024;
 
 /// How many bytes a welcome piece has at most.
 pub const MAX_PIECE: usize = 512;
@@ -539,6 +543,27 @@ impl Term {
         ensures { result ≡ self.now.progress }
     {
         self.progress
+    }
+
+    /// How far it is with what was typed.
+    pub fn typed(&self) -> Typed {
+        Typed {
+            pieces: self.progress.pieces,
+            is_answered: self.progress.asks,
+            is_interrupted: self.is_interrupted(),
+        }
+    }
+
+    // Whether an interrupt or a quit waits for the foreground job.
+    fn is_interrupted(&self) -> bool {
+        for index in 0..MAX_WAITING {
+            match self.end.waiting(index) {
+                Some(Entry::Signal(Sig::Int | Sig::Quit)) => return true,
+                Some(_) => {},
+                None => return false,
+            }
+        }
+        false
     }
 
     /// Whether one more piece is welcome: at most 511 entries wait, or nothing has any effect any more. So
