@@ -9,7 +9,7 @@ ghost use Rattle.tn_streams.specs.Beside.{IsOneOf};
 ghost use Rattle.tn_streams.specs.Foretelling.{ForetellsCall};
 ghost use Rattle.tn_streams.specs.Telling.{CountsRead, TellsCall};
 
-use crate::bell::{Bell, has_peer_ended};
+use crate::bell::{Bell, has_peer_ended, is_broken};
 use crate::connection::Closing;
 use crate::presence::TypedPieces;
 use std::alloc::{AllocError, Global};
@@ -61,6 +61,17 @@ pub struct Standing {
     stream: OnceLock<TcpStream>,
     /// Why what a job is joined to was not reached, in lines.
     unreached: OnceLock<Vec<u8>>,
+    /// What a job is joined to.
+    onward: OnceLock<TcpStream>,
+    /// How many pieces of what the peer sends went to the session.
+    pieces: AtomicUsize,
+    /// One more than after how many pieces all that was typed had gone to the job in the foreground, which
+    /// waited for more; 0 while it does not wait.
+    answered: AtomicUsize,
+    /// An interrupt or a quit waits for that job.
+    interrupted: AtomicBool,
+    /// No more is sent to what a job is joined to.
+    spent: AtomicBool,
 }
 
 impl Standing {
@@ -78,6 +89,11 @@ impl Standing {
             patience: AtomicUsize::new(0),
             stream: OnceLock::new(),
             unreached: OnceLock::new(),
+            onward: OnceLock::new(),
+            pieces: AtomicUsize::new(0),
+            answered: AtomicUsize::new(0),
+            interrupted: AtomicBool::new(false),
+            spent: AtomicBool::new(false),
         };
         Ok(Arc::new(alloc, standing)?)
     }
@@ -165,9 +181,85 @@ impl Standing {
         }
     }
 
-    /// The peer is told that no more comes.
+    /// A job is joined to this: once the peer has ended what it sends, and all of that has gone to the job in
+    /// the foreground, no more is sent there.
+    pub(crate) fn join<R: Wait>(&self, rt: &R, onward: TcpStream) {
+        let _ = self.onward.set(rt, onward);
+        if self.spent.load(Ordering::SeqCst) {
+            self.end_onward(Shutdown::Write);
+        }
+    }
+
+    /// One more piece of what the peer sends went to the session.
+    pub fn count_piece(&self) {
+        self.pieces.fetch_add(1, Ordering::SeqCst);
+    }
+
+    /// So many pieces had their effect: whether all that was typed in them has gone to the job in the
+    /// foreground, which waits for more, and whether an interrupt or a quit waits for that job.
+    pub fn note_typed(&self, pieces: u64, is_answered: bool, is_interrupted: bool) {
+        let answered = if is_answered {
+            usize::try_from(pieces.saturating_add(1)).unwrap_or(usize::MAX)
+        } else {
+            0
+        };
+        self.answered.store(answered, Ordering::SeqCst);
+        self.interrupted.store(is_interrupted, Ordering::SeqCst);
+    }
+
+    /// Whether an interrupt or a quit waits for the job in the foreground.
+    pub(crate) fn is_interrupted(&self) -> bool {
+        self.interrupted.load(Ordering::SeqCst)
+    }
+
+    // Passes the end of what the peer sends on to what a job is joined to, once all before it went there. Each
+    // piece was counted by now, by the thread that read it.
+    fn pass_end(&self) {
+        let pieces = self.pieces.load(Ordering::SeqCst);
+        if self.answered.load(Ordering::SeqCst) != pieces.saturating_add(1) {
+            return;
+        }
+        self.end();
+    }
+
+    /// No more is sent to what a job is joined to, or is joined to later.
+    pub(crate) fn end(&self) {
+        self.spent.store(true, Ordering::SeqCst);
+        self.end_onward(Shutdown::Write);
+    }
+
+    // Nothing more comes from the peer, and it takes nothing more: what a job is joined to is left at once.
+    fn leave_onward(&self) {
+        self.end_onward(Shutdown::Both);
+    }
+
+    fn end_onward(&self, how: Shutdown) {
+        if let Some(onward) = self.onward.get() {
+            onward.close(how);
+        }
+    }
+
+    // Nothing more comes from the peer, since reading failed or not.
+    fn go(&self, failed: bool) {
+        self.gone.store(true, Ordering::SeqCst);
+        if failed {
+            self.leave_onward();
+        }
+    }
+
+    // Whether the connection is broken, as by a reset.
+    fn is_broken(&self) -> bool {
+        match self.stream.get() {
+            Some(stream) => is_broken(stream.as_raw_fd()),
+            None => false,
+        }
+    }
+
+    /// The peer is told that no more comes, and so is what a job is joined to: the jobs have left, or have no
+    /// effect any more.
     pub(crate) fn finish(&self) {
         self.finished.store(true, Ordering::SeqCst);
+        self.end();
     }
 
     fn is_finished(&self) -> bool {
@@ -350,12 +442,17 @@ impl<H: Clock + Copy + Wait, S: AsRawFd + Drop + Read + Closing> Attended<H, S> 
         self.standing.bell.wait(self.stream.as_raw_fd(), LOOK)
     }
 
-    // Waits as long as the session is held, for two seconds at most.
+    // Waits as long as the session is held, for two seconds at most, and no longer than until a reset. What a
+    // job is joined to gets the end of what was typed.
     fn hold(&self) {
         for _ in 0..HOLDS {
             if !self.standing.is_held() {
                 return;
             }
+            if self.standing.is_broken() {
+                return self.standing.leave_onward();
+            }
+            self.standing.pass_end();
             thread::sleep(&self.rt, Duration::from_millis(HOLD));
         }
     }
@@ -469,7 +566,7 @@ impl<H: Clock + Copy + Wait, S: AsRawFd + Drop + Read + Closing> Source for Atte
     {
         let read = self.read_on(buf);
         if is_last(&read) {
-            self.standing.gone.store(true, Ordering::SeqCst);
+            self.standing.go(read.is_err());
         }
         read
     }

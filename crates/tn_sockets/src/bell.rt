@@ -54,6 +54,16 @@ pub(crate) fn has_peer_ended(fd: RawFd) -> bool {
     c::poll(&mut seen, 0) > 0
 }
 
+/// Whether a connection is broken, as by a reset, or closed in both directions.
+pub(crate) fn is_broken(fd: RawFd) -> bool {
+    let mut seen = [pollfd {
+        fd,
+        events: 0,
+        revents: 0,
+    }];
+    c::poll(&mut seen, 0) > 0
+}
+
 fn awaited(fd: RawFd) -> pollfd {
     pollfd {
         fd,

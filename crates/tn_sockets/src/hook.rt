@@ -2,6 +2,7 @@
 
 use crate::attended::Standing;
 use std::alloc::{AllocError, Global};
+use std::net::TcpStream;
 use std::sync::{Arc, Wait};
 
 /// How a job ends the connection of its session from outside of the session, and learns that it is over. A
@@ -41,6 +42,22 @@ impl Hook {
     /// session's end.
     pub fn note_unreached<R: Wait>(&self, rt: &R, causes: Vec<u8>) {
         self.standing.note_unreached(rt, causes);
+    }
+
+    /// What the job is joined to, for its end: no more is sent there once the client has ended what it sends
+    /// and all of that went to the job in the foreground, and a reset by the client ends it at once.
+    pub fn join<R: Wait>(&self, rt: &R, onward: TcpStream) {
+        self.standing.join(rt, onward);
+    }
+
+    /// No more is sent to what the job is joined to, or is joined to later.
+    pub fn end(&self) {
+        self.standing.end();
+    }
+
+    /// Whether an interrupt or a quit that the client typed waits for the job in the foreground.
+    pub fn is_interrupted(&self) -> bool {
+        self.standing.is_interrupted()
     }
 
     /// Whether nothing more comes from the session's client: it has hung up, or was told that no more comes.
