@@ -137,6 +137,7 @@ pub(crate) const HOST: &str = "host";
 pub(crate) const ESCAPE: &str = "escape";
 
 pub(crate) const KEYS: &str = "keys";
+
 pub(crate) const RETURN: &str = "return";
 
 pub(crate) const TRACE: &str = "trace";

@@ -16,12 +16,14 @@ ghost use Rattle.tn_words.specs.Words.{is_flagged, is_given, line_end_in, one_po
 ghost use Rattle.tn_words.specs.Words.{service_line_end_in, usual_line};
 
 use crate::commands::{
-    AT, CONNECT, COUNT, CR, CRLF, DECODE, DRAIN, ESCAPE, FOREVER, HEIGHT, HOST, IDLE, KEYS, LF, RETURN,
+    AT, CONNECT, COUNT, CR, CRLF, DECODE, DRAIN, ESCAPE, FOREVER, HEIGHT, HOST, IDLE, KEYS, LF,
     LIMIT, LINE, LINE_CUT, LOCAL, LOCALLY, LOG, LONGEST, METRICS, MOST_PATH, NOTES, PATIENCE,
-    PER_HOST, PLAIN, PORT, PROXIED, QUIET, REPLAY, SERVE, SIGNALS, TICKS, TIMEOUT, TO, TRACE,
-    UNTIL, VERBOSE, VERSION_LINE, WAIT, WIDTH, WORLD, Whole, tn_command,
+    PER_HOST, PLAIN, PORT, PROXIED, QUIET, REPLAY, RETURN, SERVE, SIGNALS, TICKS, TIMEOUT, TO,
+    TRACE, UNTIL, VERBOSE, VERSION_LINE, WAIT, WIDTH, WORLD, Whole, tn_command,
 };
-use crate::settings::{Address, Characters, ConnectWords, Escape, ReturnBytes, ServeWords, place_in};
+use crate::settings::{
+    Address, Characters, ConnectWords, Escape, ReturnBytes, ServeWords, place_in,
+};
 use clap::error::ErrorKind;
 use clap::{ArgMatches, Error};
 use std::alloc::{AllocError, Global};
@@ -111,12 +113,14 @@ const NO_HOST: &str = "'[HOST]': it is no host, nor one with a port of 1 to 6553
 
 const NO_LINE_END: &str = "'--lf' and '--cr' exclude each other, and need '--plain'";
 
-const NO_TELNET: &str = "'--plain' excludes '--escape', '--return', '--trace', '--width' and '--height'";
+const NO_TELNET: &str =
+    "'--plain' excludes '--escape', '--return', '--trace', '--width' and '--height'";
 
 const NO_ESCAPE: &str =
     "'--escape <C>': it is neither `none` nor a caret and one of A to Z, [, \\, ], ^ and _";
 
 const NO_RETURN: &str = "'--return <BYTES>': it is none of `crnul`, `crlf` and `lf`";
+
 const NO_CHARACTERS: &str = "'--keys <WHOSE>': it is neither `own` nor `standard`";
 
 const NO_SERVICE_LINE_END: &str = "'--crlf' and '--cr' exclude each other, and need '--to'";
