@@ -158,8 +158,8 @@ IsTakenUpTo count keyboard prompt bytes =
 abbrev pub unmapped : Keyboard → Keyboard
 unmapped keyboard = record keyboard { own = none_own; returns = CrNul }
 
--- what the user's own characters and RETURN make of what a session gets without them; a key that is the escape character
--- was typed behind another one
+-- what the user's own characters and RETURN make of what a session gets without them; a key that is the escape
+-- character was typed after another one
 abbrev pub mapped_input : Keyboard → SessionInput → SessionInput
 mapped_input keyboard (input.Key byte) =
     if is_escape keyboard.escape byte then input.Key byte

@@ -100,13 +100,14 @@ abbrev pub keys_at : (canon : Canon) → Connected canon.limit → List ℕ
 keys_at canon c = keys_of canon.settings c.ran.inputs
 
 -- WHAT YOU TYPE IS WHAT THE JOB READS: what the foreground job took is a prefix of the entries that the keys
--- which the client read give at one local terminal, with the commands and new lines between them, and is all of
--- them where both ran to the end.
+-- which the client read give at one local terminal, with the commands and new lines between them, and is all
+-- of them where both ran to the end.
 pub record ReadsWhatIsTyped {J : Type 0} {facts : JobFacts J} {canon : Canon} (s : Served facts canon)
     (c : Connected canon.limit) : Type 0 where
   pub prefix : IsPrefixOf s.ran.entries_taken (typed_entries canon (keys_at canon c))
   pub all : RanToTheEnd s c → s.ran.entries_taken ≡ typed_entries canon (keys_at canon c)
-  -- and so of all keys that the user's reader gives, where they are known, and nothing is asked for between them
+  -- and so of all keys that the user's reader gives, where they are known, and nothing is asked for between
+  -- them
   pub of_given : (given : List ℕ) → c.keys.reader.bytes ≡ Some given → c.keys.controls ≡ Some []
       → IsPrefixOf s.ran.entries_taken (typed_entries canon given)
 

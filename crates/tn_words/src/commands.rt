@@ -332,7 +332,8 @@ const CONNECT_CHOICES: &[Choice] = &[
     Choice::Text(
         RETURN,
         "BYTES",
-        "What RETURN sends at a terminal while keys go one at a time: `crnul`, which is the default, `crlf` or `lf`",
+        "What RETURN sends at a terminal while keys go one at a time: `crnul`, which is the default, `crlf` \
+         or `lf`",
     ),
     Choice::Text(
         TRACE,

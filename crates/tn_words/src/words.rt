@@ -639,7 +639,8 @@ fn characters_of(alloc: Global, words: &ArgMatches<'_>) -> Result<Characters, Wo
 }
 
 fn return_of(alloc: Global, words: &ArgMatches<'_>) -> Result<ReturnBytes, WordsFault>
-    ensures asked { IfOk result (λ returns. return_in (rows_of (found_of words.now)) ≡ Some returns) }
+    ensures asked { IfOk result (λ returns.
+        return_in (rows_of (found_of words.now)) ≡ Some returns) }
     ensures lacks { IfErr result (Lacks (return_in (rows_of (found_of words.now)) ≡ None)) }
 {
     let Some(text) = words.get_str(RETURN) else {
