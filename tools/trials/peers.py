@@ -162,6 +162,17 @@ def our_client_has_a_server(world, command, typed, wanted, words):
     expect_in_order(cleaned(user.end(printed=None)), *wanted.encode().split(b"|"))
 
 
+@case
+def a_server_that_ends_lines_at_cr_lf_is_answered(world):
+    require(["telnet-chatd"])
+    port = free_port()
+    world.start("telnet-chatd", str(port), stdout=subprocess.DEVNULL, stderr=subprocess.DEVNULL)
+    terminal = Terminal(world, "--return", "crlf", f"127.0.0.1:{listened(port)}")
+    terminal.see(b"Enter name:")
+    terminal.type(b"ann\r", b"Welcome, ann!")
+    terminal.leave()
+
+
 def start_nc(world):
     """nc, which says a line, and what it writes."""
     port = free_port()
