@@ -1,8 +1,8 @@
 # shellcheck shell=bash
 # What `./tn install`, tools/package, tools/build-c and tools/check-c share.
 
-# Puts a program, its launcher, its manual page, its completions and a unit of systemd, which name PREFIX, into a folder. They run without
-# this repository: bin/tn starts the launcher, with the program that lies beside it.
+# Puts a program, its launcher, the ladder of a trace, the manual page, completions and a unit of systemd, which name PREFIX, into a folder.
+# They run without this repository: bin/tn starts the launcher, with the program that lies next to it, and bin/tn-ladder is a link.
 #
 #   install_program PROGRAM PREFIX FOLDER
 install_program() {
@@ -11,6 +11,8 @@ install_program() {
     unit=$(<"$top/share/systemd/tn.service")
     install -D -m 755 "$program" "$into/libexec/tn/tn"
     install -D -m 755 "$top/tools/launch" "$into/libexec/tn/launch"
+    install -D -m 755 "$top/tools/ladder" "$into/libexec/tn/ladder"
+    install -D -m 644 -t "$into/libexec/tn/lib" "$top/tools/lib/basics.py" "$top/tools/lib/ladder.py"
     install -D -m 644 "$top/docs/tn.1" "$into/share/man/man1/tn.1"
     install -D -m 644 "$top/share/completions/tn.bash" "$into/share/bash-completion/completions/tn"
     install -D -m 644 "$top/share/completions/_tn" "$into/share/zsh/site-functions/_tn"
@@ -20,6 +22,7 @@ install_program() {
 folder=$(dirname "$(dirname "$(readlink -f "$0")")")/libexec/tn
 exec "$folder/launch" "$folder/tn" "$@"
 SCRIPT
+    ln -sf ../libexec/tn/ladder "$into/bin/tn-ladder"
 }
 
 # A text that is defined in a header, as TN_VERSION "1.2.0".
