@@ -9,7 +9,8 @@ ghost use Rattle.tn_connect.specs.Clients.{keyboard_of, window_of};
 ghost use Rattle.tn_connect.specs.Faults.{IsOfNetwork};
 ghost use Rattle.tn_connect.specs.Sent.{TookWhatWasWritten};
 ghost use Rattle.tn_machines.specs.Ending.{EndsWhole};
-ghost use Rattle.tn_network.specs.Asked.{Reaches};
+ghost use Rattle.tn_network.specs.Asked.{ReachesBy};
+ghost use Rattle.tn_network.specs.Dialing.{suits};
 ghost use Rattle.tn_queue.specs.Queue.{putter};
 ghost use Rattle.tn_sockets.specs.Ends.{IsNew};
 ghost use Rattle.tn_sockets.specs.Logs.{logged};
@@ -35,7 +36,7 @@ use std::snapshot::Snapshot;
 use std::sync::Arc;
 use std::sync::atomic::AtomicBool;
 use std::time::Duration;
-use tn_network::{Network, reach};
+use tn_network::{Network, reach_by};
 use tn_session::{ClientPorts, Ended, Report, SessionFault, client_session};
 use tn_sockets::{
     Connection, Console, Host, Incoming, Keyboard, Keys, Link, Logged, NewQueue, Outgoing,
@@ -443,7 +444,7 @@ pub fn connect<H: Host + Network, K: Read + Drop + Send + 'static, S: Write, E: 
     ensures unshown { OnErr result (result ≢ Err ConnectFault.Session →
         S.contents screen.new ≡ S.contents screen.old) }
     ensures reached { ConnectsBy connection_of
-        (Reaches (H.finds rt host.now connecting.port) (H.dials rt)) result }
+        (ReachesBy (suits connecting.dialing) (H.finds rt host.now connecting.port) (H.dials rt)) result }
 {
     let ClientContext {
         trace,
@@ -457,11 +458,11 @@ pub fn connect<H: Host + Network, K: Read + Drop + Send + 'static, S: Write, E: 
     if trace.is_some() {
         news.trace();
     }
-    let stream = reach(
+    let stream = reach_by(
         &rt,
         host,
         connecting.port,
-        connecting.timeout,
+        connecting.dialing,
         &mut news,
         causes,
     )?;

@@ -16,6 +16,7 @@ pub use settings::{ClientContext, Connecting, KeySource, Plain};
 pub use talks::{TalkReport, connect_plain};
 pub use tn_lines::LineEnd;
 pub use tn_lines_client::{Over, ReadLog};
+pub use tn_network::{Dialing, Family};
 pub use tn_sockets::{Host, Link, OwnCharacters, ReturnKey, Screen};
 pub use warnings::Warnings;
 

@@ -6,6 +6,7 @@ use std::fs::File;
 use std::sync::Arc;
 use tn_discipline::Limit;
 use tn_lines::LineEnd;
+use tn_network::Dialing;
 use tn_sockets::{Link, OwnCharacters, ReturnKey};
 
 /// Where the keys of a client come from.
@@ -41,8 +42,8 @@ pub struct Connecting {
     pub wait: u32,
     /// For how many seconds nothing may come after that; at 0 it may for ever.
     pub patience: u32,
-    /// After how many seconds an address that takes no connection is given up; at 0 the system decides.
-    pub timeout: u32,
+    /// Which addresses are tried, from where, and for how many seconds each.
+    pub dialing: Dialing,
 }
 
 /// How to talk to a service that takes lines and negotiates nothing.
@@ -59,8 +60,8 @@ pub struct Plain {
     pub wait: u32,
     /// For how many seconds nothing may come after that; at 0 it may for ever.
     pub patience: u32,
-    /// After how many seconds an address that takes no connection is given up; at 0 the system decides.
-    pub timeout: u32,
+    /// Which addresses are tried, from where, and for how many seconds each.
+    pub dialing: Dialing,
 }
 
 /// What a client's session has beside its keys and its screen.

@@ -6,7 +6,8 @@ ghost use Rattle.tn_connect.specs.Talks.{HeardToTheEnd, HoldsTalk, HoldsTyped, R
 ghost use Rattle.tn_connect.specs.Talks.{is_terminal, kind_of, own_by, talked_over};
 ghost use Rattle.tn_connect.specs.Warnings.{count_in};
 ghost use Rattle.tn_lines.specs.Kinds.{LeadsTo};
-ghost use Rattle.tn_network.specs.Asked.{Reaches};
+ghost use Rattle.tn_network.specs.Asked.{ReachesBy};
+ghost use Rattle.tn_network.specs.Dialing.{suits};
 
 use crate::causes::{note, note_log, note_unsent};
 use crate::fault::ConnectFault;
@@ -25,7 +26,7 @@ use std::time::Clock;
 use tn_discipline::Settings;
 use tn_lines::{AnyLines, FileLines, KeyLines};
 use tn_lines_client::{Over, ReadLog, Talk, TalkFault};
-use tn_network::{Network, reach};
+use tn_network::{Network, reach_by};
 use tn_sockets::{Connection, Host, Link, Logged, OwnCharacters, WriteLog};
 use tn_streams::{Drain, Finish, Source};
 
@@ -134,7 +135,8 @@ pub fn connect_plain<H: Host + Network, K: Read + Drop, S: Write, E: Drain>(
 ) -> Result<TalkReport, ConnectFault>
     ensures talked { IfOk result (RunsTalk plain (K.remaining keys) (S.contents screen.old)
         (S.contents screen.new)) }
-    ensures reached { ConnectsBy talked_over (Reaches (H.finds rt host.now plain.port) (H.dials rt)) result }
+    ensures reached { ConnectsBy talked_over
+        (ReachesBy (suits plain.dialing) (H.finds rt host.now plain.port) (H.dials rt)) result }
 {
     let ClientContext {
         sizes,
@@ -144,7 +146,7 @@ pub fn connect_plain<H: Host + Network, K: Read + Drop, S: Write, E: Drain>(
         link,
         ..
     } = notes;
-    let stream = reach(&rt, host, plain.port, plain.timeout, &mut news, causes)?;
+    let stream = reach_by(&rt, host, plain.port, plain.dialing, &mut news, causes)?;
     tell_that_it_stands(&mut stands);
     news.connect(host, None);
     wait_for_terminal(&mut stands, &sizes);

@@ -1,6 +1,8 @@
 -- What was asked of a network, by several calls of it.
-use Rattle.std.specs.Prelude.{◌≡◌, ℕ, zero, suc, List, [], ◌∷◌, Contains, MatchResult, Result, Ok, Err, IfOk}
+use Rattle.std.specs.Prelude.{◌≡◌, ℕ, zero, suc, Bool, true, List, [], ◌∷◌, Contains, MatchResult}
+use Rattle.std.specs.Prelude.{Result, Ok, Err, IfOk}
 use Rattle.std.specs.IoError.{error_kind}
+use Rattle.std.specs.List.{filter}
 use Rattle.std.specs.Net.ToAddrs.{HostAddrs, host_addrs}
 use Rattle.std.specs.declared.io.Error.{Error}
 use Rattle.std.specs.declared.io.ErrorKind.TheVariants.{NotFound}
@@ -22,8 +24,19 @@ abbrev pub AreRefused : (SocketAddr → Result TcpStream Error → Type 0) → L
 AreRefused dials addresses last =
     (first : Error) × (error_kind first ≡ NotFound) × RefuseAll dials addresses first last
 
--- The addresses of a host were asked for; where there is a connection, one of them was asked for it, and
--- where there is none, each of them was, or they were not found, and this is why.
+-- The addresses of a host were asked for; if there is a connection, one of those that suit was asked for it,
+-- and if there is none, each of those that suit was, or they were not found, and this is why.
+abbrev pub ReachesBy : (SocketAddr → Bool) → (Result HostAddrs Error → Type 0)
+    → (SocketAddr → Result TcpStream Error → Type 0) → Result TcpStream Error → Type 0
+ReachesBy suits finds dials result =
+    (found : Result HostAddrs Error) × finds found
+    × MatchResult result (λ stream. (addresses : HostAddrs) × (found ≡ Ok addresses) × (address : SocketAddr)
+    × Contains (host_addrs addresses) address × (suits address ≡ true) × dials address (Ok stream))
+    (λ error. MatchResult found (λ addresses. AreRefused dials (filter suits (host_addrs addresses)) error)
+    (λ unfound. error ≡ unfound))
+
+-- The addresses of a host were asked for; if there is a connection, one of them was asked for it, and if there
+-- is none, each of them was, or they were not found, and this is why.
 abbrev pub Reaches : (Result HostAddrs Error → Type 0) → (SocketAddr → Result TcpStream Error → Type 0)
     → Result TcpStream Error → Type 0
 Reaches finds dials result =

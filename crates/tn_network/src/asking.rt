@@ -1,8 +1,11 @@
 //! What is asked of a network.
 
+use crate::sourced::dial_from;
 use std::io;
 use std::io::Write;
-use std::net::{HostAddrs, Net, Shutdown, SocketAddr, TcpListener, TcpStream, ToSocketAddrs};
+use std::net::{
+    HostAddrs, IpAddr, Net, Shutdown, SocketAddr, TcpListener, TcpStream, ToSocketAddrs,
+};
 use std::time::Duration;
 
 /// A network, as it is asked. Each relation holds of what was asked in a call, and of its answer; nothing
@@ -52,8 +55,14 @@ pub trait Network {
     fn find(&self, host: &str, port: u16) -> io::Result<HostAddrs>
         ensures { finds self.now host.now port result };
 
-    /// Asks for a connection, which is waited for at most this many seconds; at 0 as long as the system waits.
-    fn dial(&self, address: SocketAddr, seconds: u32) -> io::Result<TcpStream>
+    /// Asks for a connection from this address of the machine, if one is named. It is waited for at most this
+    /// many seconds; at 0 as long as the system waits.
+    fn dial(
+        &self,
+        address: SocketAddr,
+        source: Option<IpAddr>,
+        seconds: u32,
+    ) -> io::Result<TcpStream>
         ensures { dials self.now address result };
 }
 
@@ -92,7 +101,15 @@ impl<H: Net<Listener = TcpListener, Stream = TcpStream>> Network for H {
         (host, port).to_socket_addrs(self)
     }
 
-    fn dial(&self, address: SocketAddr, seconds: u32) -> io::Result<TcpStream> {
+    fn dial(
+        &self,
+        address: SocketAddr,
+        source: Option<IpAddr>,
+        seconds: u32,
+    ) -> io::Result<TcpStream> {
+        if let Some(source) = source {
+            return dial_from(source, address, seconds);
+        }
         if seconds == 0 {
             return TcpStream::connect(self, address);
         }

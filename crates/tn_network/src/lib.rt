@@ -12,7 +12,10 @@
 #![tactic(auto)]
 
 pub use asking::Network;
-pub use reaching::{Trying, Unheard, reach};
+pub use dialing::{Dialing, Family};
+pub use reaching::{Trying, Unheard, reach, reach_by};
 
 mod asking;
+mod dialing;
 mod reaching;
+mod sourced;

@@ -1,12 +1,14 @@
 //! A connection to a host.
 
 ghost use Rattle.std.specs.Prelude.{◌≡◌, [], OnOk};
-ghost use Rattle.tn_network.specs.Asked.{Reaches};
+ghost use Rattle.tn_network.specs.Asked.{Reaches, ReachesBy};
+ghost use Rattle.tn_network.specs.Dialing.{suits};
 
 use crate::asking::Network;
+use crate::dialing::Dialing;
 use std::io;
 use std::io::{ErrorKind, Write};
-use std::net::{SocketAddr, TcpStream};
+use std::net::{HostAddrs, IpAddr, SocketAddr, TcpStream};
 
 /// Who hears of each address before a connection to it is asked for.
 pub trait Trying {
@@ -21,9 +23,7 @@ impl Trying for Unheard {
     fn try_address(&mut self, _address: &SocketAddr) {}
 }
 
-/// Connects to a host, an address or a name: of its addresses, to the first that takes a connection. Each is
-/// waited for at most this many seconds; at 0 as long as the system waits. Where none does, `causes` gets a
-/// line for each.
+/// Connects to a host by any of its addresses: what `reach_by` does with `Dialing::within`.
 pub fn reach<N: Network, T: Trying>(
     net: &N,
     host: &str,
@@ -35,6 +35,22 @@ pub fn reach<N: Network, T: Trying>(
     ensures reaches { Reaches (N.finds net.now host.now port) (N.dials net.now) result }
     ensures uncaused { OnOk result (causes.new.items ≡ []) }
 {
+    reach_by(net, host, port, Dialing::within(seconds), trying, causes)
+}
+
+/// Connects to a host, an address or a name: of its addresses that are asked for, to the first that takes a
+/// connection. Each is waited for as long as `dialing` says. Where none does, `causes` gets a line for each.
+pub fn reach_by<N: Network, T: Trying>(
+    net: &N,
+    host: &str,
+    port: u16,
+    dialing: Dialing,
+    trying: &mut T,
+    causes: &mut Vec<u8>,
+) -> io::Result<TcpStream>
+    ensures reaches { ReachesBy (suits dialing) (N.finds net.now host.now port) (N.dials net.now) result }
+    ensures uncaused { OnOk result (causes.new.items ≡ []) }
+{
     let addresses = match net.find(host, port) {
         Ok(addresses) => addresses,
         Err(error) => {
@@ -42,19 +58,58 @@ pub fn reach<N: Network, T: Trying>(
             return Err(error);
         },
     };
+    let mut left = count_suited(&dialing, &addresses);
+    if left == 0 {
+        let _ = writeln!(
+            causes,
+            "tn: {}: it has no address of the family that is asked for",
+            host
+        );
+    }
     let mut last = io::Error::from(ErrorKind::NotFound);
     for address in addresses {
+        if !dialing.suits(&address) {
+            continue;
+        }
+        left = left.saturating_sub(1);
         trying.try_address(&address);
-        match net.dial(address, seconds) {
+        match net.dial(address, dialing.source, dialing.seconds_for(left)) {
             Ok(stream) => {
                 causes.clear();
                 return Ok(stream);
             },
             Err(error) => {
-                let _ = writeln!(causes, "tn: {}: {}", address, error);
+                note_refused(causes, &address, dialing.source, &error);
                 last = error;
             },
         }
     }
     Err(last)
+}
+
+// How many of these addresses are tried.
+fn count_suited(dialing: &Dialing, addresses: &HostAddrs) -> usize {
+    let Ok(addresses) = addresses.clone() else {
+        return 0;
+    };
+    let mut count = 0usize;
+    for address in addresses {
+        if dialing.suits(&address) {
+            count = count.saturating_add(1);
+        }
+    }
+    count
+}
+
+// Notes why an address takes no connection, and from where it was asked for one.
+fn note_refused(
+    causes: &mut Vec<u8>,
+    address: &SocketAddr,
+    source: Option<IpAddr>,
+    error: &io::Error,
+) {
+    let _ = match source {
+        Some(source) => writeln!(causes, "tn: {} from {}: {}", address, source, error),
+        None => writeln!(causes, "tn: {}: {}", address, error),
+    };
 }

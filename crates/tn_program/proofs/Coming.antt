@@ -8,6 +8,8 @@ use Rattle.tn_connect.specs.declared.fault.ConnectFault.TheVariants as connect
 use Rattle.tn_serve.specs.declared.fault.ServeFault.{ServeFault}
 use Rattle.tn_serve.specs.declared.fault.ServeFault.TheVariants as serve
 use Rattle.tn_program.specs.Machine.{Machine}
+use Rattle.tn_program.specs.Ports.{IsUnknown}
+use Rattle.tn_words.specs.declared.settings.Port.{Port}
 use Rattle.tn_program.specs.Outcomes.{AskForNothing, ComesOf, ComesOfRun, ComesOfNoRun}
 use Rattle.tn_program.specs.Runs.{DoesAsAsked, RunsAsked}
 use Rattle.tn_program.specs.Statuses.{status_of, status_of_connecting, status_of_serving}
@@ -16,10 +18,18 @@ use Rattle.tn_program.specs.declared.outcome.Outcome.TheVariants as outcome
 use Rattle.tn_connect.specs.declared.settings.KeySource.{KeySource}
 use Rattle.tn_words.specs.declared.words.Asked.{Asked}
 
+abbrev of_connecting : {A : Type 0} → A → Result A ConnectFault
+of_connecting done = Ok done
+
 -- what follows of a value follows of it where it is there
 pub if_ok : {A E : Type 0} (r : Result A E) (P Q : A → Type 0) → ((x : A) → P x → Q x) → IfOk r P → IfOk r Q
 if_ok (Ok x) P Q follows h = follows x h
 if_ok (Err e) P Q follows h = h
+
+-- if it went well, the port was known
+known : {A P : Type 0} (port : Port) (done : A) → P ⊎ IsUnknown port (of_connecting done) → P
+known port done (inl reached) = reached
+known port done (inr (service, failed)) = absurd (cc)
 
 -- no fault has the status 0
 
@@ -58,10 +68,12 @@ ran machine a origin bytes old new (outcome.Served (Ok served)) (serving, e, end
     subst (λ a. RunsAsked machine a origin bytes old new) (sym e) (served, ends.all, ends.listened, ends.counted, ends.unwritten)
 ran machine a origin bytes old new (outcome.Served (Err f)) h zero = absurd (unserved f zero)
 ran machine a origin bytes old new (outcome.Connected (Ok r)) (connecting, e, ends) zero =
-    subst (λ a. RunsAsked machine a origin bytes old new) (sym e) (inl (r, ends.telnet, ends.ran, ends.whole, ends.reached))
+    subst (λ a. RunsAsked machine a origin bytes old new) (sym e)
+    (ends.port, ends.is_port, inl (r, ends.telnet, ends.ran, ends.whole, known connecting.port r ends.reached))
 ran machine a origin bytes old new (outcome.Connected (Err f)) h zero = absurd (unconnected f zero)
 ran machine a origin bytes old new (outcome.Talked (Ok r)) (connecting, e, ends) zero =
-    subst (λ a. RunsAsked machine a origin bytes old new) (sym e) (inr (ends.line_end, r, ends.plain, ends.ran, ends.reached))
+    subst (λ a. RunsAsked machine a origin bytes old new) (sym e)
+    (ends.port, ends.is_port, inr (ends.line_end, r, ends.plain, ends.ran, known connecting.port r ends.reached))
 ran machine a origin bytes old new (outcome.Talked (Err f)) h zero = absurd (unconnected f zero)
 ran machine a origin bytes old new outcome.Untraced h zero = absurd (omega (arith, zero))
 ran machine a origin bytes old new (outcome.Help ended) h zero = absurd h

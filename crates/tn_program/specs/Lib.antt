@@ -2,6 +2,7 @@ pub mod Machine
 pub mod Own
 pub mod Outcomes
 pub mod Outlets
+pub mod Ports
 pub mod Runs
 pub mod Settings
 pub mod Statuses

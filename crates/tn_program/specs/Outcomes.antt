@@ -17,8 +17,10 @@ use Rattle.tn_serve.specs.declared.fault.ServeFault.{ServeFault}
 use Rattle.tn_serve.specs.declared.fault.ServeFault.TheVariants as serve
 use Rattle.tn_serve.specs.declared.served.Served.{Served}
 use Rattle.tn_machines.specs.Ending.{EndsWhole}
-use Rattle.tn_network.specs.Asked.{Listens, Reaches}
+use Rattle.tn_network.specs.Asked.{Listens, ReachesBy}
+use Rattle.tn_network.specs.Dialing.{suits}
 use Rattle.tn_program.specs.Machine.{Machine}
+use Rattle.tn_program.specs.Ports.{IsPort, IsUnknown}
 use Rattle.tn_program.specs.Statuses.{status_of}
 use Rattle.tn_program.specs.declared.outcome.Outcome.{Outcome}
 use Rattle.tn_program.specs.declared.outcome.Outcome.TheVariants as outcome
@@ -47,27 +49,33 @@ pub record EndsServing (machine : Machine) (serving : ServeWords) (ended : Resul
   pub limit : IsErrOf ended serve.Limit → ¬ IsLimit serving.sessions
   pub unwritten : new ≡ old
 
--- What came of connecting.
+-- What came of connecting. At a port that the machine does not know nothing was asked for.
 pub record EndsConnecting (machine : Machine) (connecting : ConnectWords)
     (ended : Result Connected ConnectFault) (input : KnownTyping)
     (old new : Option (List ℕ)) : Type 0 where
   pub telnet : connecting.plain ≡ None
+  pub port : ℕ
+  pub is_port : IsPort connecting.port port
   pub ran : IfOk ended (RunsClient (window_as connecting) input old new)
   pub whole : IfOk ended (λ r. EndsWhole r.report.ended)
-  pub reached : ConnectsBy connection_of (Reaches
-      (machine.network.finds (string_bytes connecting.host) connecting.port) machine.network.dials) ended
+  pub reached : ConnectsBy connection_of (ReachesBy (suits connecting.dialing)
+      (machine.network.finds (string_bytes connecting.host) port) machine.network.dials) ended
+      ⊎ IsUnknown connecting.port ended
   pub unwritten : OnErr ended (ended ≢ Err connect.Session → new ≡ old)
 
--- What came of a talk with a service that takes lines.
+-- What came of a talk with a service that takes lines, if the machine knows its port.
 pub record EndsTalking (machine : Machine) (connecting : ConnectWords)
     (ended : Result TalkReport ConnectFault)
     (origin : KeySource)
     (bytes old new : Option (List ℕ)) : Type 0 where
   pub line_end : LineEnd
   pub plain : connecting.plain ≡ Some line_end
-  pub ran : IfOk ended (RunsTalk (plain_as connecting line_end origin) bytes old new)
-  pub reached : ConnectsBy talked_over (Reaches
-      (machine.network.finds (string_bytes connecting.host) connecting.port) machine.network.dials) ended
+  pub port : ℕ
+  pub is_port : IsPort connecting.port port
+  pub ran : IfOk ended (RunsTalk (plain_as connecting port line_end origin) bytes old new)
+  pub reached : ConnectsBy talked_over (ReachesBy (suits connecting.dialing)
+      (machine.network.finds (string_bytes connecting.host) port) machine.network.dials) ended
+      ⊎ IsUnknown connecting.port ended
 
 -- What came of writing the help.
 pub record EndsHelp (ended : Result ⊤ CliFault) (old new : Option (List ℕ)) : Type 0 where

@@ -17,8 +17,10 @@ use Rattle.tn_serve.specs.Ends.{IfAny, ServesUntil}
 use Rattle.tn_serve.specs.declared.fault.ServeFault.{ServeFault}
 use Rattle.tn_serve.specs.declared.served.Served.{Served}
 use Rattle.tn_machines.specs.Ending.{EndsWhole}
-use Rattle.tn_network.specs.Asked.{Listens, Reaches}
+use Rattle.tn_network.specs.Asked.{Listens, ReachesBy}
+use Rattle.tn_network.specs.Dialing.{suits}
 use Rattle.tn_program.specs.Machine.{Machine}
+use Rattle.tn_program.specs.Ports.{IsPort}
 use Rattle.tn_program.specs.Settings.{count_as, plain_as, window_as}
 use Rattle.tn_connect.specs.declared.settings.KeySource.{KeySource}
 use Rattle.tn_words.specs.Words.{AskFor, AsksForHelp, AsksForVersion, version_line}
@@ -51,16 +53,16 @@ RunsAsked machine (Serve serving) origin bytes old new = (served : Served)
     machine.network.accepts
     (λ (served : Served). served.accepted) (λ error ended. FailsBy error ended) (ok served)
     × machine.serves serving served × (new ≡ old)
-RunsAsked machine (Connect connecting) origin bytes old new =
-    ((connected : Connected) × (connecting.plain ≡ None)
+RunsAsked machine (Connect connecting) origin bytes old new = (port : ℕ) × IsPort connecting.port port
+    × (((connected : Connected) × (connecting.plain ≡ None)
     × RunsClient (window_as connecting) (foreseen origin bytes) old new connected
     × EndsWhole connected.report.ended
-    × ConnectsBy connection_of (Reaches (machine.network.finds (string_bytes connecting.host) connecting.port)
-    machine.network.dials) (ran connected))
+    × ConnectsBy connection_of (ReachesBy (suits connecting.dialing)
+    (machine.network.finds (string_bytes connecting.host) port) machine.network.dials) (ran connected))
     ⊎ ((line_end : LineEnd) × (report : TalkReport) × (connecting.plain ≡ Some line_end)
-    × RunsTalk (plain_as connecting line_end origin) bytes old new report
-    × ConnectsBy talked_over (Reaches (machine.network.finds (string_bytes connecting.host) connecting.port)
-    machine.network.dials) (talked report))
+    × RunsTalk (plain_as connecting port line_end origin) bytes old new report
+    × ConnectsBy talked_over (ReachesBy (suits connecting.dialing)
+    (machine.network.finds (string_bytes connecting.host) port) machine.network.dials) (talked report)))
 
 -- the run that the words ask for, or some text where they ask for help, or the version
 abbrev pub DoesAsAsked : Machine → List (List ℕ) → KeySource → Option (List ℕ) → Option (List ℕ)

@@ -103,14 +103,14 @@ origin_as Standard Input = Input
 origin_as Own origin = origin
 
 -- a talk with a service that takes lines
-abbrev pub plain_as : ConnectWords → LineEnd → KeySource → Plain
-plain_as asked line_end origin =
+abbrev pub plain_as : ConnectWords → ℕ → LineEnd → KeySource → Plain
+plain_as asked port line_end origin =
     record {
-      port = asked.port;
+      port = port;
       line_limit = asked.line_limit;
       line_end = line_end;
       origin = origin_as asked.characters origin;
       wait = asked.wait;
       patience = asked.patience;
-      timeout = asked.timeout;
+      dialing = asked.dialing;
     }

@@ -31,6 +31,7 @@ mod metrics;
 mod outcome;
 mod outlet;
 mod own;
+mod ports;
 mod program;
 mod publishing;
 mod serving;

@@ -14,6 +14,7 @@ use crate::counting::Serves;
 use crate::files::{open_log, open_trace};
 use crate::metrics::Replacing;
 use crate::outcome::Outcome;
+use crate::ports::port_of;
 use crate::serving::serve_asked;
 use crate::settings::{connecting_of, plain_of};
 use crate::streams::Streams;
@@ -23,7 +24,7 @@ use std::fs::{File, Files};
 use std::io;
 use std::io::{ErrorKind, Read, Write};
 use tn_cli::{CliFault, run_decode, run_local, run_replay, run_world};
-use tn_connect::{ClientContext, Host, KeySource, News, connect, connect_plain};
+use tn_connect::{ClientContext, ConnectFault, Host, KeySource, News, connect, connect_plain};
 use tn_network::Network;
 use tn_streams::Drain;
 use tn_words::{Asked, ConnectWords, LineEnd, VERSION_LINE, WordsFault, read_words};
@@ -235,6 +236,9 @@ fn run_plain<
     ensures connects { IsConnecting result }
     ensures quiet { UnlessTelling result (errors.new ≡ errors.old) }
 {
+    let Some(port) = port_of(&rt, alloc, &asked.port, causes) else {
+        return Outcome::Talked(Err(ConnectFault::Network));
+    };
     let Ok(()) = open_log(&rt, asked, &streams.link, causes) else {
         return Outcome::Untraced;
     };
@@ -261,7 +265,7 @@ fn run_plain<
         causes,
         link,
     };
-    let plain = plain_of(asked, line_end, origin);
+    let plain = plain_of(asked, port, line_end, origin);
     let host = asked.host.as_str();
     Outcome::Talked(connect_plain(rt, alloc, host, plain, reader, writer, notes))
 }
@@ -290,6 +294,9 @@ fn run_connect<
     ensures connects { IsConnecting result }
     ensures quiet { UnlessTelling result (errors.new ≡ errors.old) }
 {
+    let Some(port) = port_of(&rt, alloc, &asked.port, causes) else {
+        return Outcome::Connected(Err(ConnectFault::Network));
+    };
     let Ok(trace) = open_trace(&rt, alloc, &asked, causes) else {
         return Outcome::Untraced;
     };
@@ -319,7 +326,7 @@ fn run_connect<
         causes,
         link,
     };
-    let connecting = connecting_of(&asked, origin);
+    let connecting = connecting_of(&asked, port, origin);
     let host = asked.host.as_str();
     Outcome::Connected(connect(rt, alloc, host, connecting, reader, writer, notes))
 }

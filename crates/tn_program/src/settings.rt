@@ -124,18 +124,22 @@ pub(crate) fn options_of(asked: &tn_words::ServeWords) -> SessionOptions
     }
 }
 
-pub(crate) fn connecting_of(asked: &tn_words::ConnectWords, origin: KeySource) -> Connecting
+pub(crate) fn connecting_of(
+    asked: &tn_words::ConnectWords,
+    port: u16,
+    origin: KeySource,
+) -> Connecting
     ensures window { window_of result ≡ window_as asked.now }
     ensures origin { result.origin ≡ origin_as asked.now.characters origin }
     ensures escape { result.escape ≡ escape_as asked.now.escape }
     ensures returns { result.returns ≡ return_as asked.now.returns }
-    ensures port { result.port ≡ asked.now.port }
+    ensures port { result.port ≡ port }
     ensures wait { result.wait ≡ asked.now.wait }
     ensures patience { result.patience ≡ asked.now.patience }
-    ensures timeout { result.timeout ≡ asked.now.timeout }
+    ensures dialing { result.dialing ≡ asked.now.dialing }
 {
     Connecting {
-        port: asked.port,
+        port,
         width: asked.width.unwrap_or(USUAL_WIDTH),
         height: asked.height.unwrap_or(USUAL_HEIGHT),
         line_limit: asked.line_limit,
@@ -144,19 +148,19 @@ pub(crate) fn connecting_of(asked: &tn_words::ConnectWords, origin: KeySource) -
         returns: return_of(asked.returns),
         wait: asked.wait,
         patience: asked.patience,
-        timeout: asked.timeout,
+        dialing: asked.dialing,
     }
 }
 
 // How it was asked to talk to a service that takes lines.
 pub(crate) fn plain_of(
     asked: &tn_words::ConnectWords,
+    port: u16,
     line_end: LineEnd,
     origin: KeySource,
 ) -> Plain
-    ensures { result ≡ plain_as asked.now line_end origin }
+    ensures { result ≡ plain_as asked.now port line_end origin }
 {
-    let port = asked.port;
     let wait = asked.wait;
     Plain {
         port,
@@ -165,7 +169,7 @@ pub(crate) fn plain_of(
         origin: origin_of(asked.characters, origin),
         wait,
         patience: asked.patience,
-        timeout: asked.timeout,
+        dialing: asked.dialing,
     }
 }
 

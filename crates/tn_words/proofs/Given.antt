@@ -11,9 +11,15 @@ use Rattle.clap.specs.Words.{Row, Text, first_of, first_value, read_as, rows_of}
 use Rattle.clap.specs.declared.parser.matches.Found.{Found}
 use Rattle.clap.proofs.WalkLemmas.{first_value-rows}
 use Rattle.tn_words.proofs.Addresses.{one_place}
+use Rattle.std.specs.Net.Grammar.{IsIpText}
+use Rattle.std.specs.declared.net.ip_addr.IpAddr.{IpAddr}
+use Rattle.tn_words.specs.Dialing.{MayHaveIp}
 use Rattle.tn_words.specs.Addresses.{WritesAddress, WritesPlace}
-use Rattle.tn_words.specs.Words.{AsksPlace, AsksPort, HasNumber, HasPlace, IsPath, MayHaveAddress, MayHaveNumber, MayHavePath, is_flagged, is_given, one_port}
+use Rattle.tn_words.specs.Services.{service_in}
+use Rattle.tn_words.specs.Words.{AsksPlace, AsksPort, AsksPortOrService, NamesService, HasNumber, HasPlace, IsPath, MayHaveAddress, MayHaveNumber, MayHavePath, is_flagged, is_given, one_port}
 use Rattle.tn_words.specs.declared.settings.Address.{Address}
+use Rattle.tn_words.specs.declared.settings.Port.{Port}
+use Rattle.tn_words.specs.declared.settings.Port.TheVariants.{Number, Service}
 
 is_some-map : {A B : Type 0} (f : A → B) (o : Option A) → is_some o ≡ is_some (option_map f o)
 is_some-map f None = refl
@@ -91,22 +97,57 @@ here (Some text) h v is is_here is_none = let bad : true ≡ false = ap is_some 
 pub here_given : (rows : List Row) → first_of (codes "host") rows ≡ None → HasPlace rows (codes "127.0.0.1") None
 here_given rows is = here (first_of (codes "host") rows) (codes "127.0.0.1") None is refl refl
 
+-- a port is no service
+no_service : {A : Type 0} (o : Option A) (x : A) → o ≡ None → o ≡ Some x → ⊥
+no_service o x none has = let bad : true ≡ false = ap is_some (sym has ∙ none) in absurd (cc)
+
+-- no port of another number is asked for
+port_is : (rows : List Row) (v w : Option ℕ) (p q : ℕ) → v ≡ w → AsksPort rows v p → AsksPort rows w q → p ≡ q
+port_is rows v w p q same one two =
+    let at_one = the_port rows v one.option one.place p one.by_option one.by_place one in
+    let at_two = the_port rows w one.option one.place q one.by_option one.by_place two in
+    ap (λ o. unwrap_or o p) (sym at_one ∙ (ap (λ x. one_port one.option one.place x (is_given (codes "host") rows)) same ∙ at_two))
+
+number_is : (rows : List Row) (v w : Option ℕ) (p : ℕ) (q : Port) → v ≡ w → AsksPortOrService rows v (Number p) → AsksPortOrService rows w q → q ≡ Number p
+number_is rows v w p (Number q) same one two = ap Number (sym (port_is rows v w p q same one.1 two.1))
+number_is rows v w p (Service name) same one two = absurd (no_service (service_in rows) (string_bytes name) one.0 two.names)
+
 -- no other place is asked for
-pub place_is : (rows : List Row) (h g : Text) (p q : ℕ) → AsksPlace rows h p → AsksPlace rows g q → (h ≡ g) × (p ≡ q)
+pub place_is : (rows : List Row) (h g : Text) (p : ℕ) (q : Port) → AsksPlace rows h (Number p) → AsksPlace rows g q → (g ≡ h) × (q ≡ Number p)
 place_is rows h g p q one two =
     let same = same_place rows h g one.within two.within one.named two.named in
-    let at_one = the_port rows one.within one.ports.option one.ports.place p one.ports.by_option one.ports.by_place one.ports in
-    let at_two = the_port rows two.within one.ports.option one.ports.place q one.ports.by_option one.ports.by_place two.ports in
-    (same.0, ap (λ o. unwrap_or o p) (sym at_one ∙ (ap (λ v. one_port one.ports.option one.ports.place v (is_given (codes "host") rows)) same.1 ∙ at_two)))
+    (sym same.0, number_is rows one.within two.within p q same.1 one.ports two.ports)
+
+-- a service that is named is the one that is asked for
+pub service_is : (rows : List Row) (h name : Text) (q : Port) → service_in rows ≡ Some name → AsksPlace rows h q → NamesService q name
+service_is rows h name (Number q) named asks = absurd (no_service (service_in rows) name asks.ports.0 named)
+service_is rows h name (Service other) named asks = ap (λ o. unwrap_or o name) (sym asks.ports.names ∙ named)
+
+-- if no service is named, and no port of a number is asked for, none is
+pub no_number : (rows : List Row) (within : Option ℕ) → service_in rows ≡ None → ((p : ℕ) → AsksPort rows within p → ⊥)
+    → (port : Port) → AsksPortOrService rows within port → ⊥
+no_number rows within unnamed none (Number p) asks = none p asks.1
+no_number rows within unnamed none (Service name) asks = no_service (service_in rows) (string_bytes name) unnamed asks.names
+
+-- if a service is named and a port is given too, none is asked for
+pub with_option : (rows : List Row) (within : Option ℕ) (name : Text) → service_in rows ≡ Some name → is_given (codes "port") rows ≡ true
+    → (port : Port) → AsksPortOrService rows within port → ⊥
+with_option rows within name named given (Number p) asks = no_service (service_in rows) name asks.0 named
+with_option rows within name named given (Service other) asks = let bad : true ≡ false = sym given ∙ asks.no_option in absurd (cc)
+
+pub with_within : (rows : List Row) (within : Option ℕ) (name : Text) → service_in rows ≡ Some name → is_some within ≡ true
+    → (port : Port) → AsksPortOrService rows within port → ⊥
+with_within rows within name named given (Number p) asks = no_service (service_in rows) name asks.0 named
+with_within rows within name named given (Service other) asks = let bad : true ≡ false = sym given ∙ ap is_some asks.no_within in absurd (cc)
 
 -- a place that HOST does not write is not asked for, nor is a port where the words give none or two
-pub no_place : (rows : List Row) → ((h : Text) (v : Option ℕ) → HasPlace rows h v → ⊥) → (h : Text) (p : ℕ) → AsksPlace rows h p → ⊥
+pub no_place : (rows : List Row) → ((h : Text) (v : Option ℕ) → HasPlace rows h v → ⊥) → (h : Text) (p : Port) → AsksPlace rows h p → ⊥
 no_place rows none h p asks = none h asks.within asks.named
 
-pub no_port_at : (rows : List Row) (host : Text) (within : Option ℕ) → HasPlace rows host within → ((p : ℕ) → AsksPort rows within p → ⊥) → (h : Text) (p : ℕ)
-    → AsksPlace rows h p → ⊥
+pub no_port_at : (rows : List Row) (host : Text) (within : Option ℕ) → HasPlace rows host within → ((p : Port) → AsksPortOrService rows within p → ⊥)
+    → (h : Text) (p : Port) → AsksPlace rows h p → ⊥
 no_port_at rows host within has none h p asks =
-    none p (subst (λ v. AsksPort rows v p) (same_place rows h host asks.within within asks.named has).1 asks.ports)
+    none p (subst (λ v. AsksPortOrService rows v p) (same_place rows h host asks.within within asks.named has).1 asks.ports)
 
 -- what a flag's text says
 pub flagged : (rows : List Row) (name : Text) (o : Option Text) → first_of name rows ≡ o
@@ -130,3 +171,10 @@ no_address rows text has none None missing = let bad : true ≡ false = sym (ap 
 no_address rows text has none (Some address) given =
     let same : given.text ≡ text = ap (λ o. unwrap_or o given.text) (sym given.has ∙ has) in
     none (string_bytes address.host) address.port (subst (λ t. WritesAddress t (string_bytes address.host) address.port) same given.writes)
+
+-- a text that writes no address of a machine has none
+pub no_ip : (rows : List Row) (name text : Text) → first_of name rows ≡ Some text → ((address : IpAddr) → IsIpText text address → ⊥)
+    → (found : Option IpAddr) → MayHaveIp rows name found → ⊥
+no_ip rows name text has none None missing = let bad : true ≡ false = ap is_some (sym has ∙ missing) in absurd (cc)
+no_ip rows name text has none (Some address) given =
+    none address (subst (λ t. IsIpText t address) (ap (λ o. unwrap_or o given.text) (sym given.has ∙ has)) given.writes)

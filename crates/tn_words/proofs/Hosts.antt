@@ -6,13 +6,15 @@ use Rattle.clap.specs.Words.{Row, Text, subcommand_of, takes, one_of, first_of}
 use Rattle.clap.proofs.OnLiterals.{clap_on_literals}
 use Rattle.tn_words.proofs.Addresses.{brackets_write, host_writes, port_writes, seven, six_writes, two_write}
 use Rattle.tn_words.proofs.Asking.{connects_not}
-use Rattle.tn_words.proofs.Given.{no_port_at, place_is, same_maybe, same_number, the_port}
+use Rattle.tn_words.proofs.Given.{no_number, no_port_at, place_is, same_maybe, same_number, service_is, the_port}
 use Rattle.tn_words.specs.Commands.{tn}
 use Rattle.tn_words.specs.Escapes.{IsControlOf, WritesEscape}
 use Rattle.tn_words.specs.Words.{AskFor, AskForHost, AsksConnect, AsksIn, AsksNothing, AsksPlace, HasEscape, HasNumber, HasPlace, MayHaveNumber, is_given}
-use Rattle.tn_words.specs.Words.{line_end_in, one_port}
+use Rattle.tn_words.specs.Services.{service_in}
+use Rattle.tn_words.specs.Words.{NamesService, line_end_in, one_port}
 use Rattle.tn_words.specs.declared.settings.ConnectWords.{ConnectWords}
 use Rattle.tn_words.specs.declared.settings.Escape.{Escape}
+use Rattle.tn_words.specs.declared.settings.Port.TheVariants.{Number, Service}
 use Rattle.tn_words.specs.declared.settings.Escape.TheVariants as escape
 use Rattle.tn_lines.specs.declared.line_ends.LineEnd.{LineEnd}
 use Rattle.tn_words.specs.declared.words.Asked.TheVariants.{Connect}
@@ -35,21 +37,22 @@ not_given : (rows : List Row) (name : Text) (least most : ℕ) (size : Option �
 not_given rows name least most size none has = same_maybe rows name least most size None has none
 
 -- the place that words ask for is the one that they write
-asks_place : (words : List Text) (host : Text) (n : ℕ) → AsksPlace (rows_for words) host n → AskForHost words host n
+asks_place : (words : List Text) (host : Text) (n : ℕ) → AsksPlace (rows_for words) host (Number n) → AskForHost words host n
 asks_place words host n place asked asks =
     let a = asks_connect (subcommand_of tn words) asked asks.1 in
-    place_is (rows_for words) (string_bytes asked.host) host asked.port n a.place place
+    place_is (rows_for words) host (string_bytes asked.host) n asked.port place a.place
 
 abbrev seven_at : (rows : List Row) (name : Text) → one_of name rows ≡ Some (codes "7") → HasNumber rows name 1 65535 7
 seven_at rows name has = record { text = codes "7"; has = has; writes = seven; at_least = omega arith; at_most = omega arith }
 
 -- ports of which no one is asked for
-no_one : (rows : List Row) (host : Text) (within option place : Option ℕ) → HasPlace rows host within → MayHaveNumber rows (codes "port") 1 65535 option
-    → MayHaveNumber rows (codes "at") 1 65535 place → one_port option place within (is_given (codes "host") rows) ≡ None → (connecting : ConnectWords)
+no_one : (rows : List Row) (host : Text) (within option place : Option ℕ) → HasPlace rows host within → service_in rows ≡ None
+    → MayHaveNumber rows (codes "port") 1 65535 option → MayHaveNumber rows (codes "at") 1 65535 place
+    → one_port option place within (is_given (codes "host") rows) ≡ None → (connecting : ConnectWords)
     → AsksConnect rows connecting → ⊥
-no_one rows host within option place has by_option by_place none connecting asks =
-    no_port_at rows host within has (λ port at.
-    let bad : false ≡ true = ap is_some (sym none ∙ the_port rows within option place port by_option by_place at) in absurd (cc))
+no_one rows host within option place has unnamed by_option by_place none connecting asks =
+    no_port_at rows host within has (no_number rows within unnamed (λ port at.
+    let bad : false ≡ true = ap is_some (sym none ∙ the_port rows within option place port by_option by_place at) in absurd (cc)))
     (string_bytes connecting.host) connecting.port asks.place
 
 -- no text writes two keys
@@ -110,6 +113,9 @@ behind_words = codes "tn" ∷ codes "connect" ∷ codes "[::1]" ∷ codes "7" �
 abbrev within_words : List Text
 within_words = codes "tn" ∷ codes "connect" ∷ codes "[::1]:7" ∷ []
 
+abbrev service_words : List Text
+service_words = codes "tn" ∷ codes "connect" ∷ codes "h" ∷ codes "smtp" ∷ []
+
 abbrev no_words : List Text
 no_words = codes "tn" ∷ codes "connect" ∷ []
 
@@ -133,7 +139,7 @@ unfolding clap_on_literals
 host_asks = asks_place host_words (codes "::1") 23 (record {
   within = None;
   named = six_writes;
-  ports = record { option = None; place = None; by_option = refl; by_place = refl; one = refl };
+  ports = (refl, record { option = None; place = None; by_option = refl; by_place = refl; one = refl });
 })
 
 pub host_is_taken : takes tn host_words ≡ true
@@ -145,7 +151,7 @@ unfolding clap_on_literals
 port_asks = asks_place port_words (codes "127.0.0.1") 7 (record {
   within = None;
   named = (refl, refl);
-  ports = record { option = Some 7; place = None; by_option = seven_at (rows_for port_words) (codes "port") refl; by_place = refl; one = refl };
+  ports = (refl, record { option = Some 7; place = None; by_option = seven_at (rows_for port_words) (codes "port") refl; by_place = refl; one = refl });
 })
 
 pub port_is_taken : takes tn port_words ≡ true
@@ -157,7 +163,7 @@ unfolding clap_on_literals
 both_ask = asks_place both_words (codes "h") 7 (record {
   within = None;
   named = host_writes;
-  ports = record { option = Some 7; place = None; by_option = seven_at (rows_for both_words) (codes "port") refl; by_place = refl; one = refl };
+  ports = (refl, record { option = Some 7; place = None; by_option = seven_at (rows_for both_words) (codes "port") refl; by_place = refl; one = refl });
 })
 
 pub behind_asks : AskForHost behind_words (codes "::1") 7
@@ -165,7 +171,7 @@ unfolding clap_on_literals
 behind_asks = asks_place behind_words (codes "::1") 7 (record {
   within = None;
   named = brackets_write;
-  ports = record { option = None; place = Some 7; by_option = refl; by_place = seven_at (rows_for behind_words) (codes "at") refl; one = refl };
+  ports = (refl, record { option = None; place = Some 7; by_option = refl; by_place = seven_at (rows_for behind_words) (codes "at") refl; one = refl });
 })
 
 pub behind_is_taken : takes tn behind_words ≡ true
@@ -177,18 +183,28 @@ unfolding clap_on_literals
 within_asks = asks_place within_words (codes "::1") 7 (record {
   within = Some 7;
   named = port_writes;
-  ports = record { option = None; place = None; by_option = refl; by_place = refl; one = refl };
+  ports = (refl, record { option = None; place = None; by_option = refl; by_place = refl; one = refl });
 })
+
+pub service_asks : (asked : ConnectWords) → AskFor service_words (Connect asked) → NamesService asked.port (codes "smtp")
+unfolding clap_on_literals
+service_asks asked asks =
+    let a = asks_connect (subcommand_of tn service_words) asked asks.1 in
+    service_is (rows_for service_words) (string_bytes asked.host) (codes "smtp") asked.port refl a.place
+
+pub service_is_taken : takes tn service_words ≡ true
+unfolding clap_on_literals
+service_is_taken = refl
 
 pub neither_asks : AsksNothing (subcommand_of tn no_words)
 unfolding clap_on_literals
 neither_asks = connects_not (subcommand_of tn no_words) (codes "connect") (rows_for no_words) refl refl refl
-    (no_one (rows_for no_words) (codes "127.0.0.1") None None None (refl, refl) refl refl refl)
+    (no_one (rows_for no_words) (codes "127.0.0.1") None None None (refl, refl) refl refl refl refl)
 
 pub two_ask : AsksNothing (subcommand_of tn two_words)
 unfolding clap_on_literals
 two_ask = connects_not (subcommand_of tn two_words) (codes "connect") (rows_for two_words) refl refl refl
-    (no_one (rows_for two_words) (codes "h") (Some 7) None (Some 7) two_write refl (seven_at (rows_for two_words) (codes "at") refl) refl)
+    (no_one (rows_for two_words) (codes "h") (Some 7) None (Some 7) two_write refl refl (seven_at (rows_for two_words) (codes "at") refl) refl)
 
 some_line_end : (o : Option (Option LineEnd)) (asked : Option LineEnd) → o ≡ Some asked → unwrap_or o None ≡ asked
 some_line_end o asked is = ap (λ p. unwrap_or p None) is

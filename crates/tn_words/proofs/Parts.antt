@@ -65,7 +65,7 @@ connect_numbers_of asked = record {
   line_limit = asked.line_limit;
   wait = asked.wait;
   patience = asked.patience;
-  timeout = asked.timeout;
+  timeout = asked.dialing.seconds;
   quiet = asked.quiet;
 }
 

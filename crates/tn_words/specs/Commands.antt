@@ -106,7 +106,7 @@ serve = with_rules (codes "serve") (
 abbrev pub connect : Shape
 connect = with_rules (codes "connect") (
     place_rule (codes "host")
-    ∷ number_rule (codes "at") 1 65535
+    ∷ place_rule (codes "at")
     ∷ maybe_port_rule
     ∷ whole_rule (codes "width") 0 65535
     ∷ whole_rule (codes "height") 0 65535
@@ -119,6 +119,9 @@ connect = with_rules (codes "connect") (
     ∷ wait_rule
     ∷ patience_rule
     ∷ with_default (whole_rule (codes "timeout") 0 86400) (codes "0")
+    ∷ with_letter (flag_rule (codes "ipv4")) 52
+    ∷ with_letter (flag_rule (codes "ipv6")) 54
+    ∷ text_rule (codes "bind")
     ∷ flag_rule (codes "quiet")
     ∷ flag_rule (codes "plain")
     ∷ flag_rule (codes "lf")

@@ -1,7 +1,9 @@
 pub mod Addresses
 pub mod Choices
 pub mod Commands
+pub mod Dialing
 pub mod Escapes
 pub mod Numbers
 pub mod Parts
+pub mod Services
 pub mod Words

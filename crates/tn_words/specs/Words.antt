@@ -9,10 +9,13 @@ use Rattle.clap.specs.declared.error.kind.ErrorKind.{ErrorKind}
 use Rattle.clap.specs.declared.error.kind.ErrorKind.TheVariants as kind
 use Rattle.tn_lines.specs.declared.line_ends.LineEnd.{LineEnd}
 use Rattle.tn_lines.specs.declared.line_ends.LineEnd.TheVariants.{CrLf, Lf, Cr}
+use Rattle.tn_network.specs.declared.dialing.Family.{Family}
 use Rattle.tn_words.specs.Addresses.{WritesAddress, WritesPlace}
 use Rattle.tn_words.specs.Commands.{tn}
+use Rattle.tn_words.specs.Dialing.{MayHaveIp, chosen_family}
 use Rattle.tn_words.specs.Escapes.{WritesEscape}
 use Rattle.tn_words.specs.Numbers.{Writes}
+use Rattle.tn_words.specs.Services.{service_in}
 use Rattle.tn_words.specs.declared.words.Asked.{Asked}
 use Rattle.tn_words.specs.declared.words.Asked.TheVariants.{Local, Replay, Decode, World, Serve, Connect}
 use Rattle.tn_words.specs.declared.settings.Address.{Address}
@@ -23,6 +26,8 @@ use Rattle.tn_words.specs.declared.settings.ReturnBytes.TheVariants.{CrNul}
 use Rattle.tn_words.specs.declared.settings.ReturnBytes.TheVariants as returns
 use Rattle.tn_words.specs.declared.settings.ConnectWords.{ConnectWords}
 use Rattle.tn_words.specs.declared.settings.Escape.{Escape}
+use Rattle.tn_words.specs.declared.settings.Port.{Port}
+use Rattle.tn_words.specs.declared.settings.Port.TheVariants.{Number, Service}
 use Rattle.tn_words.specs.declared.settings.ServeWords.{ServeWords}
 use Rattle.tn_words.specs.declared.words.WordsFault.{WordsFault}
 use Rattle.tn_words.specs.declared.words.WordsFault.TheVariants as fault
@@ -182,11 +187,22 @@ pub record AsksPort (rows : List Row) (within : Option ℕ) (port : ℕ) : Type 
   pub by_place : MayHaveNumber rows (codes "at") 1 65535 place
   pub one : one_port option place within (is_given (codes "host") rows) ≡ Some port
 
+-- PORT names this service, and no other port is given.
+pub record AsksService (rows : List Row) (within : Option ℕ) (name : Text) : Type 0 where
+  pub names : service_in rows ≡ Some name
+  pub no_option : is_given (codes "port") rows ≡ false
+  pub no_within : within ≡ None
+
+-- the words give this one port, by its number, or by the name of its service in the place of PORT
+abbrev pub AsksPortOrService : List Row → Option ℕ → Port → Type 0
+AsksPortOrService rows within (Number port) = (service_in rows ≡ None) × AsksPort rows within port
+AsksPortOrService rows within (Service name) = AsksService rows within (string_bytes name)
+
 -- The words ask for a connection to this host and this port.
-pub record AsksPlace (rows : List Row) (host : Text) (port : ℕ) : Type 0 where
+pub record AsksPlace (rows : List Row) (host : Text) (port : Port) : Type 0 where
   pub within : Option ℕ
   pub named : HasPlace rows host within
-  pub ports : AsksPort rows within port
+  pub ports : AsksPortOrService rows within port
 
 -- an option is given that is of use to a client of Telnet alone
 abbrev pub has_telnet_option : List Row → Bool
@@ -252,6 +268,10 @@ pub record AsksLine (rows : List Row) (limit : ℕ) : Type 0 where
   pub at_least : 255 ≤ limit
   pub at_most : limit ≤ 4095
 
+-- the family of addresses that `-4` and `-6` choose
+abbrev pub family_in : List Row → Option (Option Family)
+family_in rows = chosen_family (is_flagged (codes "ipv4") rows) (is_flagged (codes "ipv6") rows)
+
 pub record AsksConnect (rows : List Row) (asked : ConnectWords) : Type 0 where
   pub place : AsksPlace rows (string_bytes asked.host) asked.port
   pub width : MayHaveNumber rows (codes "width") 0 65535 asked.width
@@ -264,7 +284,9 @@ pub record AsksConnect (rows : List Row) (asked : ConnectWords) : Type 0 where
   pub log : option_map string_bytes asked.log ≡ first_of (codes "log") rows
   pub wait : HasNumber rows (codes "wait") 0 86400 asked.wait
   pub patience : HasNumber rows (codes "patience") 0 86400 asked.patience
-  pub timeout : HasNumber rows (codes "timeout") 0 86400 asked.timeout
+  pub timeout : HasNumber rows (codes "timeout") 0 86400 asked.dialing.seconds
+  pub family : family_in rows ≡ Some asked.dialing.family
+  pub source : MayHaveIp rows (codes "bind") asked.dialing.source
   pub quiet : HasFlag rows (codes "quiet") asked.quiet
   pub plain : line_end_in rows ≡ Some asked.plain
 
@@ -291,7 +313,12 @@ AskFor words asked = (fault_of tn words ≡ []) × AsksIn (subcommand_of tn word
 -- where the words ask for a connection, it is to this host and this port
 abbrev pub AskForHost : List Text → Text → ℕ → Type 0
 AskForHost words host port = (asked : ConnectWords) → AskFor words (Connect asked)
-    → (string_bytes asked.host ≡ host) × (asked.port ≡ port)
+    → (string_bytes asked.host ≡ host) × (asked.port ≡ Number port)
+
+-- the port of this service
+abbrev pub NamesService : Port → Text → Type 0
+NamesService (Number port) name = ⊥
+NamesService (Service service) name = string_bytes service ≡ name
 
 -- the words ask for help, before anything else is wrong with them
 abbrev pub AsksForHelp : List Text → Type 0

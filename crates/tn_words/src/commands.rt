@@ -104,9 +104,12 @@ pub(crate) const HEIGHT: Whole = Whole {
     most: 65_535,
 };
 
-/// The port that stands behind the host.
+/// The name of the place of the port after the host.
+pub(crate) const AT_PLACE: &str = "at";
+
+/// The port that stands there.
 pub(crate) const AT: Whole = Whole {
-    name: "at",
+    name: AT_PLACE,
     least: 1,
     most: 65_535,
 };
@@ -133,6 +136,12 @@ pub(crate) const TIMEOUT: Whole = Whole {
 };
 
 pub(crate) const HOST: &str = "host";
+
+pub(crate) const IPV4: &str = "ipv4";
+
+pub(crate) const IPV6: &str = "ipv6";
+
+pub(crate) const BIND: &str = "bind";
 
 pub(crate) const ESCAPE: &str = "escape";
 
@@ -188,6 +197,8 @@ pub const VERSION_LINE: &str = "tn 1.2.0\n";
 enum Choice {
     /// An option without a value: its name and its help text.
     Flag(&'static str, &'static str),
+    /// One that has a letter too: its name, the letter and its help text.
+    Letter(&'static str, char, &'static str),
     /// An option that takes a text: its name, the name of its value, and its help text.
     Text(&'static str, &'static str, &'static str),
     /// An option for a number that need not be given, with its help text.
@@ -346,7 +357,15 @@ const CONNECT_CHOICES: &[Choice] = &[
     Choice::Default(
         TIMEOUT,
         "0",
-        "Gives up an address that takes no connection for this many seconds; 0 never does",
+        "Gives up an address that takes no connection for this many seconds; at 0 after 2, but the last one \
+         only when the system does",
+    ),
+    Choice::Letter(IPV4, '4', "Tries addresses of IPv4 only"),
+    Choice::Letter(IPV6, '6', "Tries addresses of IPv6 only"),
+    Choice::Text(
+        BIND,
+        "ADDRESS",
+        "Connects from this address of this machine, and tries addresses of its family only",
     ),
     Choice::Flag(
         QUIET,
@@ -601,6 +620,7 @@ fn choice_arg<'a>(alloc: Global, choice: Choice) -> Arg<'a>
 {
     match choice {
         Choice::Flag(name, help) => flag_option(alloc, name, help),
+        Choice::Letter(name, letter, help) => flag_option(alloc, name, help).short(letter),
         Choice::Text(name, value_name, help) => text_option(alloc, name, value_name, help),
         Choice::Number(whole, help) => optional_number(alloc, whole, help),
         Choice::Default(whole, default, help) => whole_option(alloc, whole, default, help),
@@ -751,11 +771,12 @@ fn host_place<'a>(alloc: Global) -> Arg<'a>
 
 // The port behind that host.
 fn port_place<'a>(alloc: Global) -> Arg<'a>
-    ensures rule { rule_of result ≡ number_rule (codes "at") 1 65535 }
+    ensures rule { rule_of result ≡ place_rule (codes "at") }
     ensures local { result.global ≡ false }
 {
-    number_place(alloc, AT).value_name("PORT").help(
-        "The port to connect to, which is 23 where a HOST is given and no port",
+    Arg::new(alloc, AT_PLACE).value_name("PORT").help(
+        "The port to connect to, a number or the name of a service, as smtp; 23 where a HOST is given and no \
+         port",
     )
 }
 

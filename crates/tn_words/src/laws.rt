@@ -6,6 +6,7 @@ ghost use Rattle.tn_words.specs.Addresses.{WritesAddress, WritesPlace};
 ghost use Rattle.tn_words.specs.Commands.{tn};
 ghost use Rattle.tn_words.specs.Escapes.{WritesEscape};
 ghost use Rattle.tn_words.specs.Words.{AskFor, AskForHost, AsksForHelp, AsksForVersion, AsksNothing};
+ghost use Rattle.tn_words.specs.Words.{NamesService};
 ghost use Rattle.tn_words.specs.declared.settings.ConnectWords.{ConnectWords};
 ghost use Rattle.tn_words.specs.declared.settings.Escape.{Escape};
 ghost use Rattle.tn_words.specs.declared.settings.Escape.TheVariants as escape;
@@ -35,8 +36,8 @@ pub fn other_words()
 {}
 
 /// A host without a port is connected to at port 23, a port without a host is one of this machine, and
-/// without both, or with two ports, no connection is asked for. A port stands behind the host, within it or
-/// in an option.
+/// without both, or with two ports, no connection is asked for. A port stands after the host, within it or
+/// in an option; after the host a name of a service stands for its port.
 pub fn hosts_and_ports()
     ensures host { AskForHost (codes "tn" ∷ codes "connect" ∷ codes "::1" ∷ []) (codes "::1") 23 }
     ensures host_taken { takes tn (codes "tn" ∷ codes "connect" ∷ codes "::1" ∷ []) ≡ true }
@@ -49,6 +50,10 @@ pub fn hosts_and_ports()
         (codes "::1") 7 }
     ensures behind_taken { takes tn (codes "tn" ∷ codes "connect" ∷ codes "[::1]" ∷ codes "7" ∷ []) ≡ true }
     ensures within { AskForHost (codes "tn" ∷ codes "connect" ∷ codes "[::1]:7" ∷ []) (codes "::1") 7 }
+    ensures service { (asked : ConnectWords)
+        → AskFor (codes "tn" ∷ codes "connect" ∷ codes "h" ∷ codes "smtp" ∷ []) (Connect asked)
+        → NamesService asked.port (codes "smtp") }
+    ensures service_taken { takes tn (codes "tn" ∷ codes "connect" ∷ codes "h" ∷ codes "smtp" ∷ []) ≡ true }
     ensures neither { AsksNothing (subcommand_of tn (codes "tn" ∷ codes "connect" ∷ [])) }
     ensures two { AsksNothing (subcommand_of tn (codes "tn" ∷ codes "connect" ∷ codes "h:7" ∷ codes "7" ∷ [])) }
 {}

@@ -9,12 +9,15 @@
 
 pub use commands::VERSION_LINE;
 pub use settings::{
-    Address, Characters, ConnectWords, Escape, ReturnBytes, ServeWords, USUAL_HEIGHT, USUAL_WIDTH,
+    Address, Characters, ConnectWords, Escape, Port, ReturnBytes, ServeWords, USUAL_HEIGHT, USUAL_WIDTH,
 };
 pub use tn_lines::LineEnd;
+pub use tn_network::{Dialing, Family};
 pub use words::{Asked, WordsFault, read_words};
 
 mod commands;
+mod dialing;
 pub mod laws;
+mod places;
 mod settings;
 mod words;

@@ -9,6 +9,7 @@ ghost use Rattle.tn_words.specs.Words.{named_characters, named_return};
 use std::alloc::{AllocError, Global};
 use tn_discipline::Limit;
 use tn_lines::LineEnd;
+use tn_network::Dialing;
 
 /// The width and the height of a window of which no size is known, in characters.
 pub const USUAL_WIDTH: u16 = 80;
@@ -223,6 +224,15 @@ impl Characters {
     }
 }
 
+/// A port, as it is asked for.
+#[derive(Debug, Drop, PartialEq, Eq)]
+pub enum Port {
+    /// The port of this number, from 1 to 65,535.
+    Number(u16),
+    /// The port that services(5) gives the service of this name.
+    Service(String),
+}
+
 /// What RETURN sends while keys go one at a time (RFC 1123, section 3.3.1).
 #[derive(Clone, Copy, Debug, PartialEq, Eq)]
 pub enum ReturnBytes {
@@ -254,8 +264,7 @@ impl ReturnBytes {
 pub struct ConnectWords {
     /// The address of the host, or a name that has one.
     pub host: String,
-    /// The port, from 1 to 65,535.
-    pub port: u16,
+    pub port: Port,
     /// The width of the window in characters, or 0 for none that is told; `None` where none is given.
     pub width: Option<u16>,
     /// The height of the window in lines, or 0 for none that is told; `None` where none is given.
@@ -276,9 +285,8 @@ pub struct ConnectWords {
     pub wait: u32,
     /// For how many seconds nothing may come after that, from 0 to 86,400; at 0 it may for ever.
     pub patience: u32,
-    /// After how many seconds an address that takes no connection is given up, from 0 to 86,400; at 0 the system
-    /// decides.
-    pub timeout: u32,
+    /// Which addresses are tried, from where, and for how many seconds each, from 0 to 86,400.
+    pub dialing: Dialing,
     /// Whether a terminal is told nothing of the connection.
     pub quiet: bool,
     /// What ends each line, where the connection is without Telnet.

@@ -4,38 +4,33 @@ ghost use Rattle.std.specs.Prelude.{◌≡◌, ◌≤◌, ℕ, List, ⊤, true, 
 ghost use Rattle.std.specs.Prelude.{IfSome, codes, map, option_map, string_bytes, unwrap_or};
 ghost use Rattle.clap.specs.Words.{Text, kind_of, rows_of, first_of, found_of, subcommand_rows_of};
 ghost use Rattle.tn_words.specs.Parts.{AsksConnectNumbers, AsksServeChoices, AsksServeNumbers};
-ghost use Rattle.tn_words.specs.Words.{AskFor, AsksConnect, AsksCount, AsksIn, AsksLine, AsksNothing, AsksPlace};
-ghost use Rattle.tn_words.specs.Words.{AsksPort, AsksServe};
-ghost use Rattle.tn_words.specs.Words.{HasEscape, HasNumber, HasPlace, IsPath, Lacks};
+ghost use Rattle.tn_words.specs.Words.{AskFor, AsksConnect, AsksCount, AsksIn, AsksLine, AsksNothing};
+ghost use Rattle.tn_words.specs.Words.{AsksServe};
+ghost use Rattle.tn_words.specs.Words.{HasEscape, HasNumber, IsPath, Lacks};
 ghost use Rattle.tn_words.specs.Words.{MayHaveAddress, MayHaveNumber};
 ghost use Rattle.tn_words.specs.Words.{MayHavePath, MissesNumber, Refuses, TellsKind, chosen_count};
 ghost use Rattle.tn_words.specs.Words.{chosen_logfmt, chosen_word, logfmt_in, sends_signals_in};
 ghost use Rattle.tn_words.specs.Words.{characters_in, return_in, chosen_line_end, detail_of, ends_cut_in};
 ghost use Rattle.tn_words.specs.Words.{has_telnet_option};
-ghost use Rattle.tn_words.specs.Words.{is_flagged, is_given, line_end_in, one_port, service_line_end};
+ghost use Rattle.tn_words.specs.Words.{is_flagged, is_given, line_end_in, service_line_end};
 ghost use Rattle.tn_words.specs.Words.{service_line_end_in, usual_line};
 
 use crate::commands::{
-    AT, CONNECT, COUNT, CR, CRLF, DECODE, DRAIN, ESCAPE, FOREVER, HEIGHT, HOST, IDLE, KEYS, LF,
-    LIMIT, LINE, LINE_CUT, LOCAL, LOCALLY, LOG, LONGEST, METRICS, MOST_PATH, NOTES, PATIENCE,
-    PER_HOST, PLAIN, PORT, PROXIED, QUIET, REPLAY, RETURN, SERVE, SIGNALS, TICKS, TIMEOUT, TO,
-    TRACE, UNTIL, VERBOSE, VERSION_LINE, WAIT, WIDTH, WORLD, Whole, tn_command,
+    CONNECT, COUNT, CR, CRLF, DECODE, DRAIN, ESCAPE, FOREVER, HEIGHT, HOST, IDLE, KEYS, LF, RETURN, LIMIT,
+    LINE, LINE_CUT, LOCAL, LOCALLY, LOG, LONGEST, METRICS, MOST_PATH, NOTES, PATIENCE, PER_HOST,
+    PLAIN, PORT, PROXIED, QUIET, REPLAY, SERVE, SIGNALS, TICKS, TIMEOUT, TO, TRACE, UNTIL, VERBOSE,
+    VERSION_LINE, WAIT, WIDTH, WORLD, Whole, tn_command,
 };
-use crate::settings::{
-    Address, Characters, ConnectWords, Escape, ReturnBytes, ServeWords, place_in,
-};
+use crate::dialing::{family_in, source_of};
+use crate::places::place_of;
+use crate::settings::{Address, Characters, ConnectWords, Escape, ReturnBytes, ServeWords};
 use clap::error::ErrorKind;
 use clap::{ArgMatches, Error};
 use std::alloc::{AllocError, Global};
 use thiserror::Error as ErrorText;
 use tn_discipline::Limit;
 use tn_lines::LineEnd;
-
-/// The host of a connection where none is named.
-const THIS_MACHINE: &str = "127.0.0.1";
-
-/// The port of a connection where only a host is named.
-const TELNET_PORT: u16 = 23;
+use tn_network::Dialing;
 
 /// After how many connections a server ends where nothing else is asked for.
 const ONE: u32 = 1;
@@ -94,7 +89,7 @@ impl From<AllocError> for WordsFault {
 
 /// Why words that `clap` takes ask for nothing.
 #[derive(Clone, Copy, Debug, ErrorText)]
-enum Lack<'a> {
+pub(crate) enum Lack<'a> {
     /// That is wrong.
     #[error("error: {0}\n\nFor more information, try '--help'.\n")]
     Words(&'static str),
@@ -103,24 +98,14 @@ enum Lack<'a> {
     Value(&'a str, &'static str),
 }
 
-const NO_PORT: &str =
-    "the following required arguments were not provided:\n  HOST, or --port <P>\n\n\
-     Usage: tn connect [OPTIONS] [HOST] [PORT]";
-
-const MORE_PORTS: &str = "more than one port is given\n\nUsage: tn connect [OPTIONS] [HOST] [PORT]";
-
-const NO_HOST: &str = "'[HOST]': it is no host, nor one with a port of 1 to 65535 behind a colon";
-
 const NO_LINE_END: &str = "'--lf' and '--cr' exclude each other, and need '--plain'";
 
-const NO_TELNET: &str =
-    "'--plain' excludes '--escape', '--return', '--trace', '--width' and '--height'";
+const NO_TELNET: &str = "'--plain' excludes '--escape', '--return', '--trace', '--width' and '--height'";
 
 const NO_ESCAPE: &str =
     "'--escape <C>': it is neither `none` nor a caret and one of A to Z, [, \\, ], ^ and _";
 
 const NO_RETURN: &str = "'--return <BYTES>': it is none of `crnul`, `crlf` and `lf`";
-
 const NO_CHARACTERS: &str = "'--keys <WHOSE>': it is neither `own` nor `standard`";
 
 const NO_SERVICE_LINE_END: &str = "'--crlf' and '--cr' exclude each other, and need '--to'";
@@ -143,6 +128,8 @@ const TWO_COUNTS: &str = "'--count' and '--forever' exclude each other";
 
 const NO_ADDRESS: &str =
     "'--to <HOST:PORT>': it is no host with a port of 1 to 65535 behind a colon";
+
+const TWO_FAMILIES: &str = "'-4' and '-6' exclude each other";
 
 const NO_VALUE: &str = "a value is missing or out of its range";
 
@@ -486,6 +473,10 @@ fn connecting(alloc: Global, words: &ArgMatches<'_>) -> Result<ConnectWords, Wor
     let Some(plain) = line_end_in(words) else {
         return Err(lacking(alloc, &line_end_lack(words)));
     };
+    let Some(family) = family_in(words) else {
+        return Err(lacking(alloc, &Lack::Words(TWO_FAMILIES)));
+    };
+    let source = source_of(alloc, words)?;
     let trace = text_of(alloc, words, TRACE)?;
     let log = text_of(alloc, words, LOG)?;
     Ok(ConnectWords {
@@ -501,7 +492,11 @@ fn connecting(alloc: Global, words: &ArgMatches<'_>) -> Result<ConnectWords, Wor
         log,
         wait: numbers.wait,
         patience: numbers.patience,
-        timeout: numbers.timeout,
+        dialing: Dialing {
+            family,
+            source,
+            seconds: numbers.timeout,
+        },
         quiet: numbers.quiet,
         plain,
     })
@@ -534,72 +529,6 @@ fn connect_numbers(words: &ArgMatches<'_>) -> Option<ConnectNumbers>
         timeout: number(words, TIMEOUT)?,
         quiet: words.get_flag(QUIET),
     })
-}
-
-// The host and the port that the words ask for.
-fn place_of(alloc: Global, words: &ArgMatches<'_>) -> Result<Address, WordsFault>
-    ensures asked { IfOk result (λ place.
-        AsksPlace (rows_of (found_of words.now)) (string_bytes place.host) place.port) }
-    ensures lacks { IfErr result (Lacks
-        ((host : List ℕ) (port : ℕ) → ¬ AsksPlace (rows_of (found_of words.now)) host port)) }
-{
-    let Some((host, within)) = named_place(words) else {
-        let text = words.get_str(HOST).unwrap_or(THIS_MACHINE);
-        return Err(lacking(alloc, &Lack::Value(text, NO_HOST)));
-    };
-    let Some(port) = port_of(words, within) else {
-        return Err(lacking(alloc, &port_lack(words)));
-    };
-    let host = String::from_str(alloc, host)?;
-    Ok(Address { host, port })
-}
-
-// The host that is named and the port within it, or this machine.
-fn named_place<'a>(words: &ArgMatches<'a>) -> Option<(&'a str, Option<u16>)>
-    ensures some { IfSome result (λ place. HasPlace (rows_of (found_of words.now)) place.0.now place.1) }
-    ensures none { result ≡ None → (host : List ℕ) (within : Option ℕ) →
-        ¬ HasPlace (rows_of (found_of words.now)) host within }
-{
-    match words.get_str(HOST) {
-        Some(text) => place_in(text),
-        None => Some((THIS_MACHINE, None)),
-    }
-}
-
-fn port_of(words: &ArgMatches<'_>, within: Option<u16>) -> Option<u16>
-    ensures some { IfSome result (AsksPort (rows_of (found_of words.now)) within) }
-    ensures none { result ≡ None → (port : ℕ) → ¬ AsksPort (rows_of (found_of words.now)) within port }
-{
-    let option = size(words, PORT)?;
-    let place = size(words, AT)?;
-    one_port(option, place, within, is_given(words, HOST))
-}
-
-// The port that is given, or Telnet's where none is and a host is named; `None` where more are given.
-fn one_port(
-    option: Option<u16>,
-    place: Option<u16>,
-    within: Option<u16>,
-    named: bool,
-) -> Option<u16>
-    ensures { result ≡ one_port option place within named }
-{
-    match (option, place, within) {
-        (Some(port), None, None) => Some(port),
-        (None, Some(port), None) => Some(port),
-        (None, None, Some(port)) => Some(port),
-        (None, None, None) if named => Some(TELNET_PORT),
-        _ => None,
-    }
-}
-
-// Why the words give no port.
-fn port_lack<'a>(words: &ArgMatches<'_>) -> Lack<'a> {
-    if is_given(words, HOST) || is_given(words, PORT.name) {
-        Lack::Words(MORE_PORTS)
-    } else {
-        Lack::Words(NO_PORT)
-    }
 }
 
 fn escape_of(alloc: Global, words: &ArgMatches<'_>) -> Result<Escape, WordsFault>
@@ -698,7 +627,7 @@ fn line_end_lack<'a>(words: &ArgMatches<'_>) -> Lack<'a> {
     }
 }
 
-fn is_flagged(words: &ArgMatches<'_>, name: &str) -> bool
+pub(crate) fn is_flagged(words: &ArgMatches<'_>, name: &str) -> bool
     ensures { result ≡ is_flagged name.now (rows_of (found_of words.now)) }
 {
     match words.get_str(name) {
@@ -707,7 +636,7 @@ fn is_flagged(words: &ArgMatches<'_>, name: &str) -> bool
     }
 }
 
-fn is_given(words: &ArgMatches<'_>, name: &str) -> bool
+pub(crate) fn is_given(words: &ArgMatches<'_>, name: &str) -> bool
     ensures { result ≡ is_given name.now (rows_of (found_of words.now)) }
 {
     words.get_str(name).is_some()
@@ -725,7 +654,7 @@ fn text_of(alloc: Global, words: &ArgMatches<'_>, name: &str) -> Result<Option<S
 }
 
 // The size that an option gives, if it is given; `None` where it gives none of its range.
-fn size(words: &ArgMatches<'_>, whole: Whole) -> Option<Option<u16>>
+pub(crate) fn size(words: &ArgMatches<'_>, whole: Whole) -> Option<Option<u16>>
     requires { whole.most ≤ 65535 }
     ensures some { IfSome result
         (MayHaveNumber (rows_of (found_of words.now)) whole.name.now whole.least whole.most) }
@@ -839,7 +768,7 @@ fn no_value(alloc: Global) -> WordsFault
 }
 
 // What is told of words that lack this.
-fn lacking(alloc: Global, lack: &Lack<'_>) -> WordsFault
+pub(crate) fn lacking(alloc: Global, lack: &Lack<'_>) -> WordsFault
     ensures { Lacks ⊤ result }
 {
     match lack.to_string(alloc) {

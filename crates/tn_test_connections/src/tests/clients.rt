@@ -8,7 +8,7 @@ use std::test::Fail;
 use std::thread;
 use std::thread::JoinHandle;
 use tn_connect::{
-    ClientContext, ConnectFault, Connecting, Host, KeySource, Link, News, ReturnKey, Screen,
+    ClientContext, ConnectFault, Connecting, Dialing, Host, KeySource, Link, News, ReturnKey, Screen,
     connect,
 };
 use tn_discipline::Limit;
@@ -57,7 +57,7 @@ where
         returns: ReturnKey::CrNul,
         wait: 0,
         patience: 0,
-        timeout: 0,
+        dialing: Dialing::within(0),
     };
     let (mut causes, mut told) = (Vec::new(alloc), Vec::new(alloc));
     let notes = ClientContext {

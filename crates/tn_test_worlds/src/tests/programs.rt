@@ -64,21 +64,27 @@ const ASKED: &[(&str, &str)] = &[
          local: false, verbose: false, logfmt: false, metrics: None, to: Some(Address { host: \"h\", port: 7 }), line_end: Cr, ends_cut: false, sends_signals: false })",
     ),
     (
-        "tn connect -p7 --width 65535 --height 0 --escape ^a -q 86400 -w 7 --timeout 5 --log l --quiet --keys standard --return crlf",
-        "Connect(ConnectWords { host: \"127.0.0.1\", port: 7, width: Some(65535), height: Some(0), \
-         line_limit: Limit { bytes: 255 }, escape: Key(1), characters: Standard, returns: CrLf, trace: None, log: Some(\"l\"), wait: 86400, patience: 7, timeout: 5, \
+        "tn connect -p7 --width 65535 --height 0 --escape ^a -q 86400 -w 7 --timeout 5 -6 --bind ::1 --log l --quiet --keys standard --return crlf",
+        "Connect(ConnectWords { host: \"127.0.0.1\", port: Number(7), width: Some(65535), height: Some(0), \
+         line_limit: Limit { bytes: 255 }, escape: Key(1), characters: Standard, returns: CrLf, trace: None, log: Some(\"l\"), wait: 86400, patience: 7, dialing: Dialing { family: Some(Ipv6), source: Some(::1), seconds: 5 }, \
          quiet: true, plain: None })",
     ),
     (
         "tn connect example.org",
-        "Connect(ConnectWords { host: \"example.org\", port: 23, width: None, height: None, \
-         line_limit: Limit { bytes: 255 }, escape: Key(29), characters: Own, returns: CrNul, trace: None, log: None, wait: 0, patience: 0, timeout: 0, \
+        "Connect(ConnectWords { host: \"example.org\", port: Number(23), width: None, height: None, \
+         line_limit: Limit { bytes: 255 }, escape: Key(29), characters: Own, returns: CrNul, trace: None, log: None, wait: 0, patience: 0, dialing: Dialing { family: None, source: None, seconds: 0 }, \
          quiet: false, plain: None })",
     ),
     (
         "tn connect --escape none --port 7 ::1 --trace a/b",
-        "Connect(ConnectWords { host: \"::1\", port: 7, width: None, height: None, \
-         line_limit: Limit { bytes: 255 }, escape: None, characters: Own, returns: CrNul, trace: Some(\"a/b\"), log: None, wait: 0, patience: 0, timeout: 0, \
+        "Connect(ConnectWords { host: \"::1\", port: Number(7), width: None, height: None, \
+         line_limit: Limit { bytes: 255 }, escape: None, characters: Own, returns: CrNul, trace: Some(\"a/b\"), log: None, wait: 0, patience: 0, dialing: Dialing { family: None, source: None, seconds: 0 }, \
+         quiet: false, plain: None })",
+    ),
+    (
+        "tn connect example.org smtp",
+        "Connect(ConnectWords { host: \"example.org\", port: Service(\"smtp\"), width: None, height: None, \
+         line_limit: Limit { bytes: 255 }, escape: Key(29), characters: Own, returns: CrNul, trace: None, log: None, wait: 0, patience: 0, dialing: Dialing { family: None, source: None, seconds: 0 }, \
          quiet: false, plain: None })",
     ),
     ("tn connect --port 7", AT_PORT_7),
@@ -90,8 +96,8 @@ const ASKED: &[(&str, &str)] = &[
 
 /// A connection to port 7 of this machine, without any option.
 const AT_PORT_7: &str =
-    "Connect(ConnectWords { host: \"127.0.0.1\", port: 7, width: None, height: None, \
-     line_limit: Limit { bytes: 255 }, escape: Key(29), characters: Own, returns: CrNul, trace: None, log: None, wait: 0, patience: 0, timeout: 0, quiet: false, \
+    "Connect(ConnectWords { host: \"127.0.0.1\", port: Number(7), width: None, height: None, \
+     line_limit: Limit { bytes: 255 }, escape: Key(29), characters: Own, returns: CrNul, trace: None, log: None, wait: 0, patience: 0, dialing: Dialing { family: None, source: None, seconds: 0 }, quiet: false, \
      plain: None })";
 
 #[test]
@@ -148,7 +154,10 @@ const REFUSED: &[&str] = &[
     "tn connect --port x",
     "tn connect --port 7 --width 65536",
     "tn connect h --port 0",
-    "tn connect h x",
+    "tn connect h 7x",
+    "tn connect h smtp --port 7",
+    "tn connect h:7 smtp",
+    "tn connect h -- -",
     "tn connect h 0",
     "tn connect h: 7",
     "tn connect h:7 7",
@@ -159,6 +168,11 @@ const REFUSED: &[&str] = &[
     "tn connect [::1]7",
     "tn connect h 7 8",
     "tn connect h -q 86401",
+    "tn connect h -4 -6",
+    "tn connect h -4 --ipv4",
+    "tn connect h --bind h",
+    "tn connect h --bind 127.0.0.1:7",
+    "tn connect h --timeout 86401",
     "tn connect h --keys ours",
     "tn connect h --keys own --keys own",
     "tn connect h --lf",

@@ -11,4 +11,4 @@ returns-clause-reached g c =
     let ended = c.result_of-ended in
     let ran = c.in_ok-talked.ensures.connection in
     let over = IfOk-weaker ended.result _ _ (λ r e. ap (λ (s : Snapshot TcpStream). s.value) e ∙ ran ∙ c.in_ok-opened.ensures.stream) ended.ensures.connection in
-    (c.reach.result, c.reach.ensures.reaches, ran_over connection_of ended.result c.reach.result c.in_ok-stream.stream c.in_ok-stream.was over)
+    (c.reach_by.result, c.reach_by.ensures.reaches, ran_over connection_of ended.result c.reach_by.result c.in_ok-stream.stream c.in_ok-stream.was over)

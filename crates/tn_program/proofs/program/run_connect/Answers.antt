@@ -1,14 +1,32 @@
 use Rattle.std.proofs.Common.{IfOk, List, ℕ, inl, inr, refl, subst}
 use Rattle.tn_connect.specs.Clients.{ConnectsBy, RunsClient, connection_of, foreseen, window_of}
 use Rattle.tn_connect.specs.declared.settings.KeySource.{KeySource}
-use Rattle.tn_network.specs.Asked.{Reaches}
+use Rattle.tn_network.specs.Asked.{ReachesBy}
+use Rattle.tn_network.specs.Dialing.{suits}
+use Rattle.tn_network.specs.declared.dialing.Dialing.{Dialing}
 use Rattle.tn_program.proofs.Origins.{foreseen_as}
+use Rattle.tn_program.proofs.Ports.{any_port}
 use Rattle.tn_session.specs.Facts.{Window}
 use Rattle.tn_streams.specs.Known.{KnownTyping}
 use Rattle.tn_program.proofs.program.run_connect.Goals as goal
 
 pub returns-in_default-clause-comes : goal.returns-in_default-clause-comes
-returns-in_default-clause-comes g c = (c.args.asked, refl, inl c.in_default.ensures, refl)
+returns-in_default-clause-comes g c = (
+  c.args.asked,
+  refl,
+  record {
+    telnet = c.requires;
+    port = 0;
+    is_port = any_port c.args.asked.port 0 (c.port_of.ensures.unknown c.in_default.is);
+    ran = tt;
+    whole = tt;
+    reached = inr (c.port_of.ensures.unknown c.in_default.is, refl);
+    unwritten = λ other. refl;
+  },
+)
+
+pub returns-in_default-open_trace-clause-comes : goal.returns-in_default-open_trace-clause-comes
+returns-in_default-open_trace-clause-comes g c = (c.args.asked, refl, inl c.in_default-open_trace.ensures, refl)
 
 pub returns-in_default-open_log-clause-comes : goal.returns-in_default-open_log-clause-comes
 returns-in_default-open_log-clause-comes g c = (c.args.asked, refl, inr c.in_default-open_log.ensures, refl)
@@ -19,6 +37,8 @@ returns-clause-comes g c = (
   refl,
   record {
     telnet = c.requires;
+    port = c.in-Some.port;
+    is_port = c.in-Some.ensures.port;
     ran = subst (λ (w : Window). IfOk c.connect.result (λ r. RunsClient w (foreseen c.args.streams.origin (g.R.Read.remaining c.args.streams.reader))
         (g.W.Write.contents c.args.writer.now) (g.W.Write.contents c.connect.new.screen) r)) c.connecting_of-connecting.ensures.window
         (subst (λ (k : KnownTyping). IfOk c.connect.result (λ r. RunsClient (window_of c.connecting_of-connecting.result) k
@@ -28,10 +48,15 @@ returns-clause-comes g c = (
         (foreseen o (g.R.Read.remaining c.args.streams.reader)) (g.W.Write.contents c.args.writer.now) (g.W.Write.contents c.connect.new.screen) r))
         c.connecting_of-connecting.ensures.origin c.connect.ensures.ran));
     whole = c.connect.ensures.whole;
-    reached = subst (λ (host : List ℕ). ConnectsBy connection_of
-        (Reaches (g.H.Network.finds c.args.rt host c.args.asked.port) (g.H.Network.dials c.args.rt)) c.connect.result) c.as_str-host.ensures.value
-        (subst (λ (port : ℕ). ConnectsBy connection_of (Reaches (g.H.Network.finds c.args.rt c.as_str-host.result.now port) (g.H.Network.dials c.args.rt))
-        c.connect.result) c.connecting_of-connecting.ensures.port c.connect.ensures.reached);
+    reached = inl (subst (λ (host : List ℕ). ConnectsBy connection_of
+        (ReachesBy (suits c.args.asked.dialing) (g.H.Network.finds c.args.rt host c.in-Some.port) (g.H.Network.dials c.args.rt)) c.connect.result)
+        c.as_str-host.ensures.value
+        (subst (λ (dialing : Dialing). ConnectsBy connection_of (ReachesBy (suits dialing)
+        (g.H.Network.finds c.args.rt c.as_str-host.result.now c.in-Some.port) (g.H.Network.dials c.args.rt)) c.connect.result)
+        c.connecting_of-connecting.ensures.dialing
+        (subst (λ (port : ℕ). ConnectsBy connection_of (ReachesBy (suits c.connecting_of-connecting.result.dialing)
+        (g.H.Network.finds c.args.rt c.as_str-host.result.now port) (g.H.Network.dials c.args.rt)) c.connect.result)
+        c.connecting_of-connecting.ensures.port c.connect.ensures.reached)));
     unwritten = c.connect.ensures.unshown;
   },
 )

@@ -37,6 +37,16 @@ returns-in_default-line_end_in-clause-lacks c =
     lacks_by c.lacking.result c.lacking.ensures (λ asked asks.
     let bad : false ≡ true = ap is_some (sym c.in_default-line_end_in.is ∙ (c.line_end_in.ensures ∙ asks.plain)) in absurd (cc))
 
+pub returns-in_default-family_in-clause-lacks : goal.returns-in_default-family_in-clause-lacks
+returns-in_default-family_in-clause-lacks c =
+    lacks_by c.lacking-in_default-family_in.result c.lacking-in_default-family_in.ensures (λ asked asks.
+    let bad : false ≡ true = ap is_some (sym c.in_default-family_in.is ∙ (c.family_in.ensures ∙ asks.family)) in absurd (cc))
+
+pub returns-in_err-source-clause-lacks : goal.returns-in_err-source-clause-lacks
+returns-in_err-source-clause-lacks c =
+    let p = err_from_is_err_and c.from_residual-in_err-source.result c.from_residual-in_err-source.ensures.1 in
+    rw (p.1, p.2) (lacks_more c.in_err-source.field-0.0 (λ none asked asks. none asked.dialing.source asks.source) c.in_err-source.ensures.lacks)
+
 pub returns-clause-asked : goal.returns-clause-asked
 returns-clause-asked c =
     let numbers = c.in-Some.ensures.asked in
@@ -53,6 +63,8 @@ returns-clause-asked c =
       wait = numbers.wait;
       patience = numbers.patience;
       timeout = numbers.timeout;
+      family = sym c.family_in.ensures ∙ c.in-Some-family_in.is;
+      source = c.in_ok-source.ensures.asked;
       quiet = numbers.quiet;
       plain = sym c.line_end_in.ensures ∙ c.in-Some-line_end_in.is;
     }

@@ -2,13 +2,15 @@ use Rattle.std.proofs.Common.{◌≡◌, ◌++◌, List}
 use Rattle.std.specs.Net.ToAddrs.{host_addrs}
 use Rattle.std.specs.declared.net.socket_addr.SocketAddr.{SocketAddr}
 use Rattle.tn_network.specs.Asked.{RefuseAll}
-use Rattle.tn_network.proofs.reaching.reach.Given as goal
+use Rattle.tn_network.specs.Dialing.{suits}
+use Rattle.std.specs.List.{filter}
+use Rattle.tn_network.proofs.reaching.reach_by.Given as goal
 
--- the addresses that were tried and refused, the last with this error, and then those that are left, are those
--- that were found
+-- the addresses that were passed, of which those that suit refused, the last with this error, and then those
+-- that are left, are those that were found
 abbrev pub invariant-loop-address : goal.invariant-loop-address
 invariant-loop-address g l =
     (goal.iterator-loop-address g).can_next l.address-iterator ×
     (goal.iterator-loop-address g).is_finite l.address-iterator ×
     ((tried : List SocketAddr) × (host_addrs l.initial.address-iterator ≡ tried ++ host_addrs l.address-iterator)
-    × RefuseAll (g.N.Network.dials l.net) tried l.initial.last l.last)
+    × RefuseAll (g.N.Network.dials l.net) (filter (suits l.dialing) tried) l.initial.last l.last)

@@ -1,7 +1,7 @@
 use Rattle.std.proofs.Common.{codes}
 use Rattle.clap.specs.Words.{found_of, rows_of}
 use Rattle.tn_words.proofs.Given.{given_none, given_some, here_given, place_given, place_none}
-use Rattle.tn_words.proofs.words.named_place.Goals as goal
+use Rattle.tn_words.proofs.places.named_place.Goals as goal
 
 pub returns-in-Some-clause-some : goal.returns-in-Some-clause-some
 returns-in-Some-clause-some c =

@@ -1,0 +1,20 @@
+-- The port that is asked for.
+use Rattle.std.specs.Prelude.{◌≡◌, ⊤, ℕ, Result, Err}
+use Rattle.tn_connect.specs.declared.fault.ConnectFault.{ConnectFault}
+use Rattle.tn_connect.specs.declared.fault.ConnectFault.TheVariants.{Network}
+use Rattle.tn_words.specs.declared.settings.Port.{Port}
+use Rattle.tn_words.specs.declared.settings.Port.TheVariants.{Number, Service}
+
+-- the port has this number; which one a service has, a file of the machine says
+abbrev pub IsPort : Port → ℕ → Type 0
+IsPort (Number number) port = port ≡ number
+IsPort (Service name) port = ⊤
+
+-- the port is that of a service
+abbrev pub IsService : Port → Type 0
+IsService (Number number) = ⊥
+IsService (Service name) = ⊤
+
+-- the port is that of a service which this machine does not know, and so no connection was asked for
+abbrev pub IsUnknown : {A : Type 0} → Port → Result A ConnectFault → Type 0
+IsUnknown port ended = IsService port × (ended ≡ Err Network)
