@@ -46,6 +46,7 @@ mod service;
 mod serving;
 mod session;
 mod settings;
+mod sight;
 mod times;
 mod traffic;
 mod turned;

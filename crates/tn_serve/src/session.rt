@@ -11,6 +11,7 @@ ghost use Rattle.tn_machines.specs.server.Welcoming.{too_far_ahead};
 use crate::conversed::{Conversed, Ran};
 use crate::events::Event;
 use crate::settings::SessionOptions;
+use crate::sight::Sight;
 use crate::traffic::{Counted, CountedWrites, Traffic};
 use crossbeam_channel::Sender;
 use std::alloc::Global;
@@ -20,7 +21,7 @@ use std::sync::Arc;
 use std::thread;
 use std::thread::{Promise, PromisedHandle};
 use tn_discipline::Settings;
-use tn_session::{Maker, Ports, Report, SessionFault, Unwatched, serve_session};
+use tn_session::{Maker, Ports, Report, SessionFault, serve_session};
 use tn_sockets::{Attended, Connection, Host, Logged, Standing};
 use tn_streams::Source;
 
@@ -145,7 +146,7 @@ where
         let (Ok(theirs), Ok(ours)) = (Arc::try_clone(&standing), Arc::try_clone(&standing)) else {
             return Err(SessionFault::Memory);
         };
-        let Ok(went) = Arc::try_clone(&traffic) else {
+        let (Ok(seen), Ok(went)) = (Arc::try_clone(&standing), Arc::try_clone(&traffic)) else {
             return Err(SessionFault::Memory);
         };
         let connection = Snapshot::of(&stream);
@@ -164,7 +165,8 @@ where
             side: writer.with_standing(ours),
             traffic: went,
         });
-        let (report, ports) = talk(rt, alloc, reader, &mut writer, options, jobs)?;
+        let sight = Sight { standing: seen };
+        let (report, ports) = talk(rt, alloc, reader, &mut writer, options, jobs, sight)?;
         let (writer, log) = writer.into_parts();
         if standing.is_ended_here() {
             linger(rt, alloc, writer.side.into_stream(), standing);
@@ -186,6 +188,7 @@ fn talk<H, M>(
     writer: &mut Logged<CountedWrites<Connection<TcpStream>>>,
     options: SessionOptions,
     jobs: M,
+    sight: Sight,
 ) -> Result<(Report, Ports), SessionFault>
 where
     H: Host,
@@ -200,7 +203,7 @@ where
         (M.left jobs) options writer.new.log (session_result r.0 r.1)) }
     ensures in_reach { IfOk result (λ r. r.0.ended ≢ too_far_ahead) }
 {
-    let Ok(gate) = Arc::new(alloc, Unwatched) else {
+    let Ok(gate) = Arc::new(alloc, sight) else {
         return Err(SessionFault::Memory);
     };
     let settings = Settings::standard();

@@ -1,0 +1,30 @@
+//! What the jobs of a session see of its threads.
+
+use std::alloc::Global;
+use std::sync::Arc;
+use tn_machines::{Gate, Place, Typed};
+use tn_sockets::Standing;
+
+/// Notes how far a session is with what its client typed.
+#[derive(Drop)]
+pub(crate) struct Sight {
+    pub(crate) standing: Arc<Standing, Global>,
+}
+
+impl Gate for Sight {
+    fn at(&self, place: Place) {
+        if place == Place::NetPiece {
+            self.standing.count_piece();
+        }
+    }
+
+    fn typed(&self, typed: Typed) {
+        let Typed {
+            pieces,
+            is_answered,
+            is_interrupted,
+        } = typed;
+        self.standing
+            .note_typed(pieces, is_answered, is_interrupted);
+    }
+}
