@@ -2,6 +2,7 @@
    `sending`, `showing` and `dialing`). The service echoes, does nothing, floods, closes, or only ends what it says: any of
    these that no NO_.. excludes. */
 #define HOOKED
+#define PASSES_END fin[G2L] = true
 #include "parts.pml"
 bool peer_silent;	/* the peer sends nothing more, and stays */
 bool service_mute;	/* the service does nothing more, and stays */

@@ -35,6 +35,10 @@ chan waitq = [ROOM] of { byte };	/* the entries that wait in the server end */
 bool finished, hung_up, held, went, idled;
 bool linger_over, hold_over;	/* the 5 seconds after `finished`, the 2 seconds of `hold` */
 bool at_hold;			/* Net waits in `hold` */
+byte unheard;			/* pieces that Net has said and Term has not handled */
+#ifndef PASSES_END
+#define PASSES_END skip	/* what a job is joined to gets the end of what was typed */
+#endif
 bool stop;			/* the flag that Back looks at */
 bool t_over, t_at_end, t_asks;	/* Progress of Term */
 bool t_writes;			/* Term is in a write */
@@ -112,7 +116,7 @@ bool back_quiet = false;	/* from here on a step in the background has no text, o
 /* Net: run_reader over Attended. Each step is one access to what threads share. */
 proctype Net() {
 	byte n = 0, u = 0, x = 0;
-	bool ok;
+	bool ok, passed;
 	mtype last = Left;
 reads:	/* read_piece, and in it read_on */
 #ifdef HOOKED
@@ -138,10 +142,11 @@ reads:	/* read_piece, and in it read_on */
 	:: atomic { finished && nempty(wire[C2S]) -> wire[C2S]?x; x = 0; goto discards }
 	:: atomic { finished && linger_over -> went = true; last = HangUp; deaf[C2S] = true; goto ends }
 	:: atomic { empty(wire[C2S]) && fin[C2S] -> at_hold = true };
-		if						/* hold */
+		do						/* hold */
 		:: atomic { !held || hung_up || finished -> at_hold = false; went = true; last = HangUp; goto ends }
 		:: atomic { hold_over -> at_hold = false; went = true; last = HangUp; goto ends }
-		fi
+		:: atomic { held && unheard == 0 && t_asks && empty(waitq) && !passed -> PASSES_END; passed = true }	/* pass_end */
+		od
 	:: atomic { IS_RESET(S2C) -> went = true; last = ReadFailed; goto ends }	/* a reset */
 #ifdef IDLE
 	:: atomic { empty(wire[C2S]) && peer_silent && !finished -> idled = true; went = true; last = HangUp; goto ends }
@@ -152,7 +157,7 @@ reads:	/* read_piece, and in it read_on */
 	:: atomic { empty(credit) && give_up_ -> goto out }
 	fi;
 	atomic { say(SRV, NET, Piece, n, u, 0, ok);
-		n = 0; u = 0;
+		n = 0; u = 0; unheard++;
 		if
 		:: ok -> ok = 0; goto reads
 		:: else -> goto out
@@ -183,7 +188,7 @@ ends:	true;
 		fi };
 	atomic { say(SRV, NET, Left, 0, 0, 0, ok); goto out };
 out:	true;
-	atomic { n = 0; u = 0; ok = 0; last = Left; net_done = true }
+	atomic { n = 0; u = 0; ok = 0; passed = 0; last = Left; net_done = true }
 }
 
 /* Desk: run_desk */
@@ -282,7 +287,7 @@ inline write_out(n, u, ok) {
 #ifdef MUT_NO_FINISH
 #define FINISH finished = finished
 #else
-#define FINISH finished = true; fin[S2C] = true
+#define FINISH finished = true; fin[S2C] = true; PASSES_END
 #endif
 
 #define IS_WELCOMING (len(waitq) <= L || t_over)
@@ -387,7 +392,7 @@ proctype Term() {
 			:: GIVES_STEP -> assert(step_credits < AHEAD); step_credits++
 			:: else
 			fi;
-			piece = (m == Piece); left = (m == Left);
+			piece = (m == Piece); left = (m == Left); unheard = unheard - piece;
 			/* Term::welcomes: a piece comes only where it is welcome */
 			assert(!piece || IS_WELCOMING);
 			put = NOTHING; last = NOTHING; whole = true;

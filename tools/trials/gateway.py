@@ -6,7 +6,7 @@ import threading
 import time
 
 import services
-from ends import NO_GO_AHEAD, Peer, Serving, User
+from ends import NO_GO_AHEAD, Peer, Serving, User, filled
 from services import Service, answering, answering_returns
 from sockets import sockets_of, unread
 from world import NotTried, case, expect, expect_in_order, expect_same, free_port, wait_until, within
@@ -53,6 +53,7 @@ def answering_the_second(service, _):
 def a_line_that_is_too_long_is_noted(world, ending, *words):
     service, serving = joined(world, answering_the_second, "--verbose", "--line-cut", ending, "--count", "2", *words)
     first = peer_of(world, serving).is_served()
+    once_joined(service, serving)
     user = User(world, serving.port, edits=editing(words))
     user.type(b"y" * 253 + b"\r", b"got " + b"y" * 253 + b"\r\n")
     whole, cut = b"y" * 253 + b"\n", b"x" * 254 + b"\n"
@@ -98,12 +99,15 @@ def a_return_is_shown_before_the_service_says_more(world):
     serving.end()
 
 
+def narrow(service, serving):
+    """Has the server's end of the connection to the service take little."""
+    for found in once_joined(service, serving):
+        found.setsockopt(socket.SOL_SOCKET, socket.SO_SNDBUF, 4_096)
+
+
 def fill(service, serving, peer):
     """Types until the server reads no more, since a service that reads nothing has taken all that it can."""
-    def ours():
-        return [found for found in sockets_of(serving.process.pid) if is_joined(found, service.port)]
-    for found in wait_until(ours, "the session is joined"):
-        found.setsockopt(socket.SOL_SOCKET, socket.SO_SNDBUF, 4_096)
+    narrow(service, serving)
     waiting = 0
     while waiting < 20:
         if unread(serving.port, peer.connection.getsockname()[1]):
@@ -112,6 +116,13 @@ def fill(service, serving, peer):
             waiting = 0
             peer.send((b"y" * 200 + b"\r\0") * 10)
         time.sleep(0.1 if waiting else 0.002)
+
+
+def once_joined(service, serving):
+    """What the server has of connections to the service, once there is one: a session begins before that."""
+    def ours():
+        return [found for found in sockets_of(serving.process.pid) if is_joined(found, service.port)]
+    return wait_until(ours, "the session is joined")
 
 
 def is_joined(found, port):
@@ -175,12 +186,107 @@ def an_interrupt_ends_a_session_whose_service_goes_on(world, key):
     serving.end()
 
 
+@case(each={"edited at the server": (), "edited at the client": ("--local",)})
+def an_interrupt_ends_a_session_whose_service_reads_nothing(world, *words):
+    """Past the lines that wait, which the service would not have taken."""
+    service, serving = joined(world, lambda service, _: service.hold(), *words, buffer=4_096)
+    user = User(world, serving.port, edits=editing(words))
+    narrow(service, serving)
+    user.type((b"y" * 200 + b"\r") * 200 + b"\x1a")
+    user.type(b"\x03")
+    serving.end()
+    user.end()
+
+
+@case
+def signals_that_go_to_a_service_do_not_end_a_session_whose_service_reads_late(world):
+    def talk(service, connection):
+        service.hold()
+        services.listening(service, connection)
+
+    service, serving = joined(world, talk, "--signals", "send", buffer=4_096)
+    peer = peer_of(world, serving)
+    narrow(service, serving)
+    lines = b"y" * 200 + b"\n"
+    peer.send(lines.replace(b"\n", b"\r\0") * 200 + b"\x03")
+    time.sleep(1)  # So long the service reads nothing.
+    service.go_on.set()
+    expect_in_order(peer.leave(), b"bye\r\n")
+    expect_same(lines * 200 + b"\x03", service.end(), "what the service got")
+    serving.end()
+
+
 @case
 def a_service_that_cannot_be_reached_is_reported(world):
     serving = Serving(world, "--to", f"127.0.0.1:{free_port()}")
     expect_in_order(peer_of(world, serving).read_to_end(), b"the service cannot be reached\r\n")
     printed = serving.end(None)
     expect(re.search(rb"\A[^\n]* ended: service not reached: 127\.0\.0\.1:\d+: Connection refused[^\n]*\n\Z", printed), f"printed is {printed!r}")
+
+
+def dialling(world, *words):
+    """A service that takes no connection, as one that drops what opens it; and a session, which runs while that is dialled."""
+    listener, waiting = filled(world)
+    serving = Serving(world, "--to", f"127.0.0.1:{listener.port}", *words)
+    return listener, waiting, serving, peer_of(world, serving).is_served()
+
+
+@case(each={"^C": (b"\x03",), "^C after a line": (b"one\r\0\x03",), "^C after a stop": (b"one\r\0\x1a\x03",)})
+def an_interrupt_ends_a_session_whose_service_is_dialled(world, keys):
+    _, _, serving, peer = dialling(world)
+    peer.send(keys)
+    peer.read_to_end()
+    serving.end()
+
+
+@case(each={"--idle": (b"idle\r\n", "--idle", "1"), "--longest": (b"too long\r\n", "--longest", "1"),
+            "--until": (b"closing\r\n", "--drain", "1", "--until")})
+def a_limit_ends_a_session_whose_service_is_dialled(world, last, *words):
+    """Also after a line, which waits for the service; and nobody says that the service cannot be reached."""
+    end = world.path("end")
+    _, _, serving, peer = dialling(world, *words, *([end] if "--until" in words else []))
+    peer.send(b"one\r\0")
+    with open(end, "wb"):
+        pass
+    expect_in_order(peer.read_to_end(), last)
+    expect(b"reached" not in serving.end(None), "it is noted that the service was not reached")
+
+
+@case
+def who_leaves_a_session_whose_service_is_dialled_frees_its_place(world):
+    _, _, serving, peer = dialling(world)
+    peer.reset()
+    serving.end(None)
+
+
+@case
+def a_service_is_dialled_for_as_long_as_is_asked_for(world):
+    _, _, serving, peer = dialling(world, "--dial", "2")
+    began = time.monotonic()
+    expect_in_order(peer.read_to_end(), b"the service cannot be reached\r\n")
+    expect(1 < time.monotonic() - began < 8, "it is dialled for another time")
+    printed = serving.end(None)
+    expect(re.search(rb"ended: service not reached: 127\.0\.0\.1:\d+: [^\n]*timed out[^\n]*\n\Z", printed), f"printed is {printed!r}")
+
+
+@case(each={"^D": (b"\x04", False), "its user's end": (b"", True)})
+def what_is_typed_while_a_service_is_dialled_goes_there_in_order(world, end, is_left):
+    lines = b"".join(b"line %d\n" % n for n in range(600))
+    listener, waiting, serving, peer = dialling(world)
+    peer.send(lines.replace(b"\n", b"\r\0") + end)
+    time.sleep(0.7)  # So that it is dialled more than once.
+    for _ in waiting:
+        with contextlib.suppress(TimeoutError):
+            listener.listener.settimeout(0.2)
+            listener.listener.accept()[0].close()
+    listener.accept()
+    if is_left:
+        peer.connection.shutdown(socket.SHUT_WR)
+    expect_same(lines, listener.read_rest(), "what the service got")
+    listener.send(b"bye\n")
+    listener.close()
+    expect_in_order(peer.read_to_end(), b"bye\r\n")
+    serving.end()
 
 
 @case(each={"nothing": (b"",), "a line": (b"so long\n",), "20,000 lines": (b"".join(b"line %d\n" % n for n in range(20_000)),)})
@@ -260,6 +366,59 @@ def a_service_may_answer_after_its_user_has_left(world):
     serving.end()
 
 
+@case
+def a_service_gets_the_end_of_a_user_after_all_that_was_typed(world):
+    """A service that reads to the end answers only then: the user, who sends no more, still reads it."""
+    lines = b"".join(b"line %07d\n" % n for n in range(2_000))
+    service, serving = joined(world, services.listening)
+    peer = peer_of(world, serving)
+    peer.send(lines.replace(b"\n", b"\r\0"))
+    expect_in_order(peer.leave(), b"bye\r\n")
+    expect_same(lines, service.end(), "what the service got")
+    serving.end()
+
+
+def seconds_to_leave(world, leave, talk):
+    """How long a place is held after its user has left."""
+    service, serving = joined(world, talk)
+    peer = peer_of(world, serving)
+    peer.send(b"one\r\0")
+    service.wait_for(b"one\n")
+    peer.read_while(lambda: True, 0.2)  # So that it is closed in order.
+    left = time.monotonic()
+    leave(service, peer)
+    serving.end(None)
+    return time.monotonic() - left
+
+
+def close(_, peer):
+    peer.connection.close()
+
+
+def reset(_, peer):
+    peer.reset()
+
+
+def end_and_reset(service, peer):
+    peer.connection.shutdown(socket.SHUT_WR)
+    wait_until(lambda: service.has_ended, "the service gets the end")
+    peer.reset()
+
+
+def staying(service, connection):
+    """Does nothing at the end of what its user sends, until that is answered by a reset or so."""
+    service.read_all(connection)
+    with contextlib.suppress(OSError):
+        for _ in range(100):
+            connection.sendall(b".")
+            time.sleep(0.1)
+
+
+@case(alone=True, each={"closes": (close, Service.read_all), "resets": (reset, Service.read_all), "ends, and then resets": (end_and_reset, staying)})
+def a_place_is_free_soon_after_its_user(world, leave, talk):
+    expect(any(seconds_to_leave(world, leave, talk) < 0.5 for _ in range(4)), "it takes more than half a second as a rule")
+
+
 @case(long=True, seconds=1_200, each={"60,000 at the server": (60_000,), "60,000 at the client": (60_000, "--local")})
 @case(each={"8,000 at the server": (8_000,), "8,000 at the client": (8_000, "--local")})
 def each_edited_line_goes_to_a_service_that_reads_late(world, count, *words):
@@ -296,6 +455,7 @@ def megabytes_that_a_user_does_not_read_take_no_memory(world, megabytes):
     if serving.has_sanitizer():
         raise NotTried("this program keeps the memory that it has freed")
     peer = peer_of(world, serving).is_served()
+    once_joined(service, serving)
     before, most, done = serving.memory(), 0, threading.Event()
     service.go_on.set()
     time.sleep(3)  # So long nobody reads.

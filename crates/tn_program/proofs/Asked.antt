@@ -40,12 +40,12 @@ answers facts left turned result options options' ticks ticks' so often counted 
     (subst (λ (n : ℕ). Counted facts left turned result options (AnswersAsAsked n)) often counted)
 
 pub joins : {H N J : Type 0} (facts : Joiner H N → JobFacts J) (left : Joiner H N → Option ℕ) (turned : TcpStream → Type 0) (result : Result Served ServeFault)
-    (rt : H) (port : ℕ) (options options' : SessionOptions) (name name' : List ℕ) (ends ends' : LineFormat) → options ≡ options' → name ≡ name' → ends ≡ ends'
-    → Counted facts left turned result options (JoinsAsAsked rt name port ends) → Counted facts left turned result options' (JoinsAsAsked rt name' port ends')
-joins facts left turned result rt port options options' name name' ends ends' so named ended counted =
-    subst (λ (o : SessionOptions). Counted facts left turned result o (JoinsAsAsked rt name' port ends')) so
-    (subst (λ (n : List ℕ). Counted facts left turned result options (JoinsAsAsked rt n port ends')) named
-    (subst (λ (e : LineFormat). Counted facts left turned result options (JoinsAsAsked rt name port e)) ended counted))
+    (rt : H) (port seconds : ℕ) (options options' : SessionOptions) (name name' : List ℕ) (ends ends' : LineFormat) → options ≡ options' → name ≡ name' → ends ≡ ends'
+    → Counted facts left turned result options (JoinsAsAsked rt name port seconds ends) → Counted facts left turned result options' (JoinsAsAsked rt name' port seconds ends')
+joins facts left turned result rt port seconds options options' name name' ends ends' so named ended counted =
+    subst (λ (o : SessionOptions). Counted facts left turned result o (JoinsAsAsked rt name' port seconds ends')) so
+    (subst (λ (n : List ℕ). Counted facts left turned result options (JoinsAsAsked rt n port seconds ends')) named
+    (subst (λ (e : LineFormat). Counted facts left turned result options (JoinsAsAsked rt name port seconds e)) ended counted))
 
 -- a server that is joined to no service has counted sessions of its own job
 pub counted_alone : {T : Type 0} (result : Result Served ServeFault) (to : Option T) (own : Served → Type 0) (joined : T → Served → Type 0) → to ≡ None

@@ -67,14 +67,16 @@ lines_as asked =
       sends_signals = asked.sends_signals;
     }
 
--- the jobs are still to be joined, over this network, to the service at this host and port, where lines go so
-pub record JoinsAsAsked {H N : Type 0} (network : H) (name : List ℕ) (number : ℕ) (so : LineFormat)
+-- the jobs are still to be joined, over this network, to the service at this host and port, which is dialled for
+-- so many seconds; lines go there so
+pub record JoinsAsAsked {H N : Type 0} (network : H) (name : List ℕ) (number seconds : ℕ) (so : LineFormat)
     (jobs : Joiner H N)
     : Type 0 where
   pub new : IsSome jobs.hook
   pub rt : jobs.rt ≡ network
   pub host : string_bytes jobs.host ≡ name
   pub port : jobs.port ≡ number
+  pub patience : jobs.patience ≡ seconds
   pub lines : jobs.lines ≡ so
 
 -- a window of which no size is given has 80 characters and 24 lines

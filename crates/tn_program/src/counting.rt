@@ -1,11 +1,12 @@
 //! What the servers of a machine may count.
 
 use crate::serving::Noting;
-use std::net::TcpStream;
 use tn_jobs::Job;
 use tn_network::Network;
 use tn_serve::Host;
-use tn_services::{Answerer, Answerers, Gateway, Joiner, ServiceReader, ServiceWriter};
+use tn_services::{
+    Answerer, Answerers, Gateway, Heard, Joiner, ServiceReader, ServiceWriter, Told,
+};
 use tn_session::Maker;
 
 /// A machine at which `tn serve` runs. The relation holds of what a server counts that was asked for by these
@@ -33,12 +34,12 @@ impl<H: Host + Network> Serves for H {
         (options_as asked) (AnswersAsAsked asked.ticks) (WasTurnedAway (H.dismisses rt)))
         served.whole served.faulted served.refused)
         × IfSome asked.to (λ to. CountsSessions (server_of (facts_of
-        ⟦<Gateway<ServiceReader<H, TcpStream>, ServiceWriter<H, TcpStream, Noting<H>>> as Job>⟧.fresh
+        ⟦<Gateway<ServiceReader<H, Heard<H>>, ServiceWriter<H, Told<H>, Noting<H>>> as Job>⟧.fresh
         ⟦<Joiner<H, Noting<H>> as Maker>⟧.gives
-        ⟦<Gateway<ServiceReader<H, TcpStream>, ServiceWriter<H, TcpStream, Noting<H>>> as Job>⟧.reacts
-        ⟦<Gateway<ServiceReader<H, TcpStream>, ServiceWriter<H, TcpStream, Noting<H>>> as Job>⟧.steps
-        ⟦<Gateway<ServiceReader<H, TcpStream>, ServiceWriter<H, TcpStream, Noting<H>>> as Job>⟧.refuses)
+        ⟦<Gateway<ServiceReader<H, Heard<H>>, ServiceWriter<H, Told<H>, Noting<H>>> as Job>⟧.reacts
+        ⟦<Gateway<ServiceReader<H, Heard<H>>, ServiceWriter<H, Told<H>, Noting<H>>> as Job>⟧.steps
+        ⟦<Gateway<ServiceReader<H, Heard<H>>, ServiceWriter<H, Told<H>, Noting<H>>> as Job>⟧.refuses)
         ⟦<Joiner<H, Noting<H>> as Maker>⟧.left
-        (options_as asked) (JoinsAsAsked rt (string_bytes to.host) to.port (lines_as asked))
+        (options_as asked) (JoinsAsAsked rt (string_bytes to.host) to.port asked.dial (lines_as asked))
         (WasTurnedAway (H.dismisses rt))) served.whole served.faulted served.refused) };
 }

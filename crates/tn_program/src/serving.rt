@@ -14,11 +14,12 @@ use crate::settings::{answering_of, lines_of, note_level_of, note_style_of, serv
 use crate::watching::{AtFile, Lookout};
 use log::{Log, Logged};
 use std::alloc::{AllocError, Global};
-use std::net::TcpStream;
 use std::sync::{Arc, Wait};
 use tn_network::Network;
 use tn_serve::{At, Call, Finished, Host, NoteWriter, Notes, ServeFault, Served, Service, serve};
-use tn_services::{Gateway, HearsCut, Joiner, LineFormat, ServiceReader, ServiceWriter};
+use tn_services::{
+    Gateway, Heard, HearsCut, Joiner, LineFormat, ServiceReader, ServiceWriter, Told,
+};
 
 /// Serves as was asked for, and writes notes to standard error: `is_journal` says that systemd's journal reads
 /// them. If it cannot listen, `causes` gets a line.
@@ -116,6 +117,7 @@ where
         rt,
         host: String::from_str(alloc, to.host.as_str())?,
         port: to.port,
+        patience: asked.dial,
         lines: lines_of(asked),
     };
     serve(rt, alloc, at, serving, until, service, log, causes)
@@ -146,6 +148,8 @@ pub struct Joining<H> {
     pub rt: H,
     pub host: String,
     pub port: u16,
+    /// For how many seconds a session dials it.
+    pub patience: u32,
     /// How lines go there.
     pub lines: LineFormat,
 }
@@ -167,18 +171,19 @@ impl<H: Host + Network> Service for Joining<H> {
     ghost use Rattle.std.specs.Prelude.{string_bytes};
     ghost use Rattle.tn_program.specs.Settings.{JoinsAsAsked};
 
-    type Job = Gateway<ServiceReader<H, TcpStream>, ServiceWriter<H, TcpStream, Noting<H>>>;
+    type Job = Gateway<ServiceReader<H, Heard<H>>, ServiceWriter<H, Told<H>, Noting<H>>>;
 
     type Jobs = Joiner<H, Noting<H>>;
 
-    ghost makes = { λ j jobs. JoinsAsAsked j.rt (string_bytes j.host) j.port j.lines jobs };
+    ghost makes = { λ j jobs. JoinsAsAsked j.rt (string_bytes j.host) j.port j.patience j.lines jobs };
 
     fn session(&mut self, alloc: Global, call: Call) -> Result<Joiner<H, Noting<H>>, AllocError> {
         let Call { hook, notes, .. } = call;
         let rt = self.rt;
         let host = String::from_str(alloc, self.host.as_str())?;
         let notes = Noting { rt, notes };
-        Ok(Joiner::new(rt, host, self.port, self.lines, hook, notes))
+        let (port, patience) = (self.port, self.patience);
+        Ok(Joiner::new(rt, host, port, patience, self.lines, hook, notes))
     }
 
     fn ended(&mut self, _number: usize, _finished: &Finished) {}

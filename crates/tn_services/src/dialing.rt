@@ -3,30 +3,28 @@
 ghost use Rattle.std.specs.Io.{ReadsAtMost, WritesAtMost};
 ghost use Rattle.std.specs.Io.KnownBytes.{ReadConsumes, WriteAppends};
 ghost use Rattle.std.specs.Prelude.{◌≡◌, ◌+◌, None, IfOk, IfSome, IsFalse, IsSome, IsTrue, OnErr};
-ghost use Rattle.std.specs.Prelude.{OnOk, option_map, string_bytes};
-ghost use Rattle.tn_services.specs.Dialing.{HearsAsTold, IsReached, bytes_left, bytes_held};
+ghost use Rattle.std.specs.Prelude.{OnOk, string_bytes};
+ghost use Rattle.tn_services.specs.Dialing.{IsToldTo};
 ghost use Rattle.tn_services.specs.HangingUp.{HangsUpAtEnd, IsLast};
 ghost use Rattle.tn_services.specs.Joining.{Connects, count};
-ghost use Rattle.tn_network.specs.Asked.{Reaches};
 ghost use Rattle.tn_sockets.specs.Passing.{HandsOn};
 
 use crate::cutting::{HearsCut, LineFormat};
 use crate::hanging_up::HangUp;
 use crate::joining::Gateway;
+use crate::joint::{Heard, Joint, LOOK, Told};
 use crate::makers::Gateways;
 use std::alloc::{AllocError, Global};
 use std::io;
 use std::io::{ErrorKind, Read, Write};
 use std::net::{Shutdown, TcpStream};
 use std::sync::atomic::{AtomicBool, Ordering};
-use std::sync::{Arc, Wait};
-use std::time::Duration;
-use tn_network::{Network, Unheard, reach};
+use std::sync::{Arc, OnceLock, Wait};
+use std::time::{Clock, Duration};
+use tn_network::Network;
 use tn_session::{Finish, Maker};
 use tn_sockets::{Closing, Hook};
-
-/// How many milliseconds a read or a write waits before it looks whether its session is over.
-const LOOK: u64 = 250;
+use tn_streams::is_interrupted;
 
 /// How often a write looks that at least, while the service takes nothing.
 const LOOKS: u32 = 20;
@@ -36,12 +34,6 @@ const LOOKS_A_SECOND: u32 = 4;
 
 /// How many milliseconds a read waits behind a carriage return, until that is shown by itself.
 const SOON: u64 = 20;
-
-/// What a user is told in place of what the service says.
-const UNREACHED: &[u8] = b"the service cannot be reached\n";
-
-/// A connection is waited for as long as the system waits.
-const AS_THE_SYSTEM: u32 = 0;
 
 /// A stream of which each read waits for a time that can be set.
 pub trait Pacing {
@@ -54,35 +46,26 @@ impl Pacing for TcpStream {
     }
 }
 
-// Both halves of a connection, of which each call waits for a short time.
-fn halves(stream: TcpStream) -> io::Result<(TcpStream, TcpStream)>
-    ensures { IfOk result (λ halves. halves.1 ≡ stream) }
-{
-    stream.set_nodelay(true)?;
-    stream.set_read_timeout(Some(Duration::from_millis(LOOK)))?;
-    stream.set_write_timeout(Some(Duration::from_millis(LOOK)))?;
-    let heard = stream.try_clone()?;
-    Ok((heard, stream))
-}
-
-/// Makes the jobs of one session that is joined to a line service: it connects to it for the first of them.
+/// Makes the jobs of one session that is joined to a line service. They connect to it while the session runs.
 #[derive(Drop)]
 pub struct Joiner<H, N> {
     rt: H,
     host: String,
     port: u16,
+    patience: u32,
     lines: LineFormat,
     hook: Option<(Hook, N)>,
-    jobs: Option<Gateways<ServiceReader<H, TcpStream>, ServiceWriter<H, TcpStream, N>>>,
+    jobs: Option<Gateways<ServiceReader<H, Heard<H>>, ServiceWriter<H, Told<H>, N>>>,
 }
 
 impl<H, N> Joiner<H, N> {
-    /// Jobs that are joined to the service at this host and port, hang up by this hook where it ends, and
-    /// tell `notes` of lines that may have been cut.
+    /// Jobs that are joined to the service at this host and port, which they dial for so many seconds at most.
+    /// They hang up by this hook once it ends, and tell `notes` of lines that may have been cut.
     pub fn new(
         rt: H,
         host: String,
         port: u16,
+        patience: u32,
         lines: LineFormat,
         hook: Hook,
         notes: N,
@@ -90,6 +73,7 @@ impl<H, N> Joiner<H, N> {
         ensures rt { result.rt ≡ rt }
         ensures host { result.host ≡ host }
         ensures port { result.port ≡ port }
+        ensures patience { result.patience ≡ patience }
         ensures lines { result.lines ≡ lines }
         ensures new { IsSome result.hook }
     {
@@ -97,6 +81,7 @@ impl<H, N> Joiner<H, N> {
             rt,
             host,
             port,
+            patience,
             lines,
             hook: Some((hook, notes)),
             jobs: None,
@@ -104,27 +89,22 @@ impl<H, N> Joiner<H, N> {
     }
 }
 
-impl<H: Copy + Network + Wait, N: Drop> Joiner<H, N> {
-    // Both halves of a connection to the service, or none where it is not reached; then it is noted why.
-    fn dial(&self, alloc: Global, hook: &Hook) -> Option<(TcpStream, TcpStream)>
-        ensures { IsReached (Reaches (H.finds self.now.rt (string_bytes self.now.host) self.now.port)
-            (H.dials self.now.rt)) (option_map (λ halves. halves.1) result) }
+impl<H: Clock + Copy + Network + Wait, N: Drop> Joiner<H, N> {
+    // The connection to the service, which is still to be made.
+    fn joint(&self, alloc: Global) -> Result<Arc<Joint, Global>, AllocError>
+        ensures host { IfOk result (λ joint.
+            string_bytes joint.value.host ≡ string_bytes self.now.host) }
+        ensures port { IfOk result (λ joint. joint.value.port ≡ self.now.port) }
+        ensures patience { IfOk result (λ joint. joint.value.patience ≡ self.now.patience) }
     {
-        let mut causes = Vec::new(alloc);
-        match reach(
-            &self.rt,
-            self.host.as_str(),
-            self.port,
-            AS_THE_SYSTEM,
-            &mut Unheard,
-            &mut causes,
-        ) {
-            Ok(stream) => halves(stream).ok(),
-            Err(_) => {
-                hook.note_unreached(&self.rt, causes);
-                None
-            },
-        }
+        let joint = Joint {
+            host: String::from_str(alloc, self.host.as_str())?,
+            port: self.port,
+            patience: self.patience,
+            stream: OnceLock::new(),
+            given_up: AtomicBool::new(false),
+        };
+        Ok(Arc::new(alloc, joint)?)
     }
 
     fn join(
@@ -132,34 +112,29 @@ impl<H: Copy + Network + Wait, N: Drop> Joiner<H, N> {
         alloc: Global,
         hook: Hook,
         notes: N,
-    ) -> Result<Gateways<ServiceReader<H, TcpStream>, ServiceWriter<H, TcpStream, N>>, AllocError>
+    ) -> Result<Gateways<ServiceReader<H, Heard<H>>, ServiceWriter<H, Told<H>, N>>, AllocError>
         ensures both { IfOk result (λ jobs. count jobs.writer + count jobs.reader ≡ 2) }
         ensures lines { IfOk result (λ jobs. jobs.lines ≡ self.now.lines) }
-        ensures reached { IfOk result (λ jobs. IfSome jobs.writer (λ told. IsReached
-            (Reaches (H.finds self.now.rt (string_bytes self.now.host) self.now.port) (H.dials self.now.rt))
-            told.stream)) }
+        ensures told { IfOk result (λ jobs. IfSome jobs.writer (λ writer. IsToldTo self.now.rt
+            (string_bytes self.now.host) self.now.port self.now.patience writer.stream)) }
         ensures heard { IfOk result (λ jobs. IfSome jobs.reader (λ reader.
-            IfSome jobs.writer (λ writer.
-            HearsAsTold reader.stream writer.stream reader.words.now))) }
+            IfSome jobs.writer (λ writer. (reader.stream.rt ≡ writer.stream.rt)
+            × (reader.stream.joint.value ≡ writer.stream.joint.value)))) }
     {
-        let rt = self.rt;
-        let (heard, told) = match self.dial(alloc, &hook) {
-            Some((heard, told)) => (Some(heard), Some(told)),
-            None => (None, None),
-        };
+        let joint = self.joint(alloc)?;
         hook.hold();
         let said_all = Arc::new(alloc, AtomicBool::new(false))?;
         let writer = ServiceWriter {
-            rt,
-            stream: told,
+            rt: self.rt,
+            stream: Told::new(self.rt, Arc::try_clone(&joint)?, hook.another()?),
             hook: hook.another()?,
             said_all: Arc::try_clone(&said_all)?,
+            heeds_interrupts: !self.lines.sends_signals,
             notes,
         };
         let reader = ServiceReader {
-            rt,
-            stream: heard,
-            words: UNREACHED,
+            rt: self.rt,
+            stream: Heard::new(self.rt, alloc, joint, hook.another()?),
             hook,
             said_all,
             returned: false,
@@ -169,9 +144,9 @@ impl<H: Copy + Network + Wait, N: Drop> Joiner<H, N> {
 
     // Joins the session to the service, where that was not tried yet.
     fn connect(&mut self, alloc: Global) -> Result<(), AllocError>
-        ensures connects { OnOk result (Connects (λ told. IsReached (Reaches
-            (H.finds self.old.rt (string_bytes self.old.host) self.old.port) (H.dials self.old.rt))
-            told.stream) self.old.lines self.old.hook self.old.jobs self.new.jobs) }
+        ensures connects { OnOk result (Connects (λ writer. IsToldTo self.old.rt
+            (string_bytes self.old.host) self.old.port self.old.patience writer.stream)
+            self.old.lines self.old.hook self.old.jobs self.new.jobs) }
         ensures tried { self.new.hook ≡ None }
         ensures refused { OnErr result (IsSome self.old.hook) }
     {
@@ -183,25 +158,24 @@ impl<H: Copy + Network + Wait, N: Drop> Joiner<H, N> {
     }
 }
 
-impl<H: Copy + Network + Wait, N: HearsCut + Drop> Maker for Joiner<H, N> {
+impl<H: Clock + Copy + Network + Wait, N: HearsCut + Drop> Maker for Joiner<H, N> {
     ghost use Rattle.std.specs.Prelude.{Some, string_bytes};
-    ghost use Rattle.tn_services.specs.Dialing.{IsReached};
+    ghost use Rattle.tn_services.specs.Dialing.{IsToldTo};
     ghost use Rattle.tn_services.specs.Joining.{GivesReached, GivesSide, left_to_make};
-    ghost use Rattle.tn_network.specs.Asked.{Reaches};
 
-    type Job = Gateway<ServiceReader<H, TcpStream>, ServiceWriter<H, TcpStream, N>>;
+    type Job = Gateway<ServiceReader<H, Heard<H>>, ServiceWriter<H, Told<H>, N>>;
 
     ghost left = { λ joiner. Some (left_to_make joiner.hook joiner.jobs) };
 
     ghost gives = { λ old job new. GivesSide (left_to_make old.hook old.jobs) job
-        × GivesReached (λ told. IsReached (Reaches (H.finds old.rt (string_bytes old.host) old.port)
-        (H.dials old.rt)) told.stream) old.lines old.hook job };
+        × GivesReached (λ writer. IsToldTo old.rt (string_bytes old.host) old.port old.patience
+        writer.stream) old.lines old.hook job };
 
     fn next(
         &mut self,
         alloc: Global,
     ) -> Result<
-        Option<Gateway<ServiceReader<H, TcpStream>, ServiceWriter<H, TcpStream, N>>>,
+        Option<Gateway<ServiceReader<H, Heard<H>>, ServiceWriter<H, Told<H>, N>>>,
         AllocError,
     > {
         self.connect(alloc)?;
@@ -221,9 +195,7 @@ impl<H: Copy + Network + Wait, N: HearsCut + Drop> Maker for Joiner<H, N> {
 #[derive(Drop)]
 pub struct ServiceReader<H, S, K = Hook> {
     rt: H,
-    stream: Option<S>,
-    /// What is read where the service was not reached.
-    words: &'static [u8],
+    stream: S,
     hook: K,
     /// It has said all.
     said_all: Arc<AtomicBool, Global>,
@@ -262,36 +234,28 @@ fn hear<H: Wait, S: Read, K: HangUp>(
 impl<H: Copy + Wait, S: Drop + Read + Pacing, K: HangUp> ServiceReader<H, S, K> {
     fn hear(&mut self, buf: &mut [u8]) -> io::Result<usize>
         ensures bound { ReadsAtMost result buf.new }
-        ensures hands_on { HandsOn (bytes_left S.remaining self.old.stream self.old.words.now)
-            (bytes_left S.remaining self.new.stream self.new.words.now) result buf.new }
+        ensures hands_on { HandsOn (S.remaining self.old.stream) (S.remaining self.new.stream) result buf.new }
         ensures hook { self.new.hook ≡ self.old.hook }
     {
-        match &mut self.stream {
-            Some(stream) => hear(&self.rt, stream, &self.hook, self.returned, buf),
-            None => self.words.read(buf),
-        }
+        hear(&self.rt, &mut self.stream, &self.hook, self.returned, buf)
     }
 
     // From now on a read waits for as long as it may behind this last byte.
     fn pace(&mut self, returned: bool)
         ensures stream { self.new.stream ≡ self.old.stream }
-        ensures words { self.new.words ≡ self.old.words }
         ensures hook { self.new.hook ≡ self.old.hook }
     {
         if returned == self.returned {
             return;
         }
         self.returned = returned;
-        if let Some(stream) = &self.stream {
-            stream.wait_at_most(if returned { SOON } else { LOOK });
-        }
+        self.stream.wait_at_most(if returned { SOON } else { LOOK });
     }
 
     // Hangs up after the last read.
     fn end_after(&mut self, read: &io::Result<usize>)
         ensures ends { HangsUpAtEnd read.now (K.hung_up self.old.hook) (K.hung_up self.new.hook) }
         ensures stream { self.new.stream ≡ self.old.stream }
-        ensures words { self.new.words ≡ self.old.words }
     {
         if !is_last(read) {
             return;
@@ -305,8 +269,7 @@ impl<H: Copy + Wait, S: Drop + Read + Pacing, K: HangUp> Read for ServiceReader<
     fn read(&mut self, buf: &mut [u8]) -> io::Result<usize>
         ensures bound { ReadsAtMost result buf.new }
         ensures bytes { ReadConsumes None None result buf.new }
-        ensures hands_on { HandsOn (bytes_left S.remaining self.old.stream self.old.words.now)
-            (bytes_left S.remaining self.new.stream self.new.words.now) result buf.new }
+        ensures hands_on { HandsOn (S.remaining self.old.stream) (S.remaining self.new.stream) result buf.new }
         ensures ends { HangsUpAtEnd result (K.hung_up self.old.hook) (K.hung_up self.new.hook) }
     {
         let read = self.hear(buf);
@@ -317,25 +280,28 @@ impl<H: Copy + Wait, S: Drop + Read + Pacing, K: HangUp> Read for ServiceReader<
 }
 
 /// What the service is told. Where the session is over, or the service has said all, one that takes nothing
-/// is given up in time.
+/// is given up in time; at an interrupt it is given up at once.
 #[derive(Drop)]
 pub struct ServiceWriter<H, S, N> {
     rt: H,
-    stream: Option<S>,
+    stream: S,
     hook: Hook,
     said_all: Arc<AtomicBool, Global>,
+    /// Interrupts end the session, in place of going to the service.
+    heeds_interrupts: bool,
     /// It hears of lines that may have been cut.
     notes: N,
 }
 
 // tools/progress: d_gateway.pml, ANSWERS
-// Writes as much as the stream takes at once, until the session is
-// over, or the service has said all, and it takes nothing in time.
+// Writes as much as the stream takes at once, until the session is over, or the service has said all, and it
+// takes nothing in time; or until an interrupt waits, if that is to end the session.
 fn tell<H: Wait, S: Write>(
     rt: &H,
     stream: &mut S,
     hook: &Hook,
     said_all: &AtomicBool,
+    heeds_interrupts: bool,
     buf: &[u8],
 ) -> io::Result<usize>
     ensures bound { WritesAtMost result buf.now }
@@ -345,11 +311,11 @@ fn tell<H: Wait, S: Write>(
     for _ in rt.forever() {
         match stream.write(buf) {
             Ok(count) => return Ok(count),
-            Err(error) if is_timeout(&error) => {},
+            Err(error) if is_timeout(&error) => looks = looks.saturating_add(1),
+            Err(error) if is_interrupted(&error) => {},
             Err(error) => return Err(error),
         }
-        looks = looks.saturating_add(1);
-        if looks >= LOOKS && is_to_end(hook, said_all) {
+        if is_given_up(looks, hook, said_all, heeds_interrupts) {
             break;
         }
         if is_late(looks, hook.patience()) {
@@ -361,13 +327,17 @@ fn tell<H: Wait, S: Write>(
 }
 
 impl<H: Copy + Wait, S: Drop + Write, N: Drop> Write for ServiceWriter<H, S, N> {
-    ghost contents = { λ told. bytes_held S.Write.contents told.stream };
+    ghost contents = { λ writer. S.Write.contents writer.stream };
 
     fn write(&mut self, buf: &[u8]) -> io::Result<usize> {
-        match &mut self.stream {
-            Some(stream) => tell(&self.rt, stream, &self.hook, &self.said_all, buf),
-            None => Err(io::Error::from(ErrorKind::NotConnected)),
-        }
+        tell(
+            &self.rt,
+            &mut self.stream,
+            &self.hook,
+            &self.said_all,
+            self.heeds_interrupts,
+            buf,
+        )
     }
 
     fn flush(&mut self) -> io::Result<()> {
@@ -377,9 +347,7 @@ impl<H: Copy + Wait, S: Drop + Write, N: Drop> Write for ServiceWriter<H, S, N> 
 
 impl<H: Copy + Wait, S: Drop + Write + Closing, N: Drop> Finish for ServiceWriter<H, S, N> {
     fn finish(&mut self) {
-        if let Some(stream) = &self.stream {
-            stream.close(Shutdown::Write);
-        }
+        self.stream.close(Shutdown::Write);
     }
 }
 
@@ -393,6 +361,14 @@ impl<H, S, N: HearsCut> HearsCut for ServiceWriter<H, S, N> {
 // left can't be seen where what he sent before fills the connection.
 fn is_late(looks: u32, patience: usize) -> bool {
     patience > 0 && (looks / LOOKS_A_SECOND) as usize >= patience
+}
+
+// Whether no more goes to the service, after so many looks at which it took nothing.
+fn is_given_up(looks: u32, hook: &Hook, said_all: &AtomicBool, heeds_interrupts: bool) -> bool {
+    if heeds_interrupts && hook.is_interrupted() {
+        return true;
+    }
+    looks >= LOOKS && is_to_end(hook, said_all)
 }
 
 // Whether the service is to be told no more than it takes: nothing more comes from the user than came by now,

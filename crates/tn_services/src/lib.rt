@@ -6,7 +6,7 @@
 //! ```
 //! let reaction = Answerer::new(0).entry(alloc, Entry::Eof)?;
 //! let jobs = Gateways::new(reader, writer, lines); // both halves of a connection, or any others
-//! let jobs = Joiner::new(rt, host, port, lines, hook, notes); // of a connection made for the first job
+//! let jobs = Joiner::new(rt, host, port, patience, lines, hook, notes); // of a connection made by them
 //! ```
 //!
 //! They know of no terminal: a session hands them what was typed. A gateway waits for nobody but its reader
@@ -20,6 +20,7 @@ pub use cutting::{HearsCut, LineFormat};
 pub use dialing::{Joiner, Pacing, ServiceReader, ServiceWriter};
 pub use hanging_up::HangUp;
 pub use joining::Gateway;
+pub use joint::{Heard, Joint, Told};
 pub use makers::Gateways;
 pub use sending::{SendingLines, Way};
 pub use showing::Showing;
@@ -31,6 +32,7 @@ mod cutting;
 mod dialing;
 mod hanging_up;
 mod joining;
+mod joint;
 pub mod laws;
 mod line_ends;
 mod makers;

@@ -96,6 +96,7 @@ serve = with_rules (codes "serve") (
     ∷ text_rule (codes "notes")
     ∷ text_rule (codes "metrics")
     ∷ text_rule (codes "to")
+    ∷ with_default (whole_rule (codes "dial") 1 86400) (codes "10")
     ∷ flag_rule (codes "crlf")
     ∷ flag_rule (codes "cr")
     ∷ text_rule (codes "line-cut")

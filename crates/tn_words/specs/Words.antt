@@ -156,6 +156,7 @@ pub record AsksServe (rows : List Row) (asked : ServeWords) : Type 0 where
   pub idle : HasNumber rows (codes "idle") 0 86400 asked.idle
   pub longest : HasNumber rows (codes "longest") 0 86400 asked.longest
   pub drain : HasNumber rows (codes "drain") 0 86400 asked.drain
+  pub dial : HasNumber rows (codes "dial") 1 86400 asked.dial
   pub proxied : HasFlag rows (codes "proxy") asked.proxied
   pub edited : HasFlag rows (codes "local") asked.local
   pub verbose : HasFlag rows (codes "verbose") asked.verbose

@@ -92,6 +92,13 @@ pub(crate) const DRAIN: Whole = Whole {
     most: 86_400,
 };
 
+/// At most a day.
+pub(crate) const DIAL: Whole = Whole {
+    name: "dial",
+    least: 1,
+    most: 86_400,
+};
+
 pub(crate) const WIDTH: Whole = Whole {
     name: "width",
     least: 0,
@@ -292,6 +299,11 @@ const SERVE_CHOICES: &[Choice] = &[
         TO,
         "HOST:PORT",
         "Joins each session to the line service there: lines go to it, and what it says comes back",
+    ),
+    Choice::Default(
+        DIAL,
+        "10",
+        "Tries for this many seconds to reach that service, while the session runs",
     ),
     Choice::Flag(
         CRLF,

@@ -143,6 +143,8 @@ pub struct ServeWords {
     /// How many seconds sessions have to end once no more are to begin, from 0 to 86,400; at 0 they take their
     /// time.
     pub drain: u32,
+    /// For how many seconds a session dials the service that it is joined to, from 1 to 86,400.
+    pub dial: u32,
     /// Whether connections are of a proxy, and begin with the line that says for whom.
     pub proxied: bool,
     /// Whether the client is asked to edit the lines.

@@ -16,7 +16,7 @@ ghost use Rattle.tn_words.specs.Words.{is_flagged, is_given, line_end_in, servic
 ghost use Rattle.tn_words.specs.Words.{service_line_end_in, usual_line};
 
 use crate::commands::{
-    CONNECT, COUNT, CR, CRLF, DECODE, DRAIN, ESCAPE, FOREVER, HEIGHT, HOST, IDLE, KEYS, LF, RETURN, LIMIT,
+    CONNECT, COUNT, CR, CRLF, DECODE, DIAL, DRAIN, ESCAPE, FOREVER, HEIGHT, HOST, IDLE, KEYS, LF, RETURN, LIMIT,
     LINE, LINE_CUT, LOCAL, LOCALLY, LOG, LONGEST, METRICS, MOST_PATH, NOTES, PATIENCE, PER_HOST,
     PLAIN, PORT, PROXIED, QUIET, REPLAY, SERVE, SIGNALS, TICKS, TIMEOUT, TO, TRACE, UNTIL, VERBOSE,
     VERSION_LINE, WAIT, WIDTH, WORLD, Whole, tn_command,
@@ -197,6 +197,7 @@ fn serving(alloc: Global, words: &ArgMatches<'_>) -> Result<ServeWords, WordsFau
         idle: numbers.idle,
         longest: numbers.longest,
         drain: numbers.drain,
+        dial: numbers.dial,
         proxied: numbers.proxied,
         local: numbers.local,
         verbose: numbers.verbose,
@@ -220,6 +221,7 @@ struct ServeNumbers {
     idle: u32,
     longest: u32,
     drain: u32,
+    dial: u32,
     proxied: bool,
     local: bool,
     verbose: bool,
@@ -240,6 +242,7 @@ fn serve_numbers(words: &ArgMatches<'_>) -> Option<ServeNumbers>
         idle: number(words, IDLE)?,
         longest: number(words, LONGEST)?,
         drain: number(words, DRAIN)?,
+        dial: number(words, DIAL)?,
         proxied: words.get_flag(PROXIED),
         local: words.get_flag(LOCALLY),
         verbose: words.get_flag(VERBOSE),

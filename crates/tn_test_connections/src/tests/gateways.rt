@@ -26,6 +26,7 @@ where
         rt,
         host: String::from_str(alloc, "127.0.0.1")?,
         port,
+        patience: 10,
         lines: LineFormat {
             line_end: LineEnd::CrLf,
             limit: Limit::standard(),

@@ -45,22 +45,22 @@ const ASKED: &[(&str, &str)] = &[
     (
         "tn serve --port 2323",
         "Serve(ServeWords { host: \"127.0.0.1\", port: 2323, sessions: 8, per_host: 64, count: Some(1), \
-         until: None, ticks: 0, line_limit: Limit { bytes: 255 }, idle: 0, longest: 0, drain: 5, proxied: false, \
+         until: None, ticks: 0, line_limit: Limit { bytes: 255 }, idle: 0, longest: 0, drain: 5, dial: 10, proxied: false, \
          local: false, verbose: false, logfmt: false, metrics: None, to: None, line_end: Lf, ends_cut: false, sends_signals: false })",
     ),
     (
         "tn serve --limit=64 --count 1000000 --ticks=1000 --host ::1 --line 4095 --idle 86400 \
-         --until /run/end --drain 86400 --proxy --per-host 2 --longest=3600 --local --verbose --notes logfmt --metrics /m --port=2323 --to [::1]:7 --crlf \
+         --until /run/end --drain 86400 --dial 1 --proxy --per-host 2 --longest=3600 --local --verbose --notes logfmt --metrics /m --port=2323 --to [::1]:7 --crlf \
          --line-cut end --signals send",
         "Serve(ServeWords { host: \"::1\", port: 2323, sessions: 64, per_host: 2, count: Some(1000000), \
          until: Some(\"/run/end\"), ticks: 1000, line_limit: Limit { bytes: 4095 }, idle: 86400, \
-         longest: 3600, drain: 86400, proxied: true, local: true, verbose: true, logfmt: true, metrics: Some(\"/m\"), to: Some(Address { host: \"::1\", port: 7 }), \
+         longest: 3600, drain: 86400, dial: 1, proxied: true, local: true, verbose: true, logfmt: true, metrics: Some(\"/m\"), to: Some(Address { host: \"::1\", port: 7 }), \
          line_end: CrLf, ends_cut: true, sends_signals: true })",
     ),
     (
         "tn serve --forever -p 7 --cr --to h:7 --line-cut=send",
         "Serve(ServeWords { host: \"127.0.0.1\", port: 7, sessions: 8, per_host: 64, count: None, \
-         until: None, ticks: 0, line_limit: Limit { bytes: 255 }, idle: 0, longest: 0, drain: 5, proxied: false, \
+         until: None, ticks: 0, line_limit: Limit { bytes: 255 }, idle: 0, longest: 0, drain: 5, dial: 10, proxied: false, \
          local: false, verbose: false, logfmt: false, metrics: None, to: Some(Address { host: \"h\", port: 7 }), line_end: Cr, ends_cut: false, sends_signals: false })",
     ),
     (
@@ -124,6 +124,9 @@ const REFUSED: &[&str] = &[
     "tn serve --port 7 --longest -1",
     "tn serve --port 7 --longest 86401",
     "tn serve --port 7 --longest 1 --longest 1",
+    "tn serve --port 7 --to h:1 --dial 0",
+    "tn serve --port 7 --to h:1 --dial 86401",
+    "tn serve --port 7 --to h:1 --dial 1 --dial 1",
     "tn serve --port 7 --count 0",
     "tn serve --port 7 --count 1000001",
     "tn serve --port 7 --ticks 1001",

@@ -14,7 +14,7 @@ returns-in_err-from_str-clause-listened g c = unless _ _ c.from_residual-in_err-
 pub returns-clause-counted : goal.returns-clause-counted
 returns-clause-counted g c =
     counted_joined c.serve-2.result c.args.asked.now.to c.in-Some.to _ _ c.in-Some.is
-    (joins _ _ _ _ c.args.rt c.in-Some.to.port _ _ _ _ _ _ c.serving_of-serving.ensures.options
+    (joins _ _ _ _ c.args.rt c.in-Some.to.port c.args.asked.now.dial _ _ _ _ _ _ c.serving_of-serving.ensures.options
     (c.in_ok-from_str.ensures.ok ∙ c.as_str-2.ensures.value) c.lines_of.ensures c.serve-2.ensures.each)
 
 pub returns-in_err-from_str-clause-caused : goal.returns-in_err-from_str-clause-caused

@@ -35,6 +35,10 @@ pub returns-in_err-number-3-clause-none : goal.returns-in_err-number-3-clause-no
 returns-in_err-number-3-clause-none c none asked asks =
     c.number-3.ensures.none c.in_err-number-3.was asked.drain asks.drain
 
+pub returns-in_err-number-4-clause-none : goal.returns-in_err-number-4-clause-none
+returns-in_err-number-4-clause-none c none asked asks =
+    c.number-4.ensures.none c.in_err-number-4.was asked.dial asks.dial
+
 pub returns-clause-asked : goal.returns-clause-asked
 returns-clause-asked c = record {
   port = c.in_ok-short_number.ensures.some;
@@ -45,6 +49,7 @@ returns-clause-asked c = record {
   idle = c.in_ok-number.ensures.some;
   longest = c.in_ok-number-2.ensures.some;
   drain = c.in_ok-number-3.ensures.some;
+  dial = c.in_ok-number-4.ensures.some;
   proxied = record {
     given = λ is. c.get_flag.ensures.value (one_text-rows (found_of c.args.words.now) (codes "proxy") ∙ is);
     not_given = λ is. c.get_flag.ensures.other (one_text-rows (found_of c.args.words.now) (codes "proxy") ∙ is);

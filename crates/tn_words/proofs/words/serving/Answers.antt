@@ -55,6 +55,7 @@ returns-clause-asked c =
       idle = numbers.idle;
       longest = numbers.longest;
       drain = numbers.drain;
+      dial = numbers.dial;
       proxied = numbers.proxied;
       edited = numbers.edited;
       verbose = numbers.verbose;

@@ -3,7 +3,7 @@ use Rattle.tn_services.specs.Joining.{count}
 use Rattle.tn_services.proofs.dialing.Joiner.join.Goals as goal
 
 pub returns-clause-both : goal.returns-clause-both
-returns-clause-both g c = ap₂ (λ w r. count w + count r) c.new-3.ensures.writer c.new-3.ensures.reader
+returns-clause-both g c = ap₂ (λ w r. count w + count r) c.new-5.ensures.writer c.new-5.ensures.reader
 
 pub returns-clause-lines : goal.returns-clause-lines
-returns-clause-lines g c = c.new-3.ensures.lines
+returns-clause-lines g c = c.new-5.ensures.lines

@@ -1,0 +1,223 @@
+//! The connection to a line service, which is made while its session runs.
+
+ghost use Rattle.std.specs.Io.{ReadsAtMost};
+ghost use Rattle.std.specs.Io.KnownBytes.{ReadConsumes};
+ghost use Rattle.std.specs.Prelude.{◌≡◌, None, string_bytes};
+ghost use Rattle.tn_network.specs.Asked.{Reaches};
+ghost use Rattle.tn_services.specs.Dialing.{unreached};
+
+use crate::dialing::Pacing;
+use std::alloc::Global;
+use std::io::{ErrorKind, Read, Write};
+use std::net::{Shutdown, TcpStream};
+use std::sync::atomic::{AtomicBool, Ordering};
+use std::sync::{Arc, OnceLock, Wait};
+use std::time::{Clock, Duration, Instant};
+use std::{io, thread};
+use tn_network::{Network, Unheard, reach_within};
+use tn_sockets::{Closing, Hook};
+
+/// How many milliseconds a read or a write waits before it looks whether its session is over.
+pub(crate) const LOOK: u64 = 250;
+
+/// How many milliseconds each address is waited for, before it is looked whether the session is over.
+const SLICE: u64 = 500;
+
+/// After how many milliseconds without a connection an address is asked again.
+const WAITED: u64 = 400;
+
+/// How often a write looks for the connection until then, and how many milliseconds lie between.
+const WAITS: u8 = 25;
+
+const WAIT: u64 = 10;
+
+/// What a user reads in place of what the service says.
+const UNREACHED: &[u8] = b"the service cannot be reached\n";
+
+/// The connection to a line service, as both sides of a session have it: the one that reads makes it.
+#[derive(Drop)]
+pub struct Joint {
+    pub(crate) host: String,
+    pub(crate) port: u16,
+    /// For how many seconds the service is dialled.
+    pub(crate) patience: u32,
+    pub(crate) stream: OnceLock<TcpStream>,
+    /// The service is not dialled any more.
+    pub(crate) given_up: AtomicBool,
+}
+
+impl Joint {
+    // Keeps the connection. If it cannot be used, the service is given up.
+    fn keep<R: Wait>(&self, rt: &R, stream: TcpStream, hook: &Hook) {
+        match prepared(&stream) {
+            Ok(onward) => {
+                let _ = self.stream.set(rt, stream);
+                hook.join(rt, onward);
+            },
+            Err(_) => self.give_up(),
+        }
+    }
+
+    fn give_up(&self) {
+        self.given_up.store(true, Ordering::SeqCst);
+    }
+
+    fn is_given_up(&self) -> bool {
+        self.given_up.load(Ordering::SeqCst)
+    }
+}
+
+// Sets for how long a call of the connection waits: for a short time. Returns one more handle of it.
+fn prepared(stream: &TcpStream) -> io::Result<TcpStream> {
+    stream.set_nodelay(true)?;
+    stream.set_read_timeout(Some(Duration::from_millis(LOOK)))?;
+    stream.set_write_timeout(Some(Duration::from_millis(LOOK)))?;
+    stream.try_clone()
+}
+
+/// What the service says. The first reads dial it, and each of them waits for a short time.
+#[derive(Drop)]
+pub struct Heard<H> {
+    pub(crate) rt: H,
+    pub(crate) joint: Arc<Joint, Global>,
+    alloc: Global,
+    hook: Hook,
+    /// When it was dialled first.
+    began: Option<Instant>,
+    /// What is read if the service was not reached.
+    words: &'static [u8],
+}
+
+impl<H> Heard<H> {
+    pub(crate) fn new(rt: H, alloc: Global, joint: Arc<Joint, Global>, hook: Hook) -> Heard<H>
+        ensures rt { result.rt ≡ rt }
+        ensures joint { result.joint ≡ joint }
+        ensures words { result.words.now ≡ unreached }
+    {
+        Heard {
+            rt,
+            joint,
+            alloc,
+            hook,
+            began: None,
+            words: UNREACHED,
+        }
+    }
+}
+
+impl<H: Clock + Copy + Network + Wait> Heard<H> {
+    // Asks each address once, for a short time.
+    fn ask(&self, causes: &mut Vec<u8>) -> io::Result<TcpStream>
+        ensures { Reaches (H.finds self.now.rt (string_bytes self.now.joint.value.host)
+            self.now.joint.value.port) (H.dials self.now.rt) result }
+    {
+        let time = Some(Duration::from_millis(SLICE));
+        let joint = &*self.joint;
+        let host = joint.host.as_str();
+        reach_within(&self.rt, host, joint.port, time, &mut Unheard, causes)
+    }
+
+    // Dials, for a short time. The service is given up once it was dialled for long enough, or if no address kept
+    // it waiting; then it is noted why.
+    fn dial(&mut self) {
+        let now = Instant::now(&self.rt).ok();
+        if self.began.is_none() {
+            self.began = now;
+        }
+        let mut causes = Vec::new(self.alloc);
+        match self.ask(&mut causes) {
+            Ok(stream) => self.joint.keep(&self.rt, stream, &self.hook),
+            Err(_) => {
+                if self.waited(now) >= WAITED && self.waited(self.began) < self.patience() {
+                    return;
+                }
+                self.hook.note_unreached(&self.rt, causes);
+                self.joint.give_up();
+            },
+        }
+    }
+
+    // How many milliseconds it was dialled for since this moment. Without a clock none.
+    fn waited(&self, moment: Option<Instant>) -> u64 {
+        match moment.map(|moment| moment.elapsed(&self.rt)) {
+            Some(Ok(elapsed)) => u64::try_from(elapsed.as_millis()).unwrap_or(u64::MAX),
+            _ => 0,
+        }
+    }
+
+    // For how many milliseconds it is dialled.
+    fn patience(&self) -> u64 {
+        u64::from(self.joint.patience).saturating_mul(1_000)
+    }
+}
+
+impl<H: Clock + Copy + Network + Wait> Read for Heard<H> {
+    fn read(&mut self, buf: &mut [u8]) -> io::Result<usize>
+        ensures bound { ReadsAtMost result buf.new }
+        ensures bytes { ReadConsumes None None result buf.new }
+    {
+        if let Some(stream) = self.joint.stream.get() {
+            let mut stream = stream;
+            return stream.read(buf);
+        }
+        if self.joint.is_given_up() {
+            return self.words.read(buf);
+        }
+        self.dial();
+        Err(io::Error::from(ErrorKind::WouldBlock))
+    }
+}
+
+impl<H> Pacing for Heard<H> {
+    fn wait_at_most(&self, milliseconds: u64) {
+        if let Some(stream) = self.joint.stream.get() {
+            stream.wait_at_most(milliseconds);
+        }
+    }
+}
+
+/// What goes to the service. Until it is reached a write waits for a short time, and is to be made again.
+#[derive(Drop)]
+pub struct Told<H> {
+    pub(crate) rt: H,
+    pub(crate) joint: Arc<Joint, Global>,
+    hook: Hook,
+}
+
+impl<H> Told<H> {
+    pub(crate) fn new(rt: H, joint: Arc<Joint, Global>, hook: Hook) -> Told<H>
+        ensures rt { result.rt ≡ rt }
+        ensures joint { result.joint ≡ joint }
+    {
+        Told { rt, joint, hook }
+    }
+}
+
+impl<H: Clock + Drop> Write for Told<H> {
+    fn write(&mut self, buf: &[u8]) -> io::Result<usize> {
+        for _ in 0..WAITS {
+            if let Some(stream) = self.joint.stream.get() {
+                let mut stream = stream;
+                return stream.write(buf);
+            }
+            if self.joint.is_given_up() || self.hook.is_over() {
+                return Err(io::Error::from(ErrorKind::NotConnected));
+            }
+            thread::sleep(&self.rt, Duration::from_millis(WAIT));
+        }
+        Err(io::Error::from(ErrorKind::Interrupted))
+    }
+
+    fn flush(&mut self) -> io::Result<()> {
+        Ok(())
+    }
+}
+
+impl<H> Closing for Told<H> {
+    fn close(&self, how: Shutdown) {
+        match self.joint.stream.get() {
+            Some(stream) => stream.close(how),
+            None => self.hook.end(),
+        }
+    }
+}
