@@ -14,17 +14,17 @@ use std::sync::atomic::{AtomicBool, Ordering};
 use std::sync::{Arc, OnceLock, Wait};
 use std::time::{Clock, Duration, Instant};
 use std::{io, thread};
-use tn_network::{Network, Unheard, reach_within};
+use tn_network::{Network, Unheard, reach};
 use tn_sockets::{Closing, Hook};
 
 /// How many milliseconds a read or a write waits before it looks whether its session is over.
 pub(crate) const LOOK: u64 = 250;
 
-/// How many milliseconds each address is waited for, before it is looked whether the session is over.
-const SLICE: u64 = 500;
+/// How many seconds each address is waited for, before it is looked whether the session is over.
+const SLICE: u32 = 1;
 
 /// After how many milliseconds without a connection an address is asked again.
-const WAITED: u64 = 400;
+const WAITED: u64 = 900;
 
 /// How often a write looks for the connection until then, and how many milliseconds lie between.
 const WAITS: u8 = 25;
@@ -111,10 +111,9 @@ impl<H: Clock + Copy + Network + Wait> Heard<H> {
         ensures { Reaches (H.finds self.now.rt (string_bytes self.now.joint.value.host)
             self.now.joint.value.port) (H.dials self.now.rt) result }
     {
-        let time = Some(Duration::from_millis(SLICE));
         let joint = &*self.joint;
         let host = joint.host.as_str();
-        reach_within(&self.rt, host, joint.port, time, &mut Unheard, causes)
+        reach(&self.rt, host, joint.port, SLICE, &mut Unheard, causes)
     }
 
     // Dials, for a short time. The service is given up once it was dialled for long enough, or if no address kept
