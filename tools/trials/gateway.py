@@ -1,6 +1,7 @@
 """Sessions of `tn serve --to` that are joined to line services: what goes to them, what comes back, and how a session ends."""
 import contextlib
 import re
+import select
 import socket
 import threading
 import time
@@ -269,6 +270,13 @@ def a_service_is_dialled_for_as_long_as_is_asked_for(world):
     expect(re.search(rb"ended: service not reached: 127\.0\.0\.1:\d+: [^\n]*timed out[^\n]*\n\Z", printed), f"printed is {printed!r}")
 
 
+def accept_alive(listener):
+    """Accepts a connection that is in use, and none that was given up before it was accepted."""
+    listener.accept()
+    while not (select.select([listener.connection], [], [], 20)[0] and listener.connection.recv(1, socket.MSG_PEEK)):
+        listener.accept()
+
+
 @case(each={"^D": (b"\x04", False), "its user's end": (b"", True)})
 def what_is_typed_while_a_service_is_dialled_goes_there_in_order(world, end, is_left):
     lines = b"".join(b"line %d\n" % n for n in range(600))
@@ -279,7 +287,7 @@ def what_is_typed_while_a_service_is_dialled_goes_there_in_order(world, end, is_
         with contextlib.suppress(TimeoutError):
             listener.listener.settimeout(0.2)
             listener.listener.accept()[0].close()
-    listener.accept()
+    accept_alive(listener)
     if is_left:
         peer.connection.shutdown(socket.SHUT_WR)
     expect_same(lines, listener.read_rest(), "what the service got")
