@@ -9,7 +9,8 @@
 
 pub use commands::VERSION_LINE;
 pub use settings::{
-    Address, Characters, ConnectWords, Escape, Port, ReturnBytes, ServeWords, USUAL_HEIGHT, USUAL_WIDTH,
+    Address, Characters, ConnectWords, Escape, Port, ReturnBytes, ServeWords, USUAL_HEIGHT,
+    USUAL_WIDTH,
 };
 pub use tn_lines::LineEnd;
 pub use tn_network::{Dialing, Family};

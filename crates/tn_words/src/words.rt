@@ -16,10 +16,10 @@ ghost use Rattle.tn_words.specs.Words.{is_flagged, is_given, line_end_in, servic
 ghost use Rattle.tn_words.specs.Words.{service_line_end_in, usual_line};
 
 use crate::commands::{
-    CONNECT, COUNT, CR, CRLF, DECODE, DIAL, DRAIN, ESCAPE, FOREVER, HEIGHT, HOST, IDLE, KEYS, LF, RETURN, LIMIT,
-    LINE, LINE_CUT, LOCAL, LOCALLY, LOG, LONGEST, METRICS, MOST_PATH, NOTES, PATIENCE, PER_HOST,
-    PLAIN, PORT, PROXIED, QUIET, REPLAY, SERVE, SIGNALS, TICKS, TIMEOUT, TO, TRACE, UNTIL, VERBOSE,
-    VERSION_LINE, WAIT, WIDTH, WORLD, Whole, tn_command,
+    CONNECT, COUNT, CR, CRLF, DECODE, DIAL, DRAIN, ESCAPE, FOREVER, HEIGHT, HOST, IDLE, KEYS, LF,
+    LIMIT, LINE, LINE_CUT, LOCAL, LOCALLY, LOG, LONGEST, METRICS, MOST_PATH, NOTES, PATIENCE,
+    PER_HOST, PLAIN, PORT, PROXIED, QUIET, REPLAY, RETURN, SERVE, SIGNALS, TICKS, TIMEOUT, TO,
+    TRACE, UNTIL, VERBOSE, VERSION_LINE, WAIT, WIDTH, WORLD, Whole, tn_command,
 };
 use crate::dialing::{family_in, source_of};
 use crate::places::place_of;
@@ -100,12 +100,14 @@ pub(crate) enum Lack<'a> {
 
 const NO_LINE_END: &str = "'--lf' and '--cr' exclude each other, and need '--plain'";
 
-const NO_TELNET: &str = "'--plain' excludes '--escape', '--return', '--trace', '--width' and '--height'";
+const NO_TELNET: &str =
+    "'--plain' excludes '--escape', '--return', '--trace', '--width' and '--height'";
 
 const NO_ESCAPE: &str =
     "'--escape <C>': it is neither `none` nor a caret and one of A to Z, [, \\, ], ^ and _";
 
 const NO_RETURN: &str = "'--return <BYTES>': it is none of `crnul`, `crlf` and `lf`";
+
 const NO_CHARACTERS: &str = "'--keys <WHOSE>': it is neither `own` nor `standard`";
 
 const NO_SERVICE_LINE_END: &str = "'--crlf' and '--cr' exclude each other, and need '--to'";

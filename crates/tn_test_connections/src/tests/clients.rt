@@ -8,8 +8,8 @@ use std::test::Fail;
 use std::thread;
 use std::thread::JoinHandle;
 use tn_connect::{
-    ClientContext, ConnectFault, Connecting, Dialing, Host, KeySource, Link, News, ReturnKey, Screen,
-    connect,
+    ClientContext, ConnectFault, Connecting, Dialing, Host, KeySource, Link, News, ReturnKey,
+    Screen, connect,
 };
 use tn_discipline::Limit;
 
