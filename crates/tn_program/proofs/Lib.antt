@@ -2,4 +2,4 @@ pub mod Coming
 pub mod Asked
 pub mod Causes
 pub mod Origins
-pub mod Ports
+pub mod ServicePorts

@@ -5,7 +5,7 @@ use Rattle.tn_network.specs.Asked.{ReachesBy}
 use Rattle.tn_network.specs.Dialing.{suits}
 use Rattle.tn_network.specs.declared.dialing.Dialing.{Dialing}
 use Rattle.tn_program.proofs.Origins.{foreseen_as}
-use Rattle.tn_program.proofs.Ports.{any_port}
+use Rattle.tn_program.proofs.ServicePorts.{any_port}
 use Rattle.tn_session.specs.Facts.{Window}
 use Rattle.tn_streams.specs.Known.{KnownTyping}
 use Rattle.tn_program.proofs.program.run_connect.Goals as goal
