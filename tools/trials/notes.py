@@ -503,6 +503,7 @@ def notes_that_find_no_room_are_counted(world):
     told = Collected(reading)
     told.wait_for(b" notes were dropped\n")
     first.leave()
+    told.wait_for(b" ended: ")
     Peer(world, serving.port).is_served().leave()
     serving.end()
     lines = told.all().decode().splitlines()
