@@ -4,7 +4,7 @@ use Rattle.std.proofs.lemmas.List.Elements.{All-nil, All-cons}
 use Rattle.std.specs.Io.KnownBytes.{Appends}
 use Rattle.crossbeam_channel.specs.Claims.{view}
 use Rattle.tn_client.specs.declared.commands.UserCommand.TheVariants as user
-use Rattle.tn_machines.specs.client.Bringing.{Input, key_typed, command_sent}
+use Rattle.tn_machines.specs.client.Bringing.{Input, key_typed, command_sent, line_entered}
 use Rattle.tn_discipline.specs.Canon.{typed_entries}
 use Rattle.tn_discipline.specs.declared.reads.Entry.{Entry}
 use Rattle.tn_ends.specs.Programs.{Programs, AreTheirs, ReadsWhatIsTyped, HeadlineOfPrograms}
