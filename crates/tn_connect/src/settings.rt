@@ -42,7 +42,7 @@ pub struct Connecting {
     pub wait: u32,
     /// For how many seconds nothing may come after that; at 0 it may for ever.
     pub patience: u32,
-    /// Which addresses are tried, from where, and for how many seconds each.
+    /// Which addresses are tried, from which address of this machine, and for how many seconds each.
     pub dialing: Dialing,
 }
 
@@ -60,7 +60,7 @@ pub struct Plain {
     pub wait: u32,
     /// For how many seconds nothing may come after that; at 0 it may for ever.
     pub patience: u32,
-    /// Which addresses are tried, from where, and for how many seconds each.
+    /// Which addresses are tried, from which address of this machine, and for how many seconds each.
     pub dialing: Dialing,
 }
 

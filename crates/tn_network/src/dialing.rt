@@ -5,7 +5,7 @@ ghost use Rattle.tn_network.specs.Dialing.{family_of, is_of, suits};
 
 use std::net::{IpAddr, SocketAddr};
 
-/// For how many seconds an address is waited for at most where no time is given and another address is left.
+/// For how many seconds an address is waited for at most if no time is given and another address is left.
 const NEXT_AFTER: u32 = 2;
 
 /// A family of addresses.
@@ -43,6 +43,7 @@ impl Dialing {
     pub fn within(seconds: u32) -> Dialing
         ensures family { result.family ≡ None }
         ensures source { result.source ≡ None }
+        ensures seconds { result.seconds ≡ seconds }
     {
         Dialing {
             family: None,

@@ -39,7 +39,7 @@ pub fn reach<N: Network, T: Trying>(
 }
 
 /// Connects to a host, an address or a name: of its addresses that are asked for, to the first that takes a
-/// connection. Each is waited for as long as `dialing` says. Where none does, `causes` gets a line for each.
+/// connection. Each is waited for as long as `dialing` says. If none does, `causes` gets a line for each.
 pub fn reach_by<N: Network, T: Trying>(
     net: &N,
     host: &str,
@@ -101,7 +101,7 @@ fn count_suited(dialing: &Dialing, addresses: &HostAddrs) -> usize {
     count
 }
 
-// Notes why an address takes no connection, and from where it was asked for one.
+// Notes why an address takes no connection, and which address of this machine asked for one.
 fn note_refused(
     causes: &mut Vec<u8>,
     address: &SocketAddr,

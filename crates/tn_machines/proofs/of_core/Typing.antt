@@ -55,7 +55,7 @@ shown_front h keys front back text e f =
           ∙ append_assoc (text_shown h) text r.0,
     )
 
--- WHERE KEYS LEAD
+-- KEYS, one after another
 pub stands_keys : (h : History) (old : End) (keys : List ℕ) → LeadsTo h old → LeadsTo (types h keys) (end_after_keys old keys)
 stands_keys = folding.stands_after (λ h key. next h (typed key)) end_after_key LeadsTo (λ h old key s. stands h old (typed key) s)
 
