@@ -1,41 +1,24 @@
 -- How much a client end sends at most.
-use Rattle.std.proofs.Common.{◌∙◌, ◌≡◌, ◌≢◌, ℕ, ◌+◌, ◌-◌, ◌*◌, ◌≤◌, ◌==◌, Bool, true, false, not, ◌&&◌, ◌||◌, Option, Some, None, List, [], ◌∷◌, ◌++◌, length, take}
-use Rattle.std.proofs.Common.{drop, take-append-drop, refl, ap, arith, if◌then◌else◌}
-use Rattle.std.specs.Prelude.{bit_or}
-use Rattle.std.specs.Int.{w16, to_be_bytes}
-use Rattle.std.specs.Int.Bits.{or_add_and}
-use Rattle.std.proofs.lemmas.List.{map-append}
-use Rattle.std.proofs.lemmas.Nat.{and_le_r}
-use Rattle.tn_codes.specs.declared.codes.Command.{Command}
-use Rattle.tn_codes.specs.declared.payloads.Payload.{Payload}
-use Rattle.tn_codes.specs.declared.payloads.Payload.TheVariants.{Mode, ForwardOn, ForwardOff, ForwardYes, ForwardNo, Slc}
+use Rattle.std.proofs.Common.{◌∙◌, ◌≡◌, ◌≢◌, ℕ, ◌+◌, ◌-◌, ◌*◌, ◌≤◌, ◌==◌, Bool, true, false, not, ◌&&◌, ◌||◌, Option, Some, None, List, [], ◌∷◌, ◌++◌, length}
+use Rattle.std.proofs.{Common.{take, drop, take-append-drop, refl, ap, arith, if◌then◌else◌}, lemmas.{List.map-append, Nat.and_le_r}}
+use Rattle.std.specs.{Prelude.bit_or, Int.{w16, to_be_bytes, Bits.or_add_and}}
+use Rattle.tn_codes.specs.declared.{codes.Command.Command, payloads.Payload.{Payload, TheVariants.{Mode, ForwardOn, ForwardOff, ForwardYes, ForwardNo, Slc}}}
 use Rattle.tn_codes.specs.declared.triples.Triple.{Triple}
-use Rattle.tn_discipline.specs.Characters.{Characters}
-use Rattle.tn_discipline.specs.HalfLine.{HalfLine, is_full, has_held, has_ahead, line_after}
-use Rattle.tn_discipline.specs.Steps.{front}
-use Rattle.tn_discipline.specs.declared.keys.Role.{Role}
+use Rattle.tn_discipline.specs.{Characters.Characters, HalfLine.{HalfLine, is_full, has_held, has_ahead, line_after}, Steps.front, declared.keys.Role.Role}
 use Rattle.tn_discipline.specs.declared.keys.Role.TheVariants as role
-use Rattle.tn_linemode.specs.Exchange.{client_next, client_answer, client_answers, Answers}
-use Rattle.tn_linemode.specs.Modes.{edits, mode_of, is_acknowledged, mode_answer}
-use Rattle.tn_nvt.specs.Spelling.{cr, doubled_byte, doubled_bytes, spelling, Fits, lf}
-use Rattle.tn_nvt.specs.declared.items.Item.{Item}
-use Rattle.tn_nvt.specs.declared.items.Item.TheVariants.{Byte, Newline, Cmd, Neg, Sub}
+use Rattle.tn_linemode.specs.{Exchange.{client_next, client_answer, client_answers, Answers}, Modes.{edits, mode_of, is_acknowledged, mode_answer}}
+use Rattle.tn_linemode.specs.{Prefixes.IsRead, Words.{word_items, payload_items, mode_items, payload_under}}
+use Rattle.tn_nvt.specs.{Spelling.{cr, doubled_byte, doubled_bytes, spelling, Fits, lf}, declared.items.Item.{Item, TheVariants.{Byte, Newline, Cmd, Neg, Sub}}}
 use Rattle.tn_nvt.proofs.lemmas.Sizes.{doubled_within, total, total-append, weighs_at_most}
 use Rattle.tn_option.specs.Options.{Options, options_after_word, reply_to}
-use Rattle.tn_linemode.specs.Prefixes.{IsRead}
-use Rattle.tn_linemode.specs.Words.{word_items, payload_items, mode_items, payload_under}
 use Rattle.tn_linemode.proofs.lemmas.Sizes.{size, size-append, size-one, size-word, size-mode, size-list, size-triple, answers-size, says_under, size-came}
 use Rattle.tn_linemode.proofs.lemmas.Sizes.{size-least, size-params}
-use Rattle.tn_client.specs.Bounds.{held_sent, max_answered, max_of_calls, bytes_due}
-use Rattle.tn_client.specs.Events.{History, typed, got, resized, proposed, sent, begun, next, items, entered}
-use Rattle.tn_client.specs.Lines.{role_at, held_bytes, count_under, line}
+use Rattle.tn_client.specs.{Bounds.{held_sent, max_answered, max_of_calls, bytes_due}, Steps.{is_sent_now, line_sent, line_left, count_told, line_typed}}
+use Rattle.tn_client.specs.{Events.{History, typed, got, resized, proposed, sent, begun, next, items, entered}, Lines.{role_at, held_bytes, count_under, line}}
 use Rattle.tn_client.specs.Replies.{byte_items, command_of, command_items, raw_items, edited_key_items, sent_ahead_items, typed_items, sent_as, size_items}
 use Rattle.tn_client.specs.Replies.{new_size_items, payload_answers, answer_items, end_of_edit_items, is_same_size, resize_items, command_sent, replies}
-use Rattle.tn_client.specs.Replies.{items_said}
-use Rattle.tn_client.specs.Steps.{is_sent_now, line_sent, line_left, count_told, line_typed}
-use Rattle.tn_client.specs.Terms.{options, mode, forward, chars, size as window, linemode, tells_size, options_after, payload_at}
-use Rattle.tn_client.proofs.lemmas.Histories.{unedited-held}
-use Rattle.tn_client.proofs.lemmas.Lines.{line_next}
+use Rattle.tn_client.specs.{Replies.items_said, Terms.{options, mode, forward, chars, size as window, linemode, tells_size, options_after, payload_at}}
+use Rattle.tn_client.proofs.lemmas.{Histories.unedited-held, Lines.line_next}
 
 -- ANSWERS
 size-window : (z : ℕ × ℕ) → size (size_items z) ≤ 13

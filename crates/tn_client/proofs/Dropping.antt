@@ -1,15 +1,10 @@
 -- A piece of a subnegotiation that is discarded is not refused.
 use Rattle.std.proofs.Common.{◌≡◌, ℕ, List, [], ◌∷◌, ◌++◌}
-use Rattle.tn_nvt.specs.Feeding.{DecoderState, IsLetGo}
+use Rattle.tn_nvt.specs.{Feeding.{DecoderState, IsLetGo}, declared.items.Item.Item}
 use Rattle.tn_nvt.specs.Feeding as nvt
-use Rattle.tn_nvt.specs.declared.items.Item.{Item}
 use Rattle.tn_nvt.proofs.lemmas.Dropping.{gives_nothing, keeps_nothing}
 use Rattle.tn_linemode.specs.Prefixes.{WantsMemory}
-use Rattle.tn_client.specs.Answering.{StopsWithin, IsStopCause}
-use Rattle.tn_client.specs.Calls.{End}
-use Rattle.tn_client.specs.Course.{Course, stream, CourseLeadsTo}
-use Rattle.tn_client.specs.Events.{items}
-use Rattle.tn_client.specs.Steps.{end_after_items}
+use Rattle.tn_client.specs.{Answering.{StopsWithin, IsStopCause}, Calls.End, Course.{Course, stream, CourseLeadsTo}, Events.items, Steps.end_after_items}
 
 none_left : (done left : List Item) → done ++ left ≡ [] → left ≡ []
 none_left [] left e = e

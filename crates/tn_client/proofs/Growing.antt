@@ -1,9 +1,7 @@
 -- Spellings of bytes of data, and the room for them.
 use Rattle.std.proofs.Common.{◌≡◌, ◌≤◌, ◌<◌, ◌+◌, ℕ, zero, suc, List, [], ◌∷◌, ◌++◌, length, take, get_or, Vec, vec_capacity, refl, ap, length-append, arith}
 use Rattle.std.specs.List.{flat_map}
-use Rattle.tn_nvt.specs.Room.{LacksRoom}
-use Rattle.tn_nvt.specs.Spelling.{spelling, spells}
-use Rattle.tn_nvt.specs.declared.items.Item.TheVariants.{Byte}
+use Rattle.tn_nvt.specs.{Room.LacksRoom, Spelling.{spelling, spells}, declared.items.Item.TheVariants.Byte}
 use Rattle.tn_client.specs.Replies.{byte_items}
 
 -- bytes of data

@@ -1,23 +1,15 @@
 -- What a client end did while it was lent to its decoder.
 use Rattle.std.proofs.Common.{◌≡◌, ◌≢◌, ◌↔◌, ◌⊎◌, inl, inr, ℕ, List, [], ◌∷◌, ◌++◌, map, Result, Err, OnOk, IsErrOf, refl, sym, ap, ◌∙◌, append-nil, arith}
 use Rattle.std.proofs.Common.{subst}
-use Rattle.tn_nvt.specs.Spelling.{spells}
-use Rattle.tn_nvt.specs.Sinks.{IsRun, TakesEach, FeedsTo, StopsAtSink as RefusesRest, StopsForMemory, all_of, calls_of, bytes_of}
-use Rattle.tn_nvt.specs.Feeding.{DecoderState, failed, Advances}
+use Rattle.tn_nvt.specs.{Spelling.spells, Sinks.{IsRun, TakesEach, FeedsTo, StopsAtSink as RefusesRest, StopsForMemory, all_of, calls_of, bytes_of}}
+use Rattle.tn_nvt.specs.{Feeding.{DecoderState, failed, Advances}, declared.decoding.NvtFault.{NvtFault, TheVariants.{Memory, Failed, Refused}}}
+use Rattle.tn_nvt.specs.declared.items.Item.{Item, TheVariants.{Byte, Sub}}
 use Rattle.tn_nvt.specs.Feeding as nvt
-use Rattle.tn_nvt.specs.declared.decoding.NvtFault.{NvtFault}
-use Rattle.tn_nvt.specs.declared.decoding.NvtFault.TheVariants.{Memory, Failed, Refused}
-use Rattle.tn_nvt.specs.declared.items.Item.{Item}
-use Rattle.tn_nvt.specs.declared.items.Item.TheVariants.{Byte, Sub}
 use Rattle.tn_nvt.proofs.lemmas.Folding.{taken_all, refused_items, kept_by_all}
-use Rattle.tn_client.specs.Answering.{Feeds, IsStopCause, StopsWithin}
-use Rattle.tn_client.specs.Calls.{End, ReadsList}
-use Rattle.tn_client.specs.Terms.{payload_at}
-use Rattle.tn_client.specs.Screen.{item_shown}
+use Rattle.tn_client.specs.{Answering.{Feeds, IsStopCause, StopsWithin}, Calls.{End, ReadsList}, Terms.payload_at, Screen.item_shown, declared.taking.Lent.Lent}
 use Rattle.tn_client.specs.Steps.{end_after_item, says_got, says_sub, end_after_items, says_items, items_shown, MayWantMemory}
-use Rattle.tn_linemode.specs.Prefixes.{AppendsPrefix}
 use Rattle.tn_client.specs.Lending.{IsSameLoan, TakesItems, RefusesItems}
-use Rattle.tn_client.specs.declared.taking.Lent.{Lent}
+use Rattle.tn_linemode.specs.Prefixes.{AppendsPrefix}
 use Rattle.tn_linemode.proofs.lemmas.Cutting.{added_on, spelled_on, cons_some}
 use Rattle.tn_client.proofs.lemmas.Gathering.{after_both, says_both, shown_both, after_beside, says_beside, after_plain, says_plain, shown_plain}
 

@@ -1,9 +1,7 @@
 -- The roles of a key where ISIG is set, and where it is clear.
 use Rattle.std.proofs.Common.{◌≡◌, ℕ, Bool, true, false, ◌==◌, Option, Some, None, refl, if◌then◌else◌}
-use Rattle.tn_discipline.specs.Characters.{Characters, is_set_to}
+use Rattle.tn_discipline.specs.{Characters.{Characters, is_set_to}, declared.keys.Role.{Role, TheVariants.{Nl, Eol, Eol2, Eof, Erase, Kill, Signal}}}
 use Rattle.tn_discipline.specs.Keys.{standard_flags, mapped_key, signal_of, role_by_signal, role_of_mapped, role_or_ignored, role_of_key}
-use Rattle.tn_discipline.specs.declared.keys.Role.{Role}
-use Rattle.tn_discipline.specs.declared.keys.Role.TheVariants.{Nl, Eol, Eol2, Eof, Erase, Kill, Signal}
 use Rattle.tn_discipline.specs.declared.reads.Sig.{Sig}
 use Rattle.tn_client.specs.Lines.{settings_by}
 

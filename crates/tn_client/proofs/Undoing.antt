@@ -1,14 +1,11 @@
 -- A key whose line could not be sent ahead is taken back.
 use Rattle.std.proofs.Common.{◌≡◌, ℕ, Bool, true, false, Option, [], ◌∷◌, ◌++◌, sym, ap, ◌∙◌, if◌then◌else◌}
 use Rattle.tn_codes.specs.declared.masks.Mask.{Mask}
-use Rattle.tn_discipline.specs.HalfLine.{HalfLine, is_full, effect_of, line_after, line_erased}
-use Rattle.tn_discipline.specs.declared.half_line.Effect.{Effect}
+use Rattle.tn_discipline.specs.{HalfLine.{HalfLine, is_full, effect_of, line_after, line_erased}, declared.{half_line.Effect.Effect, keys.Role.Role}}
 use Rattle.tn_discipline.specs.declared.half_line.Effect.TheVariants as effect
-use Rattle.tn_discipline.specs.declared.keys.Role.{Role}
 use Rattle.tn_discipline.specs.declared.keys.Role.TheVariants as role
 use Rattle.tn_discipline.proofs.lemmas.Lines.{kept_erased}
-use Rattle.tn_client.specs.Calls.{End}
-use Rattle.tn_client.specs.Steps.{sends_where}
+use Rattle.tn_client.specs.{Calls.End, Steps.sends_where}
 
 -- a key that sends something ahead is an ordinary byte that was kept
 undone_by_test : (f : Option Mask) (l : HalfLine) (byte : ℕ) (full : Bool)

@@ -1,13 +1,10 @@
 -- What a call of a client end answers, what one does that is done, and what one leaves that is refused.
 use Rattle.std.specs.Prelude.{◌≡◌, ℕ, Option, None, List, [], ◌∷◌, ◌++◌, Result, Ok, Err}
 use Rattle.tn_linemode.specs.Prefixes.{WantsMemory}
-use Rattle.tn_nvt.specs.Feeding.{DecoderState}
+use Rattle.tn_nvt.specs.{Feeding.DecoderState, Spelling.spells, declared.items.Item.Item}
 use Rattle.tn_nvt.specs.Feeding as nvt
-use Rattle.tn_nvt.specs.Spelling.{spells}
-use Rattle.tn_nvt.specs.declared.items.Item.{Item}
-use Rattle.tn_client.specs.Calls.{End, IsFault}
+use Rattle.tn_client.specs.{Calls.{End, IsFault}, declared.faults.ClientFault.ClientFault}
 use Rattle.tn_client.specs.Steps.{says_got, end_after_items, says_items, items_shown, MayWantMemory}
-use Rattle.tn_client.specs.declared.faults.ClientFault.{ClientFault}
 
 -- A call that has such a cause is refused for it; one that has none is done, or refused for want of memory.
 abbrev pub AnswersBy : {T : Type 0} → Option ClientFault → Result T ClientFault → Type 0

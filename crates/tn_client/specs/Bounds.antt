@@ -1,13 +1,9 @@
 -- How much a client end sends at most, in bytes.
 use Rattle.std.specs.Prelude.{ℕ, ◌+◌, List, length}
 use Rattle.tn_linemode.specs.Modes.{edits}
-use Rattle.tn_nvt.specs.Spelling.{spelling, spells}
-use Rattle.tn_nvt.specs.declared.items.Item.{Item}
-use Rattle.tn_nvt.specs.declared.items.Item.TheVariants.{Neg, Sub}
+use Rattle.tn_nvt.specs.{Spelling.{spelling, spells}, declared.items.Item.{Item, TheVariants.{Neg, Sub}}}
 use Rattle.tn_client.specs.Events.{Event, typed, got, resized, proposed, sent, History, begun, next, entered}
-use Rattle.tn_client.specs.Lines.{held_bytes}
-use Rattle.tn_client.specs.Replies.{byte_items, end_of_edit_items, items_said}
-use Rattle.tn_client.specs.Terms.{mode}
+use Rattle.tn_client.specs.{Lines.held_bytes, Replies.{byte_items, end_of_edit_items, items_said}, Terms.mode}
 
 -- what is held of a line is sent at an item that ends EDIT, and none of it at any other
 abbrev pub held_sent : History → Item → List Item

@@ -1,16 +1,12 @@
 -- A client end as it is seen from outside, the end that a history leads to, and why a call is refused.
 use Rattle.std.specs.Prelude.{◌≡◌, ℕ, Bool, true, false, Option, Some, None, option_map, if◌then◌else◌}
-use Rattle.tn_codes.specs.declared.codes.Func.{Func}
-use Rattle.tn_codes.specs.declared.masks.Mask.{Mask}
-use Rattle.tn_discipline.specs.Characters.{Characters, char_fault}
-use Rattle.tn_discipline.specs.HalfLine.{HalfLine}
+use Rattle.tn_codes.specs.declared.{codes.Func.Func, masks.Mask.Mask}
+use Rattle.tn_discipline.specs.{Characters.{Characters, char_fault}, HalfLine.HalfLine}
 use Rattle.tn_discipline.specs.Advancing as discipline
-use Rattle.tn_nvt.specs.Feeding.{DecoderState}
-use Rattle.tn_nvt.specs.declared.items.Item.{Item}
+use Rattle.tn_nvt.specs.{Feeding.DecoderState, declared.items.Item.Item}
 use Rattle.tn_option.specs.Options.{Options}
 use Rattle.tn_linemode.specs.Words.{IsList}
-use Rattle.tn_client.specs.Events.{History}
-use Rattle.tn_client.specs.Terms.{options, mode, forward, chars, size, linemode, payload_at}
+use Rattle.tn_client.specs.{Events.History, Terms.{options, mode, forward, chars, size, linemode, payload_at}}
 use Rattle.tn_client.specs.Lines.{line_limit, edited_roles, ahead, count_under}
 use Rattle.tn_client.specs.declared.faults.ClientFault.{ClientFault}
 use Rattle.tn_client.specs.declared.faults.ClientFault.TheVariants as fault

@@ -3,9 +3,8 @@ use Rattle.std.specs.Prelude.{◌≡◌, ℕ, List, [], ◌++◌}
 use Rattle.tn_nvt.specs.Feeding as nvt
 use Rattle.tn_nvt.specs.declared.items.Item.{Item}
 use Rattle.tn_linemode.specs.Prefixes.{IsRead}
-use Rattle.tn_client.specs.Events.{Event, typed, got, resized, proposed, sent, History, begun, next, items, entered}
-use Rattle.tn_client.specs.Events.{gets}
-use Rattle.tn_client.specs.Calls.{End, LeadsTo}
+use Rattle.tn_client.specs.Events.{Event, typed, got, resized, proposed, sent, History, begun, next, items}
+use Rattle.tn_client.specs.{Events.{entered, gets}, Calls.{End, LeadsTo}}
 
 pub data Course : Type 0 where
   -- with a window of this width and height, and lines of at most so many bytes

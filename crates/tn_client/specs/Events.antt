@@ -2,8 +2,7 @@
 -- characters are proposed, and commands are sent.
 use Rattle.std.specs.Prelude.{ℕ, Option, List, [], ◌∷◌, ◌++◌}
 use Rattle.tn_codes.specs.declared.codes.Func.{Func}
-use Rattle.tn_nvt.specs.Spelling.{lf}
-use Rattle.tn_nvt.specs.declared.items.Item.{Item}
+use Rattle.tn_nvt.specs.{Spelling.lf, declared.items.Item.Item}
 use Rattle.tn_linemode.specs.Folding.{after_all}
 use Rattle.tn_client.specs.declared.commands.UserCommand.{UserCommand}
 

@@ -1,8 +1,7 @@
 -- What a client end takes while it is lent to its decoder.
 use Rattle.std.specs.Prelude.{◌≡◌, List, ◌∷◌, ◌++◌}
 use Rattle.tn_linemode.specs.Prefixes.{AppendsPrefix}
-use Rattle.tn_nvt.specs.Spelling.{spells}
-use Rattle.tn_nvt.specs.declared.items.Item.{Item}
+use Rattle.tn_nvt.specs.{Spelling.spells, declared.items.Item.Item}
 use Rattle.tn_client.specs.Steps.{says_got, end_after_items, says_items, items_shown, MayWantMemory}
 use Rattle.tn_client.specs.declared.taking.Lent.{Lent}
 

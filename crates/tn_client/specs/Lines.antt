@@ -1,20 +1,14 @@
 -- The half line that is edited at a client end, and its two parts.
 use Rattle.std.specs.Prelude.{ℕ, min, Bool, true, false, not, ◌&&◌, Option, Some, None, List, [], ◌∷◌, ◌++◌}
 use Rattle.std.specs.Prelude.{length, drop, if◌then◌else◌}
-use Rattle.tn_codes.specs.Masks.{has_character}
-use Rattle.tn_codes.specs.declared.masks.Mask.{Mask}
-use Rattle.tn_discipline.specs.Admitted.{is_dropped, count_of}
-use Rattle.tn_discipline.specs.Characters.{Characters}
-use Rattle.tn_discipline.specs.Keys.{standard_flags, role_of_key, roles_from}
-use Rattle.tn_discipline.specs.Entries.{half_of}
-use Rattle.tn_discipline.specs.HalfLine.{HalfLine}
-use Rattle.tn_discipline.specs.declared.keys.Role.{Role}
+use Rattle.tn_codes.specs.{Masks.has_character, declared.masks.Mask.Mask}
+use Rattle.tn_discipline.specs.{Admitted.{is_dropped, count_of}, Characters.Characters, Entries.half_of}
+use Rattle.tn_discipline.specs.{Keys.{standard_flags, role_of_key, roles_from}, HalfLine.HalfLine}
+use Rattle.tn_discipline.specs.declared.{keys.Role.Role, termios.Settings.Settings}
 use Rattle.tn_discipline.specs.declared.keys.Role.TheVariants as role
-use Rattle.tn_discipline.specs.declared.termios.Settings.{Settings}
 use Rattle.tn_linemode.specs.Modes.{edits, traps}
 use Rattle.tn_nvt.specs.Spelling.{lf}
-use Rattle.tn_client.specs.Events.{typed, got, History, begun, next, entered}
-use Rattle.tn_client.specs.Terms.{mode, forward, chars}
+use Rattle.tn_client.specs.{Events.{typed, got, History, begun, next, entered}, Terms.{mode, forward, chars}}
 
 -- the settings that a client has its keys by: a carriage return ends the line as a line feed does, the
 -- characters are those of its table, and ISIG is TRAPSIG

@@ -1,31 +1,22 @@
 -- What a client end says: items, one after another.
 use Rattle.std.specs.Prelude.{ℕ, Bool, true, false, not, ◌&&◌, ◌==◌, Option, Some, None, List, [], ◌∷◌, ◌++◌}
 use Rattle.std.specs.Prelude.{map, if◌then◌else◌}
-use Rattle.tn_codes.specs.declared.codes.Command.{Command}
-use Rattle.tn_codes.specs.declared.codes.Command.TheVariants as command
-use Rattle.tn_codes.specs.declared.codes.Func.{Func}
-use Rattle.tn_codes.specs.declared.codes.Func.TheVariants as func
-use Rattle.tn_codes.specs.declared.masks.Mask.{Mask}
-use Rattle.tn_codes.specs.declared.payloads.Payload.{Payload}
-use Rattle.tn_codes.specs.declared.payloads.Payload.TheVariants.{Naws, Mode, ForwardOn, ForwardOff}
+use Rattle.tn_codes.specs.declared.{codes.{Command.Command, Func.Func}, masks.Mask.Mask}
+use Rattle.tn_codes.specs.declared.payloads.Payload.{Payload, TheVariants.{Naws, Mode, ForwardOn, ForwardOff}}
 use Rattle.tn_codes.specs.declared.payloads.Payload.TheVariants.{ForwardYes, ForwardNo, Slc}
-use Rattle.tn_discipline.specs.Characters.{Characters}
+use Rattle.tn_codes.specs.declared.codes.Command.TheVariants as command
+use Rattle.tn_codes.specs.declared.codes.Func.TheVariants as func
+use Rattle.tn_discipline.specs.{Characters.Characters, declared.keys.Role.Role}
 use Rattle.tn_discipline.specs.HalfLine.{HalfLine, line_length, has_held, has_ahead, line_after}
-use Rattle.tn_discipline.specs.declared.keys.Role.{Role}
-use Rattle.tn_discipline.specs.declared.keys.Role.TheVariants as role
 use Rattle.tn_discipline.specs.declared.reads.Sig.TheVariants.{Int, Quit, Tstp}
-use Rattle.tn_linemode.specs.Modes.{edits, mode_answer}
-use Rattle.tn_linemode.specs.Exchange.{client_answers}
-use Rattle.tn_linemode.specs.Triples.{triple_of}
-use Rattle.tn_nvt.specs.declared.items.Item.{Item}
-use Rattle.tn_nvt.specs.declared.items.Item.TheVariants.{Byte, Newline, Cmd, Neg, Sub}
-use Rattle.tn_option.specs.Options.{Options, reply_to}
+use Rattle.tn_discipline.specs.declared.keys.Role.TheVariants as role
+use Rattle.tn_linemode.specs.{Modes.{edits, mode_answer}, Exchange.client_answers, Triples.triple_of}
 use Rattle.tn_linemode.specs.Words.{word_items, payload_items, mode_items, list_items}
-use Rattle.tn_nvt.specs.Spelling.{lf}
+use Rattle.tn_nvt.specs.{declared.items.Item.{Item, TheVariants.{Byte, Newline, Cmd, Neg, Sub}}, Spelling.lf}
+use Rattle.tn_option.specs.Options.{Options, reply_to}
 use Rattle.tn_client.specs.Events.{Event, typed, got, resized, proposed, sent, History, begun, next, entered}
 use Rattle.tn_client.specs.Terms.{options, mode, forward, chars, size, payload_at, options_after, mode_at}
-use Rattle.tn_client.specs.Terms.{tells_size}
-use Rattle.tn_client.specs.Lines.{role_at, sends_ahead, line}
+use Rattle.tn_client.specs.{Terms.tells_size, Lines.{role_at, sends_ahead, line}}
 use Rattle.tn_client.specs.declared.commands.UserCommand.{UserCommand}
 use Rattle.tn_client.specs.declared.commands.UserCommand.TheVariants as user
 

@@ -1,20 +1,13 @@
 -- What a client end shows on its screen.
 use Rattle.std.specs.Prelude.{ℕ, Bool, true, false, ◌||◌, ◌==◌, Option, Some, None, List, [], ◌∷◌, ◌++◌}
-use Rattle.std.specs.Prelude.{if◌then◌else◌}
-use Rattle.std.specs.List.{flat_map}
-use Rattle.tn_discipline.specs.Echo.{echo_at}
-use Rattle.tn_discipline.specs.HalfLine.{HalfLine, effect_of}
-use Rattle.tn_discipline.specs.declared.keys.Role.{Role}
-use Rattle.tn_discipline.specs.declared.echo.Symbol.{Symbol}
+use Rattle.std.specs.{Prelude.if◌then◌else◌, List.flat_map}
+use Rattle.tn_discipline.specs.{Echo.echo_at, HalfLine.{HalfLine, effect_of}, declared.keys.Role.Role}
+use Rattle.tn_discipline.specs.declared.{echo.Symbol.Symbol, termios.Settings.Settings}
 use Rattle.tn_discipline.specs.declared.echo.Symbol.TheVariants as symbol
-use Rattle.tn_discipline.specs.declared.termios.Settings.{Settings}
 use Rattle.tn_linemode.specs.Modes.{edits}
-use Rattle.tn_nvt.specs.declared.items.Item.{Item}
-use Rattle.tn_nvt.specs.declared.items.Item.TheVariants.{Byte, Newline}
-use Rattle.tn_nvt.specs.Spelling.{lf}
+use Rattle.tn_nvt.specs.{declared.items.Item.{Item, TheVariants.{Byte, Newline}}, Spelling.lf}
 use Rattle.tn_client.specs.Events.{Event, typed, got, resized, proposed, sent, History, begun, next, entered}
-use Rattle.tn_client.specs.Terms.{options, mode, chars, is_echoed}
-use Rattle.tn_client.specs.Lines.{key_settings, role_at, line}
+use Rattle.tn_client.specs.{Terms.{options, mode, chars, is_echoed}, Lines.{key_settings, role_at, line}}
 
 abbrev pub new_line : List ℕ
 new_line = 13 ∷ 10 ∷ []

@@ -1,34 +1,23 @@
 -- One event at a client end, as a step from its state: the end after the event, what it says and what it shows.
 -- The law `steps_stand` ties these steps to histories.
 use Rattle.std.specs.Prelude.{◌≡◌, ◌≢◌, ◌⊎◌, ℕ, Bool, true, IsTrue, false, Option, List, [], ◌++◌, length}
-use Rattle.std.specs.Prelude.{take, Vec, ◌∷◌, if◌then◌else◌}
-use Rattle.std.specs.List.{flat_map}
-use Rattle.tn_codes.specs.declared.masks.Mask.{Mask}
-use Rattle.tn_codes.specs.declared.payloads.Payload.{Payload}
-use Rattle.tn_discipline.specs.Admitted.{count_after}
-use Rattle.tn_discipline.specs.Keys.{role_of_key, roles_from}
+use Rattle.std.specs.{Prelude.{take, Vec, ◌∷◌, if◌then◌else◌}, List.flat_map}
+use Rattle.tn_codes.specs.declared.{masks.Mask.Mask, payloads.Payload.Payload}
+use Rattle.tn_discipline.specs.{Admitted.count_after, Keys.{role_of_key, roles_from}, declared.keys.Role.Role}
 use Rattle.tn_discipline.specs.HalfLine.{HalfLine, empty_line, line_length, line_released, line_resumed}
-use Rattle.tn_discipline.specs.HalfLine.{line_after, GivesText}
-use Rattle.tn_discipline.specs.declared.half_line.Effect.{Effect}
+use Rattle.tn_discipline.specs.{HalfLine.{line_after, GivesText}, declared.half_line.Effect.Effect}
 use Rattle.tn_discipline.specs.declared.half_line.Effect.TheVariants as effect
-use Rattle.tn_discipline.specs.declared.keys.Role.{Role}
 use Rattle.tn_discipline.specs.declared.keys.Role.TheVariants as role
-use Rattle.tn_linemode.specs.Modes.{edits, traps}
-use Rattle.tn_nvt.specs.Room.{LacksRoom}
-use Rattle.tn_nvt.specs.Spelling.{spells, lf}
-use Rattle.tn_linemode.specs.Triples.{triple_of}
-use Rattle.tn_linemode.specs.Words.{list_items}
-use Rattle.tn_nvt.specs.declared.items.Item.{Item}
-use Rattle.tn_nvt.specs.declared.items.Item.TheVariants.{Cmd, Byte, Newline}
+use Rattle.tn_linemode.specs.{Modes.{edits, traps}, Triples.triple_of, Words.list_items}
 use Rattle.tn_linemode.specs.Folding.{after_all, said_all}
+use Rattle.tn_nvt.specs.{Room.LacksRoom, Spelling.{spells, lf}, declared.items.Item.Item}
+use Rattle.tn_nvt.specs.declared.items.Item.TheVariants.{Cmd, Byte, Newline}
 use Rattle.tn_client.specs.Events.{Event, typed, got, resized, proposed, sent, entered}
 use Rattle.tn_client.specs.Terms.{options_after, mode_at, mode_by, forward_by, forward_at, chars_by}
-use Rattle.tn_client.specs.Terms.{payload_at, is_echoed, tells_size}
+use Rattle.tn_client.specs.{Terms.{payload_at, is_echoed, tells_size}, Replies.{typed_items, command_sent}}
 use Rattle.tn_client.specs.Lines.{settings_by, key_settings, role_of_typed, is_forward, sends_ahead}
-use Rattle.tn_client.specs.Replies.{item_replies, end_of_edit_items, payload_answers, resize_items, typed_items}
-use Rattle.tn_client.specs.Replies.{command_sent}
-use Rattle.tn_client.specs.Screen.{key_shown, item_shown}
-use Rattle.tn_client.specs.Calls.{End, ReadsList}
+use Rattle.tn_client.specs.Replies.{item_replies, end_of_edit_items, payload_answers, resize_items}
+use Rattle.tn_client.specs.{Screen.{key_shown, item_shown}, Calls.{End, ReadsList}}
 
 -- the role of a key
 abbrev pub role_now : End → ℕ → Role

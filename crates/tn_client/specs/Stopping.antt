@@ -1,10 +1,7 @@
 -- Where a piece of the stream leads that was refused.
 use Rattle.std.specs.Prelude.{◌≡◌, ℕ, List, ◌++◌}
-use Rattle.tn_nvt.specs.Spelling.{spells}
-use Rattle.tn_nvt.specs.declared.items.Item.{Item}
-use Rattle.tn_client.specs.Events.{History}
-use Rattle.tn_client.specs.Replies.{items_said}
-use Rattle.tn_client.specs.Screen.{text_shown}
+use Rattle.tn_nvt.specs.{Spelling.spells, declared.items.Item.Item}
+use Rattle.tn_client.specs.{Events.History, Replies.items_said, Screen.text_shown}
 
 -- The whole piece would have led from one history to the other. What was appended spells a prefix of what all
 -- its items make the client say, and what was shown is a prefix of what they all show.

@@ -2,18 +2,13 @@
 -- forward mask.
 use Rattle.std.specs.Prelude.{ℕ, Bool, true, false, ◌&&◌, ◌==◌, Option, Some, None, [], ◌∷◌, if◌then◌else◌}
 use Rattle.tn_codes.specs.OptionCodes as option_code
-use Rattle.tn_codes.specs.declared.masks.Mask.{Mask}
-use Rattle.tn_codes.specs.declared.payloads.Payload.{Payload}
+use Rattle.tn_codes.specs.declared.{masks.Mask.Mask, payloads.Payload.Payload}
 use Rattle.tn_codes.specs.declared.payloads.Payload.TheVariants.{Mode, ForwardOn, ForwardOff, Slc}
 use Rattle.tn_discipline.specs.Characters.{Characters, standard_characters}
-use Rattle.tn_linemode.specs.Modes.{client_mask_after}
-use Rattle.tn_linemode.specs.Exchange.{client_after}
-use Rattle.tn_nvt.specs.declared.items.Item.{Item}
-use Rattle.tn_nvt.specs.declared.items.Item.TheVariants.{Neg, Sub}
+use Rattle.tn_linemode.specs.{Modes.client_mask_after, Exchange.client_after, Words.{payload_under, differ}}
+use Rattle.tn_nvt.specs.declared.items.Item.{Item, TheVariants.{Neg, Sub}}
 use Rattle.tn_option.specs.Options.{Options, new_options, options_after_word, state_of, is_yes}
-use Rattle.tn_option.specs.declared.negotiation.Agree.{Agree}
-use Rattle.tn_option.specs.declared.q_method.Side.TheVariants.{Us, Them}
-use Rattle.tn_linemode.specs.Words.{payload_under, differ}
+use Rattle.tn_option.specs.declared.{negotiation.Agree.Agree, q_method.Side.TheVariants.{Us, Them}}
 use Rattle.tn_client.specs.Events.{got, resized, History, begun, next}
 
 -- the client's own SUPPRESS-GO-AHEAD, NAWS and LINEMODE are agreed to, and the server's ECHO and

@@ -1,21 +1,17 @@
 //! The client end: the calls that its owner makes.
 
 ghost use Rattle.std.specs.Prelude.{◌≡◌, ◌≢◌, ◌++◌, ◌∷◌, ℕ, List, true, IsTrue, false, IsFalse, None, []};
-ghost use Rattle.std.specs.Prelude.{length, take, IfOk};
-ghost use Rattle.std.specs.Prelude.{IfErr, IsOk, OnOk, OnErr, IsErrOf};
-ghost use Rattle.tn_nvt.specs.Room.{LacksRoom};
-ghost use Rattle.tn_nvt.specs.Spelling.{spells, lf};
+ghost use Rattle.std.specs.Prelude.{length, take, IfOk, IfErr, IsOk, OnOk, OnErr, IsErrOf};
+ghost use Rattle.tn_nvt.specs.{Room.LacksRoom, Spelling.{spells, lf}};
 ghost use Rattle.tn_nvt.specs.Feeding as nvt;
 ghost use Rattle.tn_option.specs.Options.{state_of};
 ghost use Rattle.tn_client.specs.Events.{History, begun, resized, proposed, sent};
-ghost use Rattle.tn_client.specs.Terms.{options, mode, chars};
-ghost use Rattle.tn_client.specs.Lines.{held_bytes, ahead, count_under};
-ghost use Rattle.tn_client.specs.Replies.{size_items, sent_as};
+ghost use Rattle.tn_client.specs.{Terms.{options, mode, chars}, Lines.{held_bytes, ahead, count_under}};
+ghost use Rattle.tn_client.specs.{Replies.{size_items, sent_as}, Calls.{LeadsTo, call_fault, propose_fault}};
 ghost use Rattle.tn_client.specs.Answering.{AnswersBy, Feeds, StopsWithin, SaysNothing, Untouched};
-ghost use Rattle.tn_client.specs.Calls.{LeadsTo, call_fault, propose_fault};
 ghost use Rattle.tn_client.specs.Steps.{end_after_key, says_key, says_new_line, says_typed, shows_key};
-ghost use Rattle.tn_client.specs.Steps.{LacksMemoryFor, LacksMemoryToEnter, LacksMemoryBy};
-ghost use Rattle.tn_client.specs.Steps.{end_after_resize, says_resize, says, LacksRoomFor};
+ghost use Rattle.tn_client.specs.Steps.{LacksMemoryFor, LacksMemoryToEnter, LacksMemoryBy, end_after_resize};
+ghost use Rattle.tn_client.specs.Steps.{says_resize, says, LacksRoomFor};
 
 use crate::commands::UserCommand;
 use crate::faults::ClientFault;

@@ -1,20 +1,15 @@
 //! What a client end does with a key.
 
 ghost use Rattle.std.specs.Prelude.{◌≡◌, ◌⊎◌, ◌<◌, ◌≤◌, ◌++◌, ℕ, [], true, false, IsFalse, length, IfOk};
-ghost use Rattle.std.specs.Prelude.{OnOk};
-ghost use Rattle.std.specs.Prelude.{OnErr, if◌then◌else◌};
-ghost use Rattle.tn_nvt.specs.Room.{LacksRoom};
-ghost use Rattle.tn_nvt.specs.Spelling.{spells};
-ghost use Rattle.tn_client.specs.Lines.{settings_by, key_settings};
-ghost use Rattle.tn_client.specs.Terms.{is_echoed};
+ghost use Rattle.std.specs.Prelude.{OnOk, OnErr, if◌then◌else◌};
+ghost use Rattle.tn_nvt.specs.{Room.LacksRoom, Spelling.spells};
+ghost use Rattle.tn_client.specs.{Lines.{settings_by, key_settings}, Terms.is_echoed};
 ghost use Rattle.tn_client.specs.Replies.{byte_items, raw_items, sent_as, edit_items};
 ghost use Rattle.tn_client.specs.Screen.{passed_shown, edited_shown, echoed_edited};
-ghost use Rattle.tn_discipline.specs.Characters.{Characters};
-ghost use Rattle.tn_discipline.specs.HalfLine.{line_released, effect_of, GivesText};
-ghost use Rattle.tn_discipline.specs.Admitted.{count_after};
-ghost use Rattle.tn_discipline.specs.Keys.{roles_from, role_of_key};
-ghost use Rattle.tn_linemode.specs.Modes.{traps};
 ghost use Rattle.tn_client.specs.Steps.{role_now, end_after_count, line_typed, sends_where, Begins};
+ghost use Rattle.tn_discipline.specs.{Characters.Characters, HalfLine.{line_released, effect_of, GivesText}};
+ghost use Rattle.tn_discipline.specs.{Admitted.count_after, Keys.{roles_from, role_of_key}};
+ghost use Rattle.tn_linemode.specs.Modes.{traps};
 
 use crate::end::ClientEnd;
 use crate::screen::{echo_raw, show_all};

@@ -2,12 +2,10 @@
 
 ghost use Rattle.std.specs.Prelude.{◌≡◌, ◌≢◌, ◌<◌, ◌≤◌, ◌++◌, [], Some, length, flat_map, vec_capacity, OnOk};
 ghost use Rattle.std.specs.Prelude.{OnErr};
-ghost use Rattle.tn_nvt.specs.Room.{LacksRoom};
-ghost use Rattle.tn_nvt.specs.Spelling.{spells, spelling};
+ghost use Rattle.tn_nvt.specs.{Room.LacksRoom, Spelling.{spells, spelling}};
 ghost use Rattle.tn_nvt.specs.declared.items.Item.TheVariants as item;
 ghost use Rattle.tn_client.specs.Replies.{byte_items, func_of, command_for, command_of, command_items};
-ghost use Rattle.tn_client.specs.Replies.{raw_items, sent_as, edited_key_items};
-ghost use Rattle.tn_client.specs.Steps.{Begins};
+ghost use Rattle.tn_client.specs.{Replies.{raw_items, sent_as, edited_key_items}, Steps.Begins};
 
 use std::alloc::AllocError;
 use tn_codes::{Command, Func};

@@ -1,11 +1,7 @@
 -- Parameters say one thing, or have one fault.
 use Rattle.std.proofs.Common.{◌≡◌, ℕ, ◌*◌, ◌%◌, ◌<◌, ◌≤◌, inl, inr, List, [], ◌∷◌, length, flat_map, refl, ap, subst, arith}
-use Rattle.tn_codes.specs.declared.codes.Verb.{Verb}
-use Rattle.tn_codes.specs.declared.codes.Verb.TheVariants.{Will, Wont, DoIt, DontIt}
-use Rattle.tn_codes.specs.declared.payloads.Payload.{Payload}
-use Rattle.tn_codes.specs.declared.payloads.Payload.TheVariants.{Naws, Mode, ForwardOn, ForwardOff, ForwardYes, ForwardNo, Slc}
-use Rattle.tn_codes.specs.declared.triples.Triple.{Triple}
-use Rattle.tn_codes.specs.Codes.{verb_code}
+use Rattle.tn_codes.specs.declared.{codes.Verb.{Verb, TheVariants.{Will, Wont, DoIt, DontIt}}, payloads.Payload.Payload, triples.Triple.Triple}
+use Rattle.tn_codes.specs.{declared.payloads.Payload.TheVariants.{Naws, Mode, ForwardOn, ForwardOff, ForwardYes, ForwardNo, Slc}, Codes.verb_code}
 use Rattle.tn_codes.specs.Payloads.{octets_of, mask_limit, Says, IsUnknownOption, IsUnknownKind, IsUnknownSub, HasBadForwardLength, HasBadLinemodeLength}
 use Rattle.tn_codes.specs.Payloads.{HasBadLength, TakesMemory}
 

@@ -1,18 +1,10 @@
 -- The relation and the function say the same.
 use Rattle.std.proofs.Common.{◌≡◌, ◌≢◌, ℕ, ◌≤◌, ◌⊎◌, inl, inr, Bool, true, false, List, [], ◌∷◌, length, take, drop, flat_map, Option, Some, None, Result, Ok}
-use Rattle.std.proofs.Common.{Err, IsOk, MatchResult, refl, sym, ◌∙◌, ap, subst, arith}
-use Rattle.std.specs.Prelude.{IsErrOf, ◌↔◌, nat_le, if◌then◌else◌}
-use Rattle.std.specs.Option.{option_map}
-use Rattle.std.specs.Int.{w16, from_be_bytes}
-use Rattle.std.proofs.lemmas.Bool.{ne_eqb}
-use Rattle.std.proofs.lemmas.Bool.Decides.{eqb_tells, nat_tests}
-use Rattle.tn_codes.specs.declared.payloads.Payload.{Payload}
-use Rattle.tn_codes.specs.declared.payloads.Payload.TheVariants.{Naws, Mode, ForwardOn, ForwardOff, ForwardYes, ForwardNo, Slc}
-use Rattle.tn_codes.specs.declared.payloads.PayloadFault.{PayloadFault}
-use Rattle.tn_codes.specs.declared.payloads.PayloadFault.TheVariants.{UnknownOption, UnknownSub, BadLength, Memory}
-use Rattle.tn_codes.specs.declared.triples.Triple.{Triple}
-use Rattle.tn_codes.specs.Masks.{filled_octets}
-use Rattle.tn_codes.specs.Payloads.{octets_of, Says, IsUnknownSub, HasBadLength, Tells}
+use Rattle.std.proofs.{Common.{Err, IsOk, MatchResult, refl, sym, ◌∙◌, ap, subst, arith}, lemmas.Bool.{ne_eqb, Decides.{eqb_tells, nat_tests}}}
+use Rattle.std.specs.{Prelude.{IsErrOf, ◌↔◌, nat_le, if◌then◌else◌}, Option.option_map, Int.{w16, from_be_bytes}}
+use Rattle.tn_codes.specs.declared.payloads.Payload.{Payload, TheVariants.{Naws, Mode, ForwardOn, ForwardOff, ForwardYes, ForwardNo, Slc}}
+use Rattle.tn_codes.specs.declared.{payloads.PayloadFault.{PayloadFault, TheVariants.{UnknownOption, UnknownSub, BadLength, Memory}}, triples.Triple.Triple}
+use Rattle.tn_codes.specs.{Masks.filled_octets, Payloads.{octets_of, Says, IsUnknownSub, HasBadLength, Tells}}
 use Rattle.tn_codes.specs.PayloadOf.{size_of, mode_of, triples_of, alone, forward_of, forwardmask_of, linemode_of, payload_of}
 use Rattle.tn_codes.proofs.Grammar.{says_option, says_kind, says_length, unknown_length, option_length, option_kind}
 

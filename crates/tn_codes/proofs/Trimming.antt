@@ -1,15 +1,9 @@
 -- A mask without the zeros at its end is the mask again, and what is written says its payload.
 use Rattle.std.proofs.Common.{◌≡◌, ◌≢◌, ℕ, suc, ◌+◌, ◌<◌, take, get_or, ◌-◌, inl, inr, List, [], ◌∷◌, ◌++◌, length, replicate, refl, sym, ◌∙◌, ap, arith}
-use Rattle.std.proofs.Common.{length-append}
-use Rattle.std.proofs.lemmas.List.{length-replicate, take_more}
-use Rattle.std.proofs.lemmas.Nat.{from_be_bytes-to_be_bytes_2}
-use Rattle.std.proofs.lemmas.Bool.{ne_eqb}
-use Rattle.std.proofs.lemmas.Bool.Decides.{eqb_tells}
-use Rattle.tn_codes.specs.declared.payloads.Payload.{Payload}
-use Rattle.tn_codes.specs.declared.payloads.Payload.TheVariants.{Naws, Mode, ForwardOn, ForwardOff, ForwardYes, ForwardNo, Slc}
-use Rattle.tn_codes.specs.Masks.{before, filled_octets, trimmed_octets}
+use Rattle.std.proofs.{Common.length-append, lemmas.{List.{length-replicate, take_more}, Nat.from_be_bytes-to_be_bytes_2, Bool.{ne_eqb, Decides.eqb_tells}}}
+use Rattle.tn_codes.specs.declared.payloads.Payload.{Payload, TheVariants.{Naws, Mode, ForwardOn, ForwardOff, ForwardYes, ForwardNo, Slc}}
+use Rattle.tn_codes.specs.{Masks.{before, filled_octets, trimmed_octets}, Payloads.{Says, Fits, option_of, parameters_of}}
 use Rattle.tn_codes.proofs.lemmas.Masks.{length-trimmed}
-use Rattle.tn_codes.specs.Payloads.{Says, Fits, option_of, parameters_of}
 
 pub trimmed_none : trimmed_octets [] ≡ []
 unfolding trimmed_octets

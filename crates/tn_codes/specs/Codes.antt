@@ -1,12 +1,9 @@
 -- The codes of RFC 854, RFC 885 (EOR) and RFC 1184.
 use Rattle.std.specs.Prelude.{ℕ}
-use Rattle.tn_codes.specs.declared.codes.Command.{Command}
+use Rattle.tn_codes.specs.declared.codes.{Command.Command, Verb.Verb, Func.Func, Level.Level}
 use Rattle.tn_codes.specs.declared.codes.Command.TheVariants as command
-use Rattle.tn_codes.specs.declared.codes.Verb.{Verb}
 use Rattle.tn_codes.specs.declared.codes.Verb.TheVariants as verb
-use Rattle.tn_codes.specs.declared.codes.Func.{Func}
 use Rattle.tn_codes.specs.declared.codes.Func.TheVariants as func
-use Rattle.tn_codes.specs.declared.codes.Level.{Level}
 use Rattle.tn_codes.specs.declared.codes.Level.TheVariants as level
 
 -- RFC 854: the words of option negotiation

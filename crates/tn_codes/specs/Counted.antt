@@ -1,10 +1,8 @@
 -- Parameters that stand in no list.
 use Rattle.std.specs.Prelude.{ℕ, List}
-use Rattle.tn_codes.specs.declared.payloads.Payload.{Payload}
-use Rattle.tn_codes.specs.declared.payloads.Payload.TheVariants.{Naws, Mode, ForwardOn, ForwardOff}
+use Rattle.tn_codes.specs.declared.payloads.Payload.{Payload, TheVariants.{Naws, Mode, ForwardOn, ForwardOff}}
 use Rattle.tn_codes.specs.declared.payloads.Payload.TheVariants.{ForwardYes, ForwardNo, Slc}
-use Rattle.tn_codes.specs.declared.writing.Few.{Few}
-use Rattle.tn_codes.specs.declared.writing.Few.TheVariants.{Two, Four}
+use Rattle.tn_codes.specs.declared.writing.Few.{Few, TheVariants.{Two, Four}}
 
 -- the same parameters as a list
 abbrev pub listed : Few → List ℕ

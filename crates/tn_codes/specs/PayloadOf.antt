@@ -1,15 +1,10 @@
 -- The same grammar as a function, for definitions that take what a subnegotiation says.
 use Rattle.std.specs.Prelude.{ℕ, ◌==◌, nat_le, List, [], ◌∷◌, length, Option, Some, None, option_map}
-use Rattle.std.specs.Prelude.{if◌then◌else◌}
-use Rattle.std.specs.Int.{w16, from_be_bytes}
-use Rattle.tn_codes.specs.declared.codes.Verb.TheVariants.{Will, Wont, DoIt, DontIt}
-use Rattle.tn_codes.specs.declared.payloads.Payload.{Payload}
-use Rattle.tn_codes.specs.declared.payloads.Payload.TheVariants.{Naws, Mode, ForwardOn, ForwardOff}
+use Rattle.std.specs.{Prelude.if◌then◌else◌, Int.{w16, from_be_bytes}}
+use Rattle.tn_codes.specs.declared.{codes.Verb.TheVariants.{Will, Wont, DoIt, DontIt}, triples.Triple.Triple}
+use Rattle.tn_codes.specs.declared.payloads.Payload.{Payload, TheVariants.{Naws, Mode, ForwardOn, ForwardOff}}
 use Rattle.tn_codes.specs.declared.payloads.Payload.TheVariants.{ForwardYes, ForwardNo, Slc}
-use Rattle.tn_codes.specs.declared.triples.Triple.{Triple}
-use Rattle.tn_codes.specs.Codes.{verb_code}
-use Rattle.tn_codes.specs.Masks.{filled_octets}
-use Rattle.tn_codes.specs.OptionCodes.{naws, linemode}
+use Rattle.tn_codes.specs.{Codes.verb_code, Masks.filled_octets, OptionCodes.{naws, linemode}}
 use Rattle.tn_codes.specs.Payloads.{mode, forwardmask, slc}
 
 abbrev pub size_of : List ℕ → Option Payload

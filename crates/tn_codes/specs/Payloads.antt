@@ -1,18 +1,12 @@
 -- What the parameters of NAWS (RFC 1073) and of LINEMODE (RFC 1184, section 2) say, and when they say none.
 use Rattle.std.specs.Prelude.{◌≡◌, ◌≢◌, ℕ, ◌<◌, ◌≤◌, ◌%◌, ◌^◌, List, [], ◌∷◌, ◌++◌, ◌⊎◌, length, take, drop}
-use Rattle.std.specs.Prelude.{flat_map, Result, Ok, Err}
-use Rattle.std.specs.Int.{w16, to_be_bytes, from_be_bytes}
-use Rattle.tn_codes.specs.declared.codes.Verb.{Verb}
-use Rattle.tn_codes.specs.declared.codes.Verb.TheVariants.{Will, Wont, DoIt, DontIt}
-use Rattle.tn_codes.specs.declared.payloads.Payload.{Payload}
-use Rattle.tn_codes.specs.declared.payloads.Payload.TheVariants.{Naws, Mode, ForwardOn, ForwardOff}
+use Rattle.std.specs.{Prelude.{flat_map, Result, Ok, Err}, Int.{w16, to_be_bytes, from_be_bytes}}
+use Rattle.tn_codes.specs.{declared.codes.Verb.Verb, Codes.verb_code, OptionCodes.{naws, linemode}}
+use Rattle.tn_codes.specs.declared.{codes.Verb.TheVariants.{Will, Wont, DoIt, DontIt}, triples.Triple.Triple}
+use Rattle.tn_codes.specs.declared.payloads.Payload.{Payload, TheVariants.{Naws, Mode, ForwardOn, ForwardOff}}
 use Rattle.tn_codes.specs.declared.payloads.Payload.TheVariants.{ForwardYes, ForwardNo, Slc}
-use Rattle.tn_codes.specs.declared.payloads.PayloadFault.{PayloadFault}
+use Rattle.tn_codes.specs.{declared.payloads.PayloadFault.PayloadFault, Masks.{filled_octets, trimmed_octets}}
 use Rattle.tn_codes.specs.declared.payloads.PayloadFault.TheVariants as fault
-use Rattle.tn_codes.specs.declared.triples.Triple.{Triple}
-use Rattle.tn_codes.specs.Codes.{verb_code}
-use Rattle.tn_codes.specs.Masks.{filled_octets, trimmed_octets}
-use Rattle.tn_codes.specs.OptionCodes.{naws, linemode}
 
 -- RFC 1184, section 2: the kinds of LINEMODE subnegotiation
 abbrev pub mode : ℕ

@@ -2,10 +2,7 @@
 
 ghost use Rattle.std.specs.Prelude.{◌≡◌, ◌↔◌, Some};
 ghost use Rattle.tn_codes.specs.Codes.{verb_code, command_code, func_code, level_code};
-ghost use Rattle.tn_codes.specs.declared.codes.Verb.{Verb};
-ghost use Rattle.tn_codes.specs.declared.codes.Command.{Command};
-ghost use Rattle.tn_codes.specs.declared.codes.Func.{Func};
-ghost use Rattle.tn_codes.specs.declared.codes.Level.{Level};
+ghost use Rattle.tn_codes.specs.declared.codes.{Verb.Verb, Command.Command, Func.Func, Level.Level};
 
 macro_rules! verbs {
     ($direction:ident, $value:expr) => {

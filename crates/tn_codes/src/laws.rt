@@ -2,21 +2,16 @@
 
 ghost use Rattle.std.specs.Prelude.{◌≡◌, ◌↔◌, ℕ, List, Some};
 ghost use Rattle.tn_codes.specs.Codes.{verb_code, command_code, func_code, level_code};
-ghost use Rattle.tn_codes.specs.Payloads.{Says, IsUnknownOption, IsUnknownSub, HasBadLength};
+ghost use Rattle.tn_codes.specs.Payloads.{Says, IsUnknownOption, IsUnknownSub, HasBadLength, mode};
+ghost use Rattle.tn_codes.specs.Payloads.{forwardmask, slc, option_of, parameters_of, Fits};
+ghost use Rattle.tn_codes.specs.{PayloadOf.payload_of, declared.codes.{Verb.Verb, Command.Command}};
+ghost use Rattle.tn_codes.specs.declared.{codes.{Func.Func, Level.Level}, payloads.Payload.Payload};
 ghost use Rattle.tn_codes.specs.OptionCodes as option_code;
-ghost use Rattle.tn_codes.specs.Payloads.{mode, forwardmask, slc};
-ghost use Rattle.tn_codes.specs.Payloads.{option_of, parameters_of, Fits};
-ghost use Rattle.tn_codes.specs.PayloadOf.{payload_of};
-ghost use Rattle.tn_codes.specs.declared.codes.Verb.{Verb};
 ghost use Rattle.tn_codes.specs.declared.codes.Verb.TheVariants as verb;
-ghost use Rattle.tn_codes.specs.declared.codes.Command.{Command};
 ghost use Rattle.tn_codes.specs.declared.codes.Command.TheVariants as command;
-ghost use Rattle.tn_codes.specs.declared.codes.Func.{Func};
 ghost use Rattle.tn_codes.specs.declared.codes.Func.TheVariants as func;
-ghost use Rattle.tn_codes.specs.declared.codes.Level.{Level};
 ghost use Rattle.tn_codes.specs.declared.codes.Level.TheVariants as level;
 ghost use Rattle.tn_codes.specs.declared.numbers.TheConstants as constant;
-ghost use Rattle.tn_codes.specs.declared.payloads.Payload.{Payload};
 
 /// The options' constants are the codes that RFC 857, 858, 1073 and 1184 give them.
 pub fn options()

@@ -2,12 +2,9 @@
 
 ghost use Rattle.std.specs.Prelude.{◌≡◌, ◌≢◌, ◌↔◌, ◌⊎◌, ◌≤◌, ◌∷◌, length, Some, None};
 ghost use Rattle.std.specs.Prelude.{IsOk, IfOk, IsErrOf, MatchResult};
-ghost use Rattle.tn_codes.specs.declared.payloads.Payload.{Payload};
-ghost use Rattle.tn_codes.specs.Codes.{verb_code};
-ghost use Rattle.tn_codes.specs.OptionCodes.{naws, linemode};
-ghost use Rattle.tn_codes.specs.Payloads.{mode, forwardmask, slc, Says, Tells};
-ghost use Rattle.tn_codes.specs.Payloads.{IsUnknownOption, IsUnknownSub, HasBadLength, TakesMemory};
-ghost use Rattle.tn_codes.specs.PayloadOf.{payload_of};
+ghost use Rattle.tn_codes.specs.{declared.payloads.Payload.Payload, Codes.verb_code, PayloadOf.payload_of};
+ghost use Rattle.tn_codes.specs.{OptionCodes.{naws, linemode}, Payloads.{HasBadLength, TakesMemory}};
+ghost use Rattle.tn_codes.specs.Payloads.{mode, forwardmask, slc, Says, Tells, IsUnknownOption, IsUnknownSub};
 
 use crate::codes::Verb;
 use crate::masks::Mask;

@@ -1,9 +1,7 @@
 //! The triples of a list of local characters (RFC 1184, section 2.4).
 
-ghost use Rattle.std.specs.Prelude.{◌≡◌, ◌↔◌, [], length, nat_eq, IsTrue};
-ghost use Rattle.std.specs.Ordering.{on, eq_of_both};
-ghost use Rattle.std.specs.Cmp.Lexicographic.{pointwise};
-ghost use Rattle.std.specs.Cmp.Rules.{comparing};
+ghost use Rattle.std.specs.{Prelude.{◌≡◌, ◌↔◌, [], length, nat_eq, IsTrue}, Ordering.{on, eq_of_both}};
+ghost use Rattle.std.specs.Cmp.{Lexicographic.pointwise, Rules.comparing};
 ghost use Rattle.std.proofs.Common.{rules};
 
 use std::alloc::{AllocError, Global};

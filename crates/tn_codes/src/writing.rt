@@ -2,12 +2,10 @@
 
 ghost use Rattle.std.specs.Prelude.{◌≡◌, ◌+◌, ◌≤◌, ◌<◌, ◌++◌, [], ◌∷◌, length, take, flat_map};
 ghost use Rattle.std.specs.Prelude.{vec_len, vec_capacity, OnOk, OnErr, IfSome, IfNone};
-ghost use Rattle.tn_codes.specs.declared.codes.Verb.TheVariants.{DoIt};
-ghost use Rattle.tn_codes.specs.Codes.{verb_code};
+ghost use Rattle.tn_codes.specs.{declared.codes.Verb.TheVariants.DoIt, Codes.verb_code};
+ghost use Rattle.tn_codes.specs.Payloads.{Says, option_of, parameters_of, IsShort, forwardmask, slc};
+ghost use Rattle.tn_codes.specs.{Payloads.{octets_of, max_triples}, Counted.{listed, HasMany}};
 ghost use Rattle.tn_codes.specs.Masks as mask;
-ghost use Rattle.tn_codes.specs.Payloads.{Says, option_of, parameters_of, IsShort};
-ghost use Rattle.tn_codes.specs.Payloads.{forwardmask, slc, octets_of, max_triples};
-ghost use Rattle.tn_codes.specs.Counted.{listed, HasMany};
 
 use crate::codes::Verb;
 use crate::numbers::{FORWARDMASK, MODE, SLC};

@@ -1,13 +1,8 @@
 -- Items lead a printer to one state.
 use Rattle.std.proofs.Common.{◌≡◌, ℕ, ◌<◌, ◌≤◌, inl, inr, List, [], ◌∷◌, ◌++◌, map, length, refl, sym, ap, ◌∙◌, subst, arith, append-nil, append_assoc}
-use Rattle.std.proofs.Common.{length-append}
-use Rattle.std.proofs.lemmas.List.{append_cancel_left, map-append}
-use Rattle.std.proofs.lemmas.Bool.{cases_lt}
-use Rattle.tn_nvt.specs.declared.items.Item.{Item}
-use Rattle.tn_nvt.specs.declared.items.Item.TheVariants.{Byte}
-use Rattle.tn_decode.specs.Lines.{decoded, lines_of, EndsLine, max_data}
-use Rattle.tn_decode.specs.Printing.{Printing, Takes, prefix_text}
-use Rattle.tn_decode.specs.declared.printer.Prefix.{Prefix}
+use Rattle.std.proofs.{Common.length-append, lemmas.{List.{append_cancel_left, map-append}, Bool.cases_lt}}
+use Rattle.tn_nvt.specs.declared.items.Item.{Item, TheVariants.Byte}
+use Rattle.tn_decode.specs.{Lines.{decoded, lines_of, EndsLine, max_data}, Printing.{Printing, Takes, prefix_text}, declared.printer.Prefix.Prefix}
 use Rattle.tn_decode.specs.Texts.{data_text}
 use Rattle.tn_decode.proofs.Joining.{short_line}
 

@@ -2,8 +2,7 @@
 use Rattle.std.proofs.Common.{◌≡◌, ℕ, ◌≤◌, List, [], ◌∷◌, ◌++◌, map, length, refl, sym, ap, ◌∙◌, arith, append-nil, append_assoc}
 use Rattle.std.proofs.lemmas.Grind.{flat_map-append}
 use Rattle.std.specs.List.{flat_map}
-use Rattle.tn_nvt.specs.declared.items.Item.{Item}
-use Rattle.tn_nvt.specs.declared.items.Item.TheVariants.{Byte, Newline, Cmd, Neg, Sub}
+use Rattle.tn_nvt.specs.declared.items.Item.{Item, TheVariants.{Byte, Newline, Cmd, Neg, Sub}}
 use Rattle.tn_decode.specs.Texts.{data_text, item_text}
 use Rattle.tn_decode.specs.Lines.{Part, run, single, byte_before, parts_of, part_lines, lines_of, whole_line, decoded, EndsLine, IsSingle, max_data}
 use Rattle.tn_decode.proofs.Cutting.{pieces_first, pieces_one}

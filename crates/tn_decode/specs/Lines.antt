@@ -1,8 +1,7 @@
 -- The lines that are printed of items: data that follow one another are joined, and then cut in 64s.
 use Rattle.std.specs.Prelude.{◌≡◌, ℕ, zero, suc, List, [], ◌∷◌, ◌++◌, map, take, drop, length, codes}
 use Rattle.std.specs.List.{flat_map}
-use Rattle.tn_nvt.specs.declared.items.Item.{Item}
-use Rattle.tn_nvt.specs.declared.items.Item.TheVariants.{Byte, Newline, Cmd, Neg, Sub}
+use Rattle.tn_nvt.specs.declared.items.Item.{Item, TheVariants.{Byte, Newline, Cmd, Neg, Sub}}
 use Rattle.tn_decode.specs.Texts.{data_text, item_text}
 
 -- the most data of a line, in bytes

@@ -1,9 +1,8 @@
 -- The names of codes: of verbs and commands as in RFC 854, 885 and 1184, of options as they are assigned,
 -- of functions and levels as in RFC 1184, section 2.4.
 use Rattle.std.specs.Prelude.{ℕ, ◌==◌, List, [], codes, if◌then◌else◌}
-use Rattle.tn_codes.specs.declared.codes.Command.{Command}
+use Rattle.tn_codes.specs.declared.codes.{Command.Command, Verb.Verb}
 use Rattle.tn_codes.specs.declared.codes.Command.TheVariants as command
-use Rattle.tn_codes.specs.declared.codes.Verb.{Verb}
 use Rattle.tn_codes.specs.declared.codes.Verb.TheVariants as verb
 
 abbrev pub verb_name : Verb → List ℕ

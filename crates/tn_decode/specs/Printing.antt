@@ -1,9 +1,7 @@
 -- What a printer of lines holds, and what items add to it, however they come.
 use Rattle.std.specs.Prelude.{◌≡◌, ◌≢◌, ℕ, ◌<◌, List, [], ◌++◌, map, length, codes}
-use Rattle.tn_nvt.specs.declared.items.Item.{Item}
-use Rattle.tn_nvt.specs.declared.items.Item.TheVariants.{Byte}
-use Rattle.tn_decode.specs.declared.printer.Prefix.{Prefix}
-use Rattle.tn_decode.specs.declared.printer.Prefix.TheVariants.{Empty, Came, Gone}
+use Rattle.tn_nvt.specs.declared.items.Item.{Item, TheVariants.Byte}
+use Rattle.tn_decode.specs.declared.printer.Prefix.{Prefix, TheVariants.{Empty, Came, Gone}}
 use Rattle.tn_decode.specs.Lines.{max_data, decoded, EndsLine}
 
 abbrev pub prefix_text : Prefix → List ℕ

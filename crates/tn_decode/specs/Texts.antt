@@ -1,17 +1,12 @@
 -- The text of an item.
 use Rattle.std.specs.Prelude.{ℕ, zero, suc, ◌==◌, ◌&&◌, ◌||◌, nat_le, List, [], ◌∷◌, ◌++◌, codes, decimal}
-use Rattle.std.specs.Prelude.{bit_and, Option, Some, None, if◌then◌else◌}
-use Rattle.std.specs.List.{flat_map}
+use Rattle.std.specs.{Prelude.{bit_and, Option, Some, None, if◌then◌else◌}, List.flat_map}
 use Rattle.hex.specs.Hex.{encode_lower}
-use Rattle.tn_codes.specs.Masks.{has_character}
-use Rattle.tn_codes.specs.PayloadOf.{payload_of}
-use Rattle.tn_codes.specs.declared.masks.Mask.{Mask}
-use Rattle.tn_codes.specs.declared.payloads.Payload.{Payload}
-use Rattle.tn_codes.specs.declared.payloads.Payload.TheVariants.{Naws, Mode, ForwardOn, ForwardOff}
+use Rattle.tn_codes.specs.{Masks.has_character, PayloadOf.payload_of, declared.masks.Mask.Mask}
+use Rattle.tn_codes.specs.declared.payloads.Payload.{Payload, TheVariants.{Naws, Mode, ForwardOn, ForwardOff}}
 use Rattle.tn_codes.specs.declared.payloads.Payload.TheVariants.{ForwardYes, ForwardNo, Slc}
 use Rattle.tn_codes.specs.declared.triples.Triple.{Triple}
-use Rattle.tn_nvt.specs.declared.items.Item.{Item}
-use Rattle.tn_nvt.specs.declared.items.Item.TheVariants.{Byte, Newline, Cmd, Neg, Sub}
+use Rattle.tn_nvt.specs.declared.items.Item.{Item, TheVariants.{Byte, Newline, Cmd, Neg, Sub}}
 use Rattle.tn_decode.specs.Names.{verb_name, command_name, option_name, func_name, level_name}
 
 -- a byte of data: printable ASCII as it is, but for a quotation mark and a backslash

@@ -1,7 +1,6 @@
 //! Appends data as text.
 
-ghost use Rattle.std.specs.Prelude.{◌≡◌, ◌++◌, OnOk};
-ghost use Rattle.std.specs.List.{flat_map};
+ghost use Rattle.std.specs.{Prelude.{◌≡◌, ◌++◌, OnOk}, List.flat_map};
 ghost use Rattle.tn_decode.specs.Texts.{byte_text, data_text};
 
 use crate::words::hex_digits;

@@ -2,8 +2,7 @@
 
 ghost use Rattle.std.specs.Prelude.{◌≡◌, ◌++◌, OnOk, codes};
 ghost use Rattle.tn_codes.specs.PayloadOf.{payload_of};
-ghost use Rattle.tn_decode.specs.Names.{verb_name};
-ghost use Rattle.tn_decode.specs.Texts.{item_text, option_text, parameters_words};
+ghost use Rattle.tn_decode.specs.{Names.verb_name, Texts.{item_text, option_text, parameters_words}};
 
 use crate::data::push_data;
 use crate::names::{name_of_command, name_of_option, name_of_verb};

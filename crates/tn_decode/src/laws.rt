@@ -1,10 +1,8 @@
 //! Laws of what is printed, over the definitions alone.
 
 ghost use Rattle.std.specs.Prelude.{◌≡◌, ◌<◌, List, [], ◌++◌, length, map};
-ghost use Rattle.tn_nvt.specs.declared.items.Item.{Item};
-ghost use Rattle.tn_nvt.specs.declared.items.Item.TheVariants.{Byte};
-ghost use Rattle.tn_decode.specs.Lines.{decoded, max_data};
-ghost use Rattle.tn_decode.specs.Printing.{Printing, prefix_text, Takes};
+ghost use Rattle.tn_nvt.specs.declared.items.Item.{Item, TheVariants.Byte};
+ghost use Rattle.tn_decode.specs.{Lines.{decoded, max_data}, Printing.{Printing, prefix_text, Takes}};
 
 /// Items that were taken in turn were taken at once.
 pub fn taken_in_turn()

@@ -3,9 +3,8 @@
 ghost use Rattle.std.specs.Prelude.{◌≡◌, ◌≢◌, ◌<◌, ◌≤◌, ◌+◌, [], ◌∷◌, ◌++◌, length, map, take, IfOk, OnOk};
 ghost use Rattle.std.specs.Prelude.{OnErr};
 ghost use Rattle.tn_nvt.specs.declared.items.Item.TheVariants.{Byte};
-ghost use Rattle.tn_decode.specs.Lines.{decoded, whole_line, IsSingle};
+ghost use Rattle.tn_decode.specs.{Lines.{decoded, whole_line, IsSingle}, Texts.{data_text, item_text}};
 ghost use Rattle.tn_decode.specs.Printing.{prefix_text, Takes, EndsData};
-ghost use Rattle.tn_decode.specs.Texts.{data_text, item_text};
 
 use crate::data::push_data;
 use crate::items::push_item;

@@ -1,14 +1,11 @@
 -- What the calls on a line do, by what each role does.
 use Rattle.std.proofs.Common.{◌≡◌, ◌<◌, ℕ, Result, Ok, Err, IfOk, OnOk, List, [], ◌∷◌, length, refl, ap, ◌∙◌, arith}
-use Rattle.tn_discipline.specs.declared.keys.Role.{Role}
-use Rattle.tn_discipline.specs.declared.keys.Role.TheVariants as role
-use Rattle.tn_discipline.specs.declared.reads.Entry.TheVariants as entry
-use Rattle.tn_discipline.specs.declared.half_line.Effect.{Effect}
-use Rattle.tn_discipline.specs.declared.half_line.Effect.TheVariants as effect
-use Rattle.tn_discipline.specs.Entries.{line_of}
-use Rattle.tn_discipline.specs.Keys.{roles_from}
+use Rattle.tn_discipline.specs.{declared.{keys.Role.Role, half_line.Effect.Effect}, Entries.line_of, Keys.roles_from}
 use Rattle.tn_discipline.specs.HalfLine.{HalfLine, empty_line, line_released, line_resumed, effect_of, line_after, effect_entries, GivesText}
 use Rattle.tn_discipline.specs.Advancing.{Advances, DropsExactly, KeepsHalf, LeadsWhereLong}
+use Rattle.tn_discipline.specs.declared.keys.Role.TheVariants as role
+use Rattle.tn_discipline.specs.declared.reads.Entry.TheVariants as entry
+use Rattle.tn_discipline.specs.declared.half_line.Effect.TheVariants as effect
 use Rattle.tn_discipline.proofs.lemmas.Lines.{advances, advances_erase, drops_exactly, released_keeps, resumed_leads}
 
 -- the same of an effect and a line that are known to be those

@@ -3,9 +3,7 @@ use Rattle.std.proofs.Common.{◌≡◌, ◌↔◌, ℕ, Bool, true, false, Opti
 use Rattle.std.specs.Prelude.{find}
 use Rattle.tn_codes.specs.declared.codes.Func.{Func}
 use Rattle.tn_discipline.specs.Characters.{Characters, slot, with_slot, special_functions, is_settable, is_reserved, is_set_to, is_taken, value_fault}
-use Rattle.tn_discipline.specs.Characters.{char_fault, AreAllowed}
-use Rattle.tn_discipline.specs.declared.characters.CharFault.{CharFault}
-use Rattle.tn_discipline.specs.declared.characters.CharFault.TheVariants.{NotSettable, Reserved, Taken}
+use Rattle.tn_discipline.specs.{Characters.{char_fault, AreAllowed}, declared.characters.CharFault.{CharFault, TheVariants.{NotSettable, Reserved, Taken}}}
 use Rattle.tn_discipline.proofs.lemmas.Functions.{set_to, is_set, settable_of_slot, finds, found, untaken, held_by}
 
 -- what is found is the one function whose character the byte is

@@ -1,11 +1,7 @@
 -- A table that is filled, role by role.
-use Rattle.std.proofs.Common.{◌≡◌, ℕ, ◌+◌, ◌<◌, List, [], ◌∷◌, ◌++◌, length, get_or, inl, inr, arith, ◌∙◌}
-use Rattle.std.proofs.lemmas.List.{get_or_push}
-use Rattle.std.proofs.Math.ListN.{get_or-append}
+use Rattle.std.proofs.{Common.{◌≡◌, ℕ, ◌+◌, ◌<◌, List, [], ◌∷◌, ◌++◌, length, get_or, inl, inr, arith, ◌∙◌}, lemmas.List.get_or_push, Math.ListN.get_or-append}
 use Rattle.std.proofs.lemmas.Bool.Decides.{eqb_tells}
-use Rattle.tn_discipline.specs.Keys.{role_of_key}
-use Rattle.tn_discipline.specs.declared.termios.Settings.{Settings}
-use Rattle.tn_discipline.specs.declared.keys.Role.{Role}
+use Rattle.tn_discipline.specs.{Keys.role_of_key, declared.{termios.Settings.Settings, keys.Role.Role}}
 
 -- the first roles are those of the first keys
 abbrev pub AgreesTo : Settings → List Role → ℕ → Type 0

@@ -1,8 +1,7 @@
 -- The keys that a line has room for (MAX_CANON; XBD 11.1.6). The limit is how many bytes a line has at most,
 -- with its closing byte; the count is how many bytes the half line has.
 use Rattle.std.specs.Prelude.{ℕ, ◌+◌, ◌-◌, Bool, false, ◌==◌, List, [], ◌∷◌, if◌then◌else◌}
-use Rattle.tn_discipline.specs.Limits.{max_counted}
-use Rattle.tn_discipline.specs.declared.keys.Role.{Role}
+use Rattle.tn_discipline.specs.{Limits.max_counted, declared.keys.Role.Role}
 use Rattle.tn_discipline.specs.declared.keys.Role.TheVariants as role
 
 -- an ordinary byte that comes while the count is full is dropped

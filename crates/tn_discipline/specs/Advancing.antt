@@ -1,13 +1,8 @@
 -- What a line discipline does, said for every list of keys that may have come before.
 use Rattle.std.specs.Prelude.{◌≡◌, ◌↔◌, ◌<◌, ◌≤◌, ℕ, List, ◌++◌, length}
-use Rattle.tn_discipline.specs.Admitted.{admitted_roles}
-use Rattle.tn_discipline.specs.Entries.{entries_of, half_of}
-use Rattle.tn_discipline.specs.Steps.{half_all, gain_all}
-use Rattle.tn_discipline.specs.HalfLine.{HalfLine}
-use Rattle.tn_discipline.specs.declared.keys.Role.{Role}
-use Rattle.tn_discipline.specs.declared.reads.Entry.{Entry}
-use Rattle.tn_discipline.specs.declared.half_line.Effect.{Effect}
-use Rattle.tn_discipline.specs.declared.half_line.Effect.TheVariants.{Dropped}
+use Rattle.tn_discipline.specs.{Admitted.admitted_roles, Entries.{entries_of, half_of}, HalfLine.HalfLine}
+use Rattle.tn_discipline.specs.{Steps.{half_all, gain_all}, declared.{keys.Role.Role, reads.Entry.Entry}}
+use Rattle.tn_discipline.specs.declared.half_line.Effect.{Effect, TheVariants.Dropped}
 
 -- These keys leave this line: their half line is the bytes that were handed on, and then those that are held.
 pub record LeadsTo (history : List Role) (line : HalfLine) : Type 0 where

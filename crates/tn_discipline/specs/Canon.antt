@@ -1,8 +1,6 @@
 -- What a terminal makes of typed keys.
 use Rattle.std.specs.Prelude.{ℕ, List}
-use Rattle.tn_discipline.specs.Entries.{entries_of, half_of}
-use Rattle.tn_discipline.specs.Keys.{roles_of}
-use Rattle.tn_discipline.specs.declared.reads.Entry.{Entry}
+use Rattle.tn_discipline.specs.{Entries.{entries_of, half_of}, Keys.roles_of, declared.reads.Entry.Entry}
 use Rattle.tn_discipline.specs.declared.termios.Settings.{Settings}
 
 -- canonical input: the settings of a terminal, and how many bytes a line of it has at most, with its closing

@@ -1,11 +1,8 @@
 -- The special characters of a terminal (POSIX.1-2017, XBD 11.1.9), each under the function of the set of
 -- local characters that stands for it on the wire (RFC 1184, section 2.4).
 use Rattle.std.specs.Prelude.{◌≡◌, ℕ, Bool, false, IsFalse, not, ◌&&◌, ◌||◌, ◌==◌, Option, Some, None, List}
-use Rattle.std.specs.Prelude.{[], ◌∷◌}
-use Rattle.std.specs.Prelude.{if◌then◌else◌}
-use Rattle.std.specs.List.{list_any}
-use Rattle.tn_codes.specs.Codes.{func_code}
-use Rattle.tn_codes.specs.declared.codes.Func.{Func}
+use Rattle.std.specs.{Prelude.{[], ◌∷◌, if◌then◌else◌}, List.list_any}
+use Rattle.tn_codes.specs.{Codes.func_code, declared.codes.Func.Func}
 use Rattle.tn_codes.specs.declared.codes.Func.TheVariants as func
 use Rattle.tn_discipline.specs.declared.characters.CharFault.{CharFault}
 use Rattle.tn_discipline.specs.declared.characters.CharFault.TheVariants.{NotSettable, Reserved, Taken}

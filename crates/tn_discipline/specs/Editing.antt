@@ -1,9 +1,7 @@
 -- Keys that edit a line and make no entry, and keys that close it.
 use Rattle.std.specs.Prelude.{◌≡◌, ℕ, IsFalse, Option, Some, None, List, [], ◌∷◌, ◌++◌}
-use Rattle.tn_discipline.specs.HalfLine.{HalfLine}
-use Rattle.tn_discipline.specs.Keys.{role_of_key, gives_entry}
+use Rattle.tn_discipline.specs.{HalfLine.HalfLine, Keys.{role_of_key, gives_entry}, declared.keys.Role.Role}
 use Rattle.tn_discipline.specs.declared.termios.Settings.{Settings}
-use Rattle.tn_discipline.specs.declared.keys.Role.{Role}
 use Rattle.tn_discipline.specs.declared.keys.Role.TheVariants as role
 
 -- a key that makes no entry

@@ -1,12 +1,8 @@
 -- What reads of the terminal give (XBD 11.1.6), where a signal doesn't flush the line (NOFLSH, XBD 11.2.5).
-use Rattle.std.specs.Prelude.{ℕ, ◌≤◌, List, [], ◌∷◌, ◌++◌, length}
-use Rattle.std.specs.List.{flat_map}
-use Rattle.tn_discipline.specs.Admitted.{admitted_roles}
-use Rattle.tn_discipline.specs.Pieces.{Piece, pieces_of}
-use Rattle.tn_discipline.specs.Kept.{kept_bytes}
-use Rattle.tn_discipline.specs.declared.reads.Entry.{Entry}
+use Rattle.std.specs.{Prelude.{ℕ, ◌≤◌, List, [], ◌∷◌, ◌++◌, length}, List.flat_map}
+use Rattle.tn_discipline.specs.{Admitted.admitted_roles, Pieces.{Piece, pieces_of}, Kept.kept_bytes}
+use Rattle.tn_discipline.specs.declared.{reads.Entry.Entry, keys.Role.Role}
 use Rattle.tn_discipline.specs.declared.reads.Entry.TheVariants as entry
-use Rattle.tn_discipline.specs.declared.keys.Role.{Role}
 use Rattle.tn_discipline.specs.declared.keys.Role.TheVariants as role
 
 -- the signals among these keys

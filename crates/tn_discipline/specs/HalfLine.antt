@@ -1,14 +1,10 @@
 -- The half line in two parts: what was handed on, and what is held.
 use Rattle.std.specs.Prelude.{◌≡◌, ℕ, ◌+◌, ◌-◌, ◌==◌, nat_lt, Bool, List, [], ◌∷◌, ◌++◌, length}
 use Rattle.std.specs.Prelude.{if◌then◌else◌}
-use Rattle.tn_discipline.specs.Entries.{line_of}
-use Rattle.tn_discipline.specs.Limits.{max_counted}
-use Rattle.tn_discipline.specs.Steps.{front}
-use Rattle.tn_discipline.specs.declared.keys.Role.{Role}
+use Rattle.tn_discipline.specs.{Entries.line_of, Limits.max_counted, Steps.front, declared.keys.Role.Role}
+use Rattle.tn_discipline.specs.declared.{reads.Entry.Entry, half_line.Effect.Effect}
 use Rattle.tn_discipline.specs.declared.keys.Role.TheVariants as role
-use Rattle.tn_discipline.specs.declared.reads.Entry.{Entry}
 use Rattle.tn_discipline.specs.declared.reads.Entry.TheVariants as entry
-use Rattle.tn_discipline.specs.declared.half_line.Effect.{Effect}
 use Rattle.tn_discipline.specs.declared.half_line.Effect.TheVariants as effect
 
 -- the bytes that are held, how many bytes before them were handed on, and how many bytes the line has at most

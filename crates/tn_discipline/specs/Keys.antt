@@ -1,15 +1,10 @@
 -- What the typed bytes are to the line discipline.
 use Rattle.std.specs.Prelude.{ℕ, Bool, true, false, ◌&&◌, ◌==◌, Option, Some, None, List, [], ◌∷◌, map}
-use Rattle.std.specs.Prelude.{if◌then◌else◌}
-use Rattle.std.specs.List.{filter_map}
-use Rattle.tn_discipline.specs.Characters.{Characters, is_set_to}
-use Rattle.tn_discipline.specs.declared.termios.Flags.{Flags}
-use Rattle.tn_discipline.specs.declared.termios.Settings.{Settings}
-use Rattle.tn_discipline.specs.declared.reads.Sig.{Sig}
-use Rattle.tn_discipline.specs.declared.reads.Sig.TheVariants.{Int, Quit, Tstp}
-use Rattle.tn_discipline.specs.declared.keys.Role.{Role}
+use Rattle.std.specs.{Prelude.if◌then◌else◌, List.filter_map}
+use Rattle.tn_discipline.specs.{Characters.{Characters, is_set_to}, declared.reads.Sig.Sig}
+use Rattle.tn_discipline.specs.declared.{termios.Flags.Flags, keys.Role.{Role, TheVariants.{Kill, Ordinary}}}
+use Rattle.tn_discipline.specs.declared.{termios.Settings.Settings, reads.Sig.TheVariants.{Int, Quit, Tstp}}
 use Rattle.tn_discipline.specs.declared.keys.Role.TheVariants.{Ignored, Nl, Eol, Eol2, Eof, Signal, Erase}
-use Rattle.tn_discipline.specs.declared.keys.Role.TheVariants.{Kill, Ordinary}
 
 -- the flags of a new terminal
 abbrev pub standard_flags : Flags

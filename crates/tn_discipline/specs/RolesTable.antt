@@ -1,8 +1,6 @@
 -- The role of each key, in a table.
 use Rattle.std.specs.Prelude.{◌≡◌, ℕ, ◌<◌, List, length, get_or}
-use Rattle.tn_discipline.specs.Keys.{role_of_key}
-use Rattle.tn_discipline.specs.declared.termios.Settings.{Settings}
-use Rattle.tn_discipline.specs.declared.keys.Role.{Role}
+use Rattle.tn_discipline.specs.{Keys.role_of_key, declared.{termios.Settings.Settings, keys.Role.Role}}
 use Rattle.tn_discipline.specs.declared.keys.Role.TheVariants.{Ordinary}
 
 -- the table has the role of each byte

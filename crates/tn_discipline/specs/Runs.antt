@@ -1,10 +1,7 @@
 -- Keys, one after another.
 use Rattle.std.specs.Prelude.{ℕ, List, [], ◌∷◌, ◌++◌, map}
-use Rattle.tn_discipline.specs.HalfLine.{HalfLine, effect_of, line_after, effect_entries}
-use Rattle.tn_discipline.specs.Keys.{role_of_key}
-use Rattle.tn_discipline.specs.declared.reads.Entry.{Entry}
-use Rattle.tn_discipline.specs.declared.keys.Role.{Role}
-use Rattle.tn_discipline.specs.declared.keys.Role.TheVariants.{Ordinary}
+use Rattle.tn_discipline.specs.{HalfLine.{HalfLine, effect_of, line_after, effect_entries}, Keys.role_of_key}
+use Rattle.tn_discipline.specs.declared.{reads.Entry.Entry, keys.Role.{Role, TheVariants.Ordinary}}
 use Rattle.tn_discipline.specs.declared.termios.Settings.{Settings}
 
 -- the line after keys of these roles

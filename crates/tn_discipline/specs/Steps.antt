@@ -1,10 +1,8 @@
 -- The half line and the entries, key by key. `laws::one_more_role` ties this to the whole lists.
 use Rattle.std.specs.Prelude.{ℕ, ◌-◌, List, [], ◌∷◌, ◌++◌, length, take, if◌then◌else◌}
-use Rattle.tn_discipline.specs.Admitted.{is_dropped}
-use Rattle.tn_discipline.specs.Entries.{line_of}
-use Rattle.tn_discipline.specs.declared.reads.Entry.{Entry}
-use Rattle.tn_discipline.specs.declared.reads.Entry.TheVariants as entry
+use Rattle.tn_discipline.specs.{Admitted.is_dropped, Entries.line_of, declared.reads.Entry.Entry}
 use Rattle.tn_discipline.specs.declared.keys.Role.{Role}
+use Rattle.tn_discipline.specs.declared.reads.Entry.TheVariants as entry
 use Rattle.tn_discipline.specs.declared.keys.Role.TheVariants as role
 
 -- a list without its last element

@@ -1,8 +1,7 @@
 //! What a terminal shows of what is typed.
 
 ghost use Rattle.std.specs.Prelude.{◌≡◌};
-ghost use Rattle.tn_discipline.specs.Echo.{echo_at, one_shown};
-ghost use Rattle.tn_discipline.specs.Keys.{role_of_key};
+ghost use Rattle.tn_discipline.specs.{Echo.{echo_at, one_shown}, Keys.role_of_key};
 
 use crate::half_line::Effect;
 use crate::keys::{Role, role_of};

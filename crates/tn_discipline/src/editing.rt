@@ -1,9 +1,8 @@
 //! Keys that make no entry, one after another, at the parts of a line.
 ghost use Rattle.std.specs.Prelude.{◌≡◌, ◌+◌, ◌<◌, ◌≤◌, IsFalse, IsTrue, All, length, take, get_or, vec_len};
 ghost use Rattle.std.specs.Prelude.{vec_capacity};
-ghost use Rattle.tn_discipline.specs.Keys.{role_of_key, gives_entry};
+ghost use Rattle.tn_discipline.specs.{Keys.{role_of_key, gives_entry}, Runs.{line_after_all, each_role}};
 ghost use Rattle.tn_discipline.specs.HalfLine.{line_after, line_kept, line_erased};
-ghost use Rattle.tn_discipline.specs.Runs.{line_after_all, each_role};
 ghost use Rattle.tn_discipline.specs.Editing.{IsQuiet, line_at};
 ghost use Rattle.tn_discipline.specs.declared.keys.Role.TheVariants as role;
 

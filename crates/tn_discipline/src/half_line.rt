@@ -3,12 +3,10 @@
 ghost use Rattle.std.specs.Prelude.{◌≡◌, ◌==◌, ◌<◌, ◌≤◌, ◌+◌, ◌-◌, IsTrue, [], ◌∷◌, ◌++◌, All, length, take};
 ghost use Rattle.std.specs.Prelude.{get_or, min, IfOk, OnOk, OnErr, vec_len, vec_capacity};
 ghost use Rattle.tn_discipline.specs.Keys.{roles_of, role_of_key, literal_role, roles_from, gives_entry};
-ghost use Rattle.tn_discipline.specs.Limits.{max_counted};
-ghost use Rattle.tn_discipline.specs.Runs.{line_after_all, each_role, ordinary_roles};
-ghost use Rattle.tn_discipline.specs.Entries.{line_of};
+ghost use Rattle.tn_discipline.specs.{Limits.max_counted, Runs.{line_after_all, each_role, ordinary_roles}};
+ghost use Rattle.tn_discipline.specs.{Entries.line_of, HalfLine.GivesText};
 ghost use Rattle.tn_discipline.specs.HalfLine.{empty_line, line_length, line_released, line_resumed};
 ghost use Rattle.tn_discipline.specs.HalfLine.{effect_of, line_after, line_kept, line_erased, effect_entries};
-ghost use Rattle.tn_discipline.specs.HalfLine.{GivesText};
 ghost use Rattle.tn_discipline.specs.Editing.{IsQuiet, IsClosing, with_byte};
 ghost use Rattle.tn_discipline.specs.Advancing.{Advances, DropsExactly, KeepsHalf, LeadsWhereLong};
 ghost use Rattle.tn_discipline.specs.declared.half_line.Effect.TheVariants as effect;

@@ -1,9 +1,8 @@
 //! The roles of keys.
 
 ghost use Rattle.std.specs.Prelude.{◌≡◌};
-ghost use Rattle.tn_discipline.specs.Editing.{closing_byte};
+ghost use Rattle.tn_discipline.specs.{Editing.closing_byte, Keys.gives_entry};
 ghost use Rattle.tn_discipline.specs.Keys.{mapped_key, role_of_mapped, signal_of, role_of_key, literal_role};
-ghost use Rattle.tn_discipline.specs.Keys.{gives_entry};
 
 use crate::characters::Chars;
 use crate::reads::Sig;

@@ -5,15 +5,11 @@ ghost use Rattle.std.specs.Prelude.{length};
 ghost use Rattle.tn_codes.specs.declared.codes.Func.{Func};
 ghost use Rattle.tn_discipline.specs.Characters.{Characters, AreAllowed, slot, with_slot, char_fault};
 ghost use Rattle.tn_discipline.specs.Keys.{roles_of, role_of_key, roles_from, literal_role};
-ghost use Rattle.tn_discipline.specs.Admitted.{count_of};
-ghost use Rattle.tn_discipline.specs.Limits.{max_counted};
-ghost use Rattle.tn_discipline.specs.Entries.{HasAtMost, half_of, entries_of};
-ghost use Rattle.tn_discipline.specs.Steps.{half_next, gain_next, half_all, gain_all};
+ghost use Rattle.tn_discipline.specs.{Admitted.count_of, Limits.max_counted, Entries.{HasAtMost, half_of}};
+ghost use Rattle.tn_discipline.specs.{Entries.entries_of, Steps.{half_next, gain_next, half_all, gain_all}};
 ghost use Rattle.tn_discipline.specs.HalfLine.{HalfLine, line_length, effect_of, line_after, effect_entries};
 ghost use Rattle.tn_discipline.specs.Advancing.{LeadsTo, Advances, DropsExactly, AdvancesFromLine};
-ghost use Rattle.tn_discipline.specs.declared.keys.Role.{Role};
-ghost use Rattle.tn_discipline.specs.declared.reads.Entry.{Entry};
-ghost use Rattle.tn_discipline.specs.declared.termios.Settings.{Settings};
+ghost use Rattle.tn_discipline.specs.declared.{keys.Role.Role, reads.Entry.Entry, termios.Settings.Settings};
 
 /// Characters stay distinct and unreserved where one of them takes a value that is not refused.
 pub fn accepted_characters()

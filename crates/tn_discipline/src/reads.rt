@@ -1,7 +1,6 @@
 //! What a read of a terminal gives.
 
-ghost use Rattle.std.specs.Prelude.{◌≡◌, nat_eq};
-ghost use Rattle.std.specs.Cmp.Lexicographic.{pointwise, nat_list_eq_equiv};
+ghost use Rattle.std.specs.{Prelude.{◌≡◌, nat_eq}, Cmp.Lexicographic.{pointwise, nat_list_eq_equiv}};
 ghost use Rattle.std.specs.Cmp.{partial_equiv_from_equiv};
 
 use std::marker::Model;

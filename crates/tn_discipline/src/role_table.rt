@@ -1,8 +1,7 @@
 //! The roles of all keys in a table.
 
 ghost use Rattle.std.specs.Prelude.{◌≡◌, ◌≤◌, ◌<◌, length, take, get_or, All, IfOk, vec_capacity};
-ghost use Rattle.tn_discipline.specs.Keys.{role_of_key};
-ghost use Rattle.tn_discipline.specs.RolesTable.{IsPlain, Agrees};
+ghost use Rattle.tn_discipline.specs.{Keys.role_of_key, RolesTable.{IsPlain, Agrees}};
 
 use crate::keys::{Role, role_of};
 use crate::termios::Settings;
@@ -21,8 +20,7 @@ pub struct Roles {
 
 impl Model for Roles {
     ghost use Rattle.std.specs.Prelude.{◌≤◌, vec_capacity};
-    ghost use Rattle.tn_discipline.specs.declared.termios.Settings.{Settings};
-    ghost use Rattle.tn_discipline.specs.RolesTable.{Agrees};
+    ghost use Rattle.tn_discipline.specs.{declared.termios.Settings.Settings, RolesTable.Agrees};
 
     ghost Value = { Settings };
 

@@ -1,8 +1,7 @@
 //! The flags and the settings of a terminal.
 
 ghost use Rattle.std.specs.Prelude.{◌≡◌};
-ghost use Rattle.tn_discipline.specs.Keys.{standard_flags};
-ghost use Rattle.tn_discipline.specs.Characters.{standard_characters};
+ghost use Rattle.tn_discipline.specs.{Keys.standard_flags, Characters.standard_characters};
 
 use crate::characters::Chars;
 

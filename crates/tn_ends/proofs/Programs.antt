@@ -1,25 +1,16 @@
 -- The headline over two programs, from that over two sessions.
-use Rattle.std.proofs.Common.{◌≡◌, ℕ, All, Option, None, Some, List, [], ◌∷◌, refl, sym, ap, ◌∙◌, subst}
-use Rattle.std.proofs.lemmas.List.Elements.{All-nil, All-cons}
+use Rattle.std.proofs.{Common.{◌≡◌, ℕ, All, Option, None, Some, List, [], ◌∷◌, refl, sym, ap, ◌∙◌, subst}, lemmas.List.Elements.{All-nil, All-cons}}
 use Rattle.std.specs.Io.KnownBytes.{Appends}
 use Rattle.crossbeam_channel.specs.Claims.{view}
 use Rattle.tn_client.specs.declared.commands.UserCommand.TheVariants as user
-use Rattle.tn_machines.specs.client.Bringing.{Input, key_typed, command_sent, line_entered}
-use Rattle.tn_discipline.specs.Canon.{typed_entries}
-use Rattle.tn_discipline.specs.declared.reads.Entry.{Entry}
+use Rattle.tn_machines.specs.{client.Bringing.{Input, key_typed, command_sent, line_entered}, declared.faults.Ended.TheVariants.HangUp}
+use Rattle.tn_discipline.specs.{Canon.typed_entries, declared.reads.Entry.Entry}
 use Rattle.tn_ends.specs.Programs.{Programs, AreTheirs, ReadsWhatIsTyped, HeadlineOfPrograms}
 use Rattle.tn_two_sessions.specs.Transcripts.{Served, Connected, IsCarried, Headline, HasKey, keys_of}
-use Rattle.tn_serve.specs.Servers.{terminal_of}
-use Rattle.tn_machines.specs.declared.faults.Ended.TheVariants.{HangUp}
-use Rattle.tn_session.specs.Client.{RunningClient}
-use Rattle.tn_session.specs.Facts.{JobFacts, session_result, client_result}
-use Rattle.tn_session.specs.Transcripts.{all_read, all_wrote}
-use Rattle.tn_sockets.specs.Logs.{wrote}
-use Rattle.tn_sockets.specs.Queue.{put_bytes}
-use Rattle.tn_serve.specs.Servers.{attended}
-use Rattle.tn_streams.specs.Beside.{no_words}
-use Rattle.tn_streams.specs.Known.{KnownReader, KnownWriting}
-use Rattle.tn_streams.specs.Prefixes.{IsPrefixOf}
+use Rattle.tn_serve.specs.Servers.{terminal_of, attended}
+use Rattle.tn_session.specs.{Client.RunningClient, Facts.{JobFacts, session_result, client_result}, Transcripts.{all_read, all_wrote}}
+use Rattle.tn_sockets.specs.{Logs.wrote, Queue.put_bytes}
+use Rattle.tn_streams.specs.{Beside.no_words, Known.{KnownReader, KnownWriting}, Prefixes.IsPrefixOf}
 
 abbrev socket : KnownReader
 socket = record { bytes = None; failures = None; sizes = Some []; words = no_words }

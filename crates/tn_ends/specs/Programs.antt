@@ -2,23 +2,16 @@
 -- `HeadlineOfPrograms` at the end first.
 use Rattle.std.specs.Prelude.{◌≡◌, ℕ, IsTrue, Option, Some, List}
 use Rattle.crossbeam_channel.specs.Claims.{view}
-use Rattle.tn_connect.specs.Clients.{RunsClient, window_of}
-use Rattle.tn_connect.specs.Sent.{TookWhatWasWritten}
-use Rattle.tn_connect.specs.declared.connected.Connected.{Connected}
-use Rattle.tn_connect.specs.declared.settings.Connecting.{Connecting}
-use Rattle.tn_discipline.specs.Canon.{typed_entries}
-use Rattle.tn_discipline.specs.declared.reads.Entry.{Entry}
+use Rattle.tn_connect.specs.{Clients.{RunsClient, window_of}, Sent.TookWhatWasWritten}
+use Rattle.tn_connect.specs.declared.{connected.Connected.Connected, settings.Connecting.Connecting}
+use Rattle.tn_discipline.specs.{Canon.typed_entries, declared.reads.Entry.Entry}
 use Rattle.tn_two_sessions.specs.Transcripts.{IsCarried, keys_of}
-use Rattle.tn_serve.specs.Servers.{RunsServer, terminal_of}
-use Rattle.tn_serve.specs.declared.conversed.Conversed.{Conversed}
+use Rattle.tn_serve.specs.{Servers.{RunsServer, terminal_of}, declared.conversed.Conversed.Conversed}
 use Rattle.tn_serve.specs.declared.settings.SessionOptions.{SessionOptions}
 use Rattle.tn_machines.specs.declared.faults.Ended.TheVariants.{HangUp}
-use Rattle.tn_session.specs.Facts.{JobFacts}
-use Rattle.tn_session.specs.Transcripts.{Exchange, all_read, all_wrote, came_by}
-use Rattle.tn_sockets.specs.Logs.{logged}
-use Rattle.tn_sockets.specs.Queue.{put_bytes}
-use Rattle.tn_streams.specs.Known.{KnownTyping}
-use Rattle.tn_streams.specs.Prefixes.{IsPrefixOf}
+use Rattle.tn_session.specs.{Facts.JobFacts, Transcripts.{Exchange, all_read, all_wrote, came_by}}
+use Rattle.tn_sockets.specs.{Logs.logged, Queue.put_bytes}
+use Rattle.tn_streams.specs.{Known.KnownTyping, Prefixes.IsPrefixOf}
 
 -- both returned: what each gave back, and promises of it
 pub record Programs {J : Type 0} (facts : JobFacts J) : Type 0 where

@@ -1,9 +1,7 @@
 //! The headline over two programs, as a law over what their calls promise; and what both ends take as typed.
 
-ghost use Rattle.tn_ends.specs.Keys.{TypedAreKeys};
-ghost use Rattle.tn_ends.specs.Programs.{HeadlineOfPrograms};
-ghost use Rattle.tn_session.specs.Facts.{job_facts};
-ghost use Rattle.tn_session.specs.Makers.{begins};
+ghost use Rattle.tn_ends.specs.{Keys.TypedAreKeys, Programs.HeadlineOfPrograms};
+ghost use Rattle.tn_session.specs.{Facts.job_facts, Makers.begins};
 
 use tn_session::Maker;
 use tn_two_sessions::laws::what_you_type_is_what_the_job_reads;

@@ -1,15 +1,9 @@
 -- The number of the foreground job, and whether there is one.
-use Rattle.std.proofs.Common.{◌≡◌, ◌≢◌, ℕ, suc, ◌<◌, true, false, Option, Some, None, is_some, IsSome, [], ◌∷◌, length, refl, sym, ◌∙◌, ap}
-use Rattle.std.proofs.Common.{subst, if◌then◌else◌, arith, ◌⊎◌, inl, inr}
-use Rattle.std.proofs.lemmas.Grind.{common_steps}
-use Rattle.std.proofs.lemmas.List.{get_or_past}
-use Rattle.std.proofs.lemmas.Bool.{eq-eqb, ne_eqb}
-use Rattle.std.proofs.lemmas.Bool.Decides.{eqb_tells}
+use Rattle.std.proofs.Common.{◌≡◌, ◌≢◌, ℕ, suc, ◌<◌, true, false, Option, Some, None, is_some, IsSome, [], ◌∷◌, length, refl, sym, ◌∙◌, ap, subst}
+use Rattle.std.proofs.{Common.{if◌then◌else◌, arith, ◌⊎◌, inl, inr}, lemmas.{Grind.common_steps, List.get_or_past, Bool.{eq-eqb, ne_eqb, Decides.eqb_tells}}}
 use Rattle.std.proofs.lemmas.List.Folds.{list_any_at}
 use Rattle.tn_jobs.specs.Jobs.{Jobs, state_at, with_state, held_count, is_foreground, has_foreground, foreground_after, is_number, NamesForeground, IsTable}
-use Rattle.tn_jobs.specs.Jobs.{Adds}
-use Rattle.tn_jobs.specs.declared.verdicts.JobState.{JobState}
-use Rattle.tn_jobs.specs.declared.verdicts.JobState.TheVariants.{Foreground, Background, Stopped, Ended}
+use Rattle.tn_jobs.specs.{Jobs.Adds, declared.verdicts.JobState.{JobState, TheVariants.{Foreground, Background, Stopped, Ended}}}
 
 -- a number whose job is in the foreground
 has_foreground_at : (jobs : Jobs) (id : ℕ) → state_at jobs id ≡ Some Foreground → has_foreground jobs ≡ true

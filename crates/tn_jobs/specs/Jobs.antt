@@ -1,10 +1,8 @@
 -- The jobs that a terminal holds: at each number the state of its job, or nothing.
-use Rattle.std.specs.Prelude.{◌≡◌, ◌≢◌, ◌≤◌, ◌+◌, ℕ, Bool, true, false, Option, Some, None, List}
-use Rattle.std.specs.Prelude.{is_some, count_by, slice_index_or, slice_set, if◌then◌else◌, ◌↔◌, ◌==◌}
-use Rattle.std.specs.List.{list_any}
-use Rattle.tn_jobs.specs.declared.verdicts.JobState.{JobState}
+use Rattle.std.specs.Prelude.{◌≡◌, ◌≢◌, ◌≤◌, ◌+◌, ℕ, Bool, true, false, Option, Some, None, List, is_some}
+use Rattle.std.specs.{Prelude.{count_by, slice_index_or, slice_set, if◌then◌else◌, ◌↔◌, ◌==◌}, List.list_any}
+use Rattle.tn_jobs.specs.declared.{verdicts.JobState.JobState, held_jobs.JobFault.JobFault}
 use Rattle.tn_jobs.specs.declared.verdicts.JobState.TheVariants.{Foreground, Background, Stopped, Ended}
-use Rattle.tn_jobs.specs.declared.held_jobs.JobFault.{JobFault}
 use Rattle.tn_jobs.specs.declared.held_jobs.JobFault.TheVariants.{NoSuchJob, WrongState, Full, Memory}
 
 abbrev pub Jobs : Type 0

@@ -1,11 +1,9 @@
 -- POSIX.1-2017, XBD 11.1.4: a job in the background that reads from its terminal is stopped by SIGTTIN,
 -- and one that writes to it while TOSTOP is set by SIGTTOU. What reaches the terminal is this project's own.
 use Rattle.std.specs.Prelude.{Bool, true, false, Option, Some, None}
-use Rattle.tn_jobs.specs.declared.verdicts.After.{After}
-use Rattle.tn_jobs.specs.declared.verdicts.After.TheVariants.{Stay, WantsInput, Done, Stop}
-use Rattle.tn_jobs.specs.declared.verdicts.JobState.{JobState}
+use Rattle.tn_jobs.specs.declared.verdicts.After.{After, TheVariants.{Stay, WantsInput, Done, Stop}}
+use Rattle.tn_jobs.specs.declared.verdicts.{JobState.JobState, Why.TheVariants.{Tstp, Ttin, Ttou}}
 use Rattle.tn_jobs.specs.declared.verdicts.JobState.TheVariants.{Foreground, Background, Stopped, Ended}
-use Rattle.tn_jobs.specs.declared.verdicts.Why.TheVariants.{Tstp, Ttin, Ttou}
 use Rattle.tn_jobs.specs.declared.verdicts.Verdict.{Verdict}
 
 abbrev pub verdict : Bool → JobState → Option Verdict

@@ -1,8 +1,7 @@
 //! The jobs that a terminal holds, by their numbers.
 
-ghost use Rattle.std.specs.Prelude.{◌≡◌, ◌≢◌, ◌+◌, ◌<◌, [], Some, None, IsTrue, IsFalse, IsSome};
-ghost use Rattle.std.specs.Prelude.{IfOk, OnOk, IfErr, OnErr};
-ghost use Rattle.std.specs.Result.{result_err};
+ghost use Rattle.std.specs.Prelude.{◌≡◌, ◌≢◌, ◌+◌, ◌<◌, [], Some, None, IsTrue, IsFalse, IsSome, IfOk, OnOk};
+ghost use Rattle.std.specs.{Prelude.{IfErr, OnErr}, Result.result_err};
 ghost use Rattle.tn_jobs.specs.Jobs.{state_at, with_state, held_count, IsTable, Adds};
 ghost use Rattle.tn_jobs.specs.Jobs.{is_foreground, has_foreground, foreground_after, add_fault};
 ghost use Rattle.tn_jobs.specs.Jobs.{foreground_fault, background_fault, stopped_fault, done_fault};
@@ -42,8 +41,7 @@ pub struct Table {
 
 impl Model for Table {
     ghost use Rattle.std.specs.Prelude.{List, Option};
-    ghost use Rattle.tn_jobs.specs.declared.verdicts.JobState.{JobState};
-    ghost use Rattle.tn_jobs.specs.Jobs.{IsTable, NamesForeground};
+    ghost use Rattle.tn_jobs.specs.{declared.verdicts.JobState.JobState, Jobs.{IsTable, NamesForeground}};
 
     ghost Value = { List (Option JobState) };
 

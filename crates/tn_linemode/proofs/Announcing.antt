@@ -2,11 +2,9 @@
 use Rattle.std.proofs.Common.{◌≡◌, ◌≢◌, ◌⊎◌, ℕ, ◌==◌, Bool, true, false, ◌&&◌, ◌||◌, Option, Some, None, option_to_list, List, [], ◌∷◌, ◌++◌, map, refl, sym}
 use Rattle.std.proofs.Common.{ap, ◌∙◌, inl, inr, if◌then◌else◌, arith}
 use Rattle.std.specs.List.{list_all}
-use Rattle.tn_codes.specs.Codes.{func_code}
-use Rattle.tn_codes.specs.declared.codes.Func.{Func}
+use Rattle.tn_codes.specs.{Codes.func_code, declared.{codes.Func.Func, triples.Triple.Triple}}
 use Rattle.tn_codes.specs.declared.codes.Func.TheVariants as func
 use Rattle.tn_codes.specs.declared.codes.Level.TheVariants as level
-use Rattle.tn_codes.specs.declared.triples.Triple.{Triple}
 use Rattle.tn_discipline.specs.Characters.{Characters, AreAllowed, slot, with_slot, special_functions, is_same, is_settable, is_reserved, is_set_to}
 use Rattle.tn_discipline.proofs.lemmas.Functions.{same_function, apart, is_same-refl, is_among, among_more, finds, slot-with_slot, slot-with_slot-other}
 use Rattle.tn_discipline.proofs.lemmas.Functions.{same_slots}

@@ -1,23 +1,18 @@
 -- Answers to answers end.
 use Rattle.std.proofs.Common.{◌≡◌, ◌⊎◌, ◌<◌, ◌≤◌, ◌+◌, ℕ, zero, suc, ◌==◌, Bool, true, false, not, ◌&&◌, ◌||◌, Option, Some, None, is_none, option_to_list}
 use Rattle.std.proofs.Common.{List, [], ◌∷◌, ◌++◌, length, refl, sym, ap, subst, ◌∙◌, inl, inr, if◌then◌else◌, arith, rules, length-append}
-use Rattle.std.specs.Prelude.{All}
 use Rattle.std.proofs.lemmas.List.Elements.{All-nil, All-cons, All-append, All-head, All-tail}
-use Rattle.tn_codes.specs.declared.codes.Func.{Func}
+use Rattle.std.specs.Prelude.{All}
+use Rattle.tn_codes.specs.declared.{codes.{Func.Func, Level.Level}, triples.Triple.Triple}
 use Rattle.tn_codes.specs.declared.codes.Func.TheVariants as func
-use Rattle.tn_codes.specs.declared.codes.Level.{Level}
 use Rattle.tn_codes.specs.declared.codes.Level.TheVariants as level
-use Rattle.tn_codes.specs.declared.triples.Triple.{Triple}
 use Rattle.tn_discipline.specs.Characters.{Characters, AreAllowed, slot, with_slot, is_reserved, is_set_to, char_fault}
-use Rattle.tn_linemode.specs.declared.triples.Saying.{Saying}
-use Rattle.tn_linemode.specs.declared.triples.Saying.TheVariants as saying
+use Rattle.tn_linemode.specs.{declared.triples.Saying.Saying, Triples.{unsupported_triple, IsOffer}, Repeating.repeated}
 use Rattle.tn_linemode.specs.Triples.{has_ack, special_at, level_of, saying_of_all, saying_of_function, saying_of, triple_of, acknowledged_triple}
-use Rattle.tn_linemode.specs.Triples.{unsupported_triple, IsOffer}
 use Rattle.tn_linemode.specs.Exchange.{is_line_end, is_same_value, answers_along, server_takes, server_replies, server_next, server_answer, server_after}
 use Rattle.tn_linemode.specs.Exchange.{server_answers, server_is_asked, asks_for_table, wants_table, client_replies, client_next, client_answer, client_answers}
-use Rattle.tn_linemode.specs.Repeating.{repeated}
-use Rattle.tn_linemode.proofs.Announcing.{says-triple_of}
-use Rattle.tn_linemode.proofs.Offers.{says_offer}
+use Rattle.tn_linemode.specs.declared.triples.Saying.TheVariants as saying
+use Rattle.tn_linemode.proofs.{Announcing.says-triple_of, Offers.says_offer}
 
 -- A TRIPLE THAT ENDS AN EXCHANGE: an acknowledgement, or one that says nothing
 abbrev IsFinal : Triple → Type 0

@@ -1,10 +1,8 @@
 -- An array into which octets are written, three at a time.
 use Rattle.std.proofs.Common.{◌≡◌, ℕ, ◌+◌, ◌<◌, List, [], ◌∷◌, ◌++◌, length, take, get_or, slice_set, sym, ap, ◌∙◌, arith, append_assoc}
+use Rattle.std.proofs.lemmas.{List.{length-set, take_more, flat_map_more}, Grind.take-set_at}
 use Rattle.std.specs.List.{flat_map}
-use Rattle.std.proofs.lemmas.List.{length-set, take_more, flat_map_more}
-use Rattle.std.proofs.lemmas.Grind.{take-set_at}
-use Rattle.tn_codes.specs.Payloads.{octets_of}
-use Rattle.tn_codes.specs.declared.triples.Triple.{Triple}
+use Rattle.tn_codes.specs.{Payloads.octets_of, declared.triples.Triple.Triple}
 
 pub length-three : (xs : List ℕ) (n a b c : ℕ) → length (slice_set (slice_set (slice_set xs n a) (n + 1) b) (n + 2) c) ≡ length xs
 length-three xs n a b c =

@@ -1,20 +1,16 @@
 -- What a triple can say of a function that has a character, and what is said in answer.
 use Rattle.std.proofs.Common.{◌≡◌, ℕ, Bool, true, false, ◌||◌, ◌==◌, Option, Some, None, is_none, List, [], ◌∷◌, refl, sym, ap, subst, ◌∙◌, if◌then◌else◌}
 use Rattle.std.proofs.Common.{arith}
-use Rattle.tn_codes.specs.Codes.{func_code}
-use Rattle.tn_codes.specs.declared.codes.Func.{Func}
+use Rattle.tn_codes.specs.{Codes.func_code, declared.{codes.{Func.Func, Level.Level}, triples.Triple.Triple}}
 use Rattle.tn_codes.specs.declared.codes.Func.TheVariants as func
-use Rattle.tn_codes.specs.declared.codes.Level.{Level}
 use Rattle.tn_codes.specs.declared.codes.Level.TheVariants as level
-use Rattle.tn_codes.specs.declared.triples.Triple.{Triple}
 use Rattle.tn_discipline.specs.Characters.{Characters, AreAllowed, slot, with_slot, special_functions, standard_characters, is_settable, is_reserved, is_set_to}
 use Rattle.tn_discipline.specs.Characters.{char_fault}
-use Rattle.tn_linemode.specs.declared.triples.Saying.{Saying}
-use Rattle.tn_linemode.specs.declared.triples.Saying.TheVariants as saying
+use Rattle.tn_linemode.specs.{declared.triples.Saying.Saying, Triples.{acknowledged_triple, unsupported_triple, IsOffer}}
 use Rattle.tn_linemode.specs.Triples.{has_ack, special_at, level_of, wanted_character, saying_of_all, saying_of_function, saying_of, triple_of}
-use Rattle.tn_linemode.specs.Triples.{acknowledged_triple, unsupported_triple, IsOffer}
 use Rattle.tn_linemode.specs.Exchange.{cleared_character, without_character, is_line_end, is_same_value, server_takes, server_replies, server_next}
 use Rattle.tn_linemode.specs.Exchange.{server_answer, client_takes, client_replies, client_next, client_answer, Answers, table_after}
+use Rattle.tn_linemode.specs.declared.triples.Saying.TheVariants as saying
 use Rattle.tn_discipline.proofs.lemmas.Functions.{found}
 use Rattle.tn_linemode.proofs.Taking.{slot-without, accepts_offer}
 

@@ -4,8 +4,7 @@ use Rattle.std.specs.List.{list_any}
 use Rattle.tn_codes.specs.declared.codes.Func.{Func}
 use Rattle.tn_discipline.specs.Characters.{Characters, AreAllowed, slot, with_slot, special_functions, is_same, is_reserved, is_set_to, is_taken, char_fault}
 use Rattle.tn_discipline.proofs.lemmas.Functions.{same_function, apart, settable_of_slot, slot-with_slot, slot-with_slot-other, slot-with_each, same_slots}
-use Rattle.tn_linemode.specs.Triples.{IsOffer}
-use Rattle.tn_linemode.specs.Exchange.{cleared_character, without_character, is_line_end}
+use Rattle.tn_linemode.specs.{Triples.IsOffer, Exchange.{cleared_character, without_character, is_line_end}}
 
 -- no character is the byte that all have lost
 pub slot-without : (c : Characters) (byte : ℕ) (f : Func) → slot (without_character c (Some byte)) f ≡ cleared_character (slot c f) byte

@@ -6,9 +6,8 @@ use Rattle.std.specs.List.{list_any}
 use Rattle.tn_codes.specs.declared.triples.Triple.{Triple}
 use Rattle.tn_discipline.specs.Characters.{Characters, slot, with_slot, with_each, special_functions}
 use Rattle.tn_discipline.specs.Characters.{is_set_to, char_fault, standard_characters}
-use Rattle.tn_linemode.specs.declared.triples.Saying.{Saying}
+use Rattle.tn_linemode.specs.declared.triples.Saying.{Saying, TheVariants.Nothing}
 use Rattle.tn_linemode.specs.declared.triples.Saying.TheVariants.{Standard, Table, Character, Unsupported}
-use Rattle.tn_linemode.specs.declared.triples.Saying.TheVariants.{Nothing}
 use Rattle.tn_linemode.specs.Triples.{has_ack, saying_of, triple_of, acknowledged_triple, unsupported_triple}
 
 -- the same character, or none at both

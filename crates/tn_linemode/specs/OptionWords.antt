@@ -1,8 +1,7 @@
 -- The option words among items (RFC 855), the first one first.
 use Rattle.std.specs.Prelude.{ℕ, List, [], ◌∷◌}
 use Rattle.tn_codes.specs.declared.codes.Verb.{Verb}
-use Rattle.tn_nvt.specs.declared.items.Item.{Item}
-use Rattle.tn_nvt.specs.declared.items.Item.TheVariants.{Neg}
+use Rattle.tn_nvt.specs.declared.items.Item.{Item, TheVariants.Neg}
 
 abbrev pub words_in : List Item → List (Verb × ℕ)
 words_in [] = []

@@ -1,8 +1,6 @@
 -- Fronts: of what was to be said, and of a stream.
 use Rattle.std.specs.Prelude.{◌≡◌, ℕ, List, [], ◌∷◌, ◌++◌}
-use Rattle.tn_nvt.specs.Spelling.{spells}
-use Rattle.tn_nvt.specs.Feeding.{DecoderState, KeepsParameter}
-use Rattle.tn_nvt.specs.Stream.{Reading}
+use Rattle.tn_nvt.specs.{Spelling.spells, Feeding.{DecoderState, KeepsParameter}, Stream.Reading}
 use Rattle.tn_nvt.specs.declared.items.Item.{Item}
 
 -- a prefix of these items was appended

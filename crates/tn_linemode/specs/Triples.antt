@@ -1,13 +1,9 @@
 -- What one triple of a list of local characters says (RFC 1184, section 2.4): a function,
 -- a modifier and a character.
-use Rattle.std.specs.Prelude.{ℕ, ◌==◌, Bool, IsTrue, IsFalse, not, Option, Some, None, find, bit_and}
-use Rattle.std.specs.Prelude.{bit_or}
+use Rattle.std.specs.Prelude.{ℕ, ◌==◌, Bool, IsTrue, IsFalse, not, Option, Some, None, find, bit_and, bit_or}
 use Rattle.std.specs.Prelude.{if◌then◌else◌}
-use Rattle.tn_codes.specs.Codes.{func_code}
-use Rattle.tn_codes.specs.declared.codes.Func.{Func}
-use Rattle.tn_codes.specs.declared.codes.Level.{Level}
+use Rattle.tn_codes.specs.{Codes.func_code, declared.{codes.{Func.Func, Level.Level}, triples.Triple.Triple}}
 use Rattle.tn_codes.specs.declared.codes.Level.TheVariants as level
-use Rattle.tn_codes.specs.declared.triples.Triple.{Triple}
 use Rattle.tn_discipline.specs.Characters.{slot, special_functions, standard_characters, is_settable}
 use Rattle.tn_discipline.specs.Characters.{is_set_to}
 use Rattle.tn_linemode.specs.declared.triples.Saying.{Saying}

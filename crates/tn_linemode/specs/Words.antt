@@ -1,15 +1,10 @@
 -- What either end says as items, and what a subnegotiation says to it.
 use Rattle.std.specs.Prelude.{◌≡◌, ◌≢◌, ℕ, Bool, true, false, not, ◌&&◌, nat_le, Option, Some, None, List, []}
 use Rattle.std.specs.Prelude.{◌∷◌, length, if◌then◌else◌}
-use Rattle.tn_codes.specs.PayloadOf.{payload_of}
-use Rattle.tn_codes.specs.Payloads.{option_of, parameters_of}
-use Rattle.tn_codes.specs.declared.codes.Verb.{Verb}
-use Rattle.tn_codes.specs.declared.payloads.Payload.{Payload}
-use Rattle.tn_codes.specs.declared.payloads.Payload.TheVariants.{Mode, Slc}
+use Rattle.tn_codes.specs.{PayloadOf.payload_of, Payloads.{option_of, parameters_of}}
+use Rattle.tn_codes.specs.declared.{codes.Verb.Verb, payloads.Payload.{Payload, TheVariants.{Mode, Slc}}}
 use Rattle.tn_codes.specs.declared.triples.Triple.{Triple}
-use Rattle.tn_nvt.specs.Spelling.{max_parameters}
-use Rattle.tn_nvt.specs.declared.items.Item.{Item}
-use Rattle.tn_nvt.specs.declared.items.Item.TheVariants.{Neg, Sub}
+use Rattle.tn_nvt.specs.{Spelling.max_parameters, declared.items.Item.{Item, TheVariants.{Neg, Sub}}}
 
 -- an option word (RFC 855)
 abbrev pub word_items : Option (Verb × ℕ) → List Item

@@ -1,12 +1,10 @@
 //! The table of local characters at the client.
 
 ghost use Rattle.std.specs.Prelude.{◌≡◌, ◌+◌, ◌<◌, ◌++◌, length, OnOk, OnErr, IfOk, None, Some, vec_len};
-ghost use Rattle.std.specs.Prelude.{vec_capacity};
-ghost use Rattle.std.specs.Result.{result_err};
+ghost use Rattle.std.specs.{Prelude.vec_capacity, Result.result_err};
 ghost use Rattle.tn_discipline.specs.Characters.{with_slot, char_fault, standard_characters};
-ghost use Rattle.tn_linemode.specs.Triples.{triple_of, IsOffer};
+ghost use Rattle.tn_linemode.specs.{Triples.{triple_of, IsOffer}, Exchange.{client_after, client_answers}};
 ghost use Rattle.tn_linemode.specs.Exchange.{without_character, is_line_end, client_takes, client_replies};
-ghost use Rattle.tn_linemode.specs.Exchange.{client_after, client_answers};
 
 use crate::answering::{Reacts, react_whole};
 use crate::triples::{Saying, acknowledging, has_ack, reading_of, triple_of, unsupported};

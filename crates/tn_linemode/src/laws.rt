@@ -2,14 +2,11 @@
 
 ghost use Rattle.std.specs.Prelude.{◌≡◌, ◌≤◌, ◌<◌, ℕ, IsTrue, IsFalse, Some, List, [], length, bit_and};
 ghost use Rattle.std.specs.List.{list_all};
-ghost use Rattle.tn_codes.specs.Codes.{level_code};
-ghost use Rattle.tn_codes.specs.declared.triples.Triple.{Triple};
+ghost use Rattle.tn_codes.specs.{Codes.level_code, declared.triples.Triple.Triple};
 ghost use Rattle.tn_discipline.specs.Characters.{Characters, AreAllowed};
-ghost use Rattle.tn_linemode.specs.Triples.{has_ack, level_of};
+ghost use Rattle.tn_linemode.specs.{Triples.{has_ack, level_of}, Exchange.Answers, Repeating.repeated};
 ghost use Rattle.tn_linemode.specs.Exchange.{announcement, server_after, server_answers, server_is_asked};
 ghost use Rattle.tn_linemode.specs.Exchange.{client_after, client_answers, server_answer, client_answer};
-ghost use Rattle.tn_linemode.specs.Exchange.{Answers};
-ghost use Rattle.tn_linemode.specs.Repeating.{repeated};
 
 use tn_discipline::Chars;
 use tn_discipline::laws::accepted_characters;

@@ -2,8 +2,7 @@
 //! so that no memory is taken for them.
 
 ghost use Rattle.std.specs.Prelude.{◌≡◌, ◌≤◌, ◌+◌, ◌*◌, ◌∷◌, length, take, flat_map};
-ghost use Rattle.tn_codes.specs.Codes.{verb_code};
-ghost use Rattle.tn_codes.specs.Payloads.{forwardmask, slc, octets_of, max_triples};
+ghost use Rattle.tn_codes.specs.{Codes.verb_code, Payloads.{forwardmask, slc, octets_of, max_triples}};
 ghost use Rattle.tn_codes.specs.declared.codes.Verb.TheVariants.{DoIt};
 
 use tn_codes::{FORWARDMASK, Mask, SLC, Triple, Verb};

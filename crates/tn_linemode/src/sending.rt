@@ -3,8 +3,7 @@
 ghost use Rattle.std.specs.Prelude.{◌≡◌, ◌≢◌, ◌≤◌, [], ◌∷◌, ◌++◌, length, vec_capacity, OnOk, OnErr};
 ghost use Rattle.tn_codes.specs.Payloads.{option_of, IsShort, max_triples};
 ghost use Rattle.tn_codes.specs.declared.payloads.Payload.TheVariants as payload;
-ghost use Rattle.tn_nvt.specs.Room.{LacksRoom};
-ghost use Rattle.tn_nvt.specs.Spelling.{spells};
+ghost use Rattle.tn_nvt.specs.{Room.LacksRoom, Spelling.spells};
 ghost use Rattle.tn_linemode.specs.Words.{word_items, payload_items, mode_items, list_items};
 
 use crate::parameters::{list_parameters, mask_parameters};

@@ -1,7 +1,6 @@
 -- The last byte of a line.
 use Rattle.std.proofs.Common.{◌≡◌, ℕ, ◌==◌, List, [], ◌∷◌, ◌++◌, refl, ap, if◌then◌else◌}
-use Rattle.tn_lines.specs.LineEnds.{end_bytes, line_said}
-use Rattle.tn_lines.specs.declared.line_ends.LineEnd.{LineEnd}
+use Rattle.tn_lines.specs.{LineEnds.{end_bytes, line_said}, declared.line_ends.LineEnd.LineEnd}
 
 pub said_last : (line_end : LineEnd) (front : List ℕ) (last : ℕ)
     → line_said line_end (front ++ last ∷ []) ≡ front ++ (if last == 10 then end_bytes line_end else last ∷ [])

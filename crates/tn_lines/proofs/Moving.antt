@@ -1,20 +1,10 @@
 -- Keys that are taken one after another.
 use Rattle.std.proofs.Common.{◌≡◌, ℕ, Bool, ◌||◌, List, [], ◌++◌, refl, sym, ap, ◌∙◌, subst}
-use Rattle.tn_discipline.specs.Advancing.{Advances}
-use Rattle.tn_discipline.specs.HalfLine.{effect_of, line_after, effect_entries}
-use Rattle.tn_discipline.specs.Keys.{roles_from}
-use Rattle.tn_discipline.specs.Runs.{line_after_all}
-use Rattle.tn_discipline.specs.declared.keys.Role.{Role}
-use Rattle.tn_discipline.specs.declared.reads.Entry.{Entry}
-use Rattle.tn_discipline.specs.declared.termios.Settings.{Settings}
-use Rattle.tn_discipline.proofs.lemmas.Lines.{advances, advances_nothing}
-use Rattle.tn_discipline.proofs.lemmas.Runs.{advances_both, line_after_all-append}
-use Rattle.tn_lines.specs.Said.{has_ended}
-use Rattle.tn_lines.specs.Shown.{shown_at, shown_from}
-use Rattle.tn_lines.specs.Steps.{due_unless, said_at, ended_after}
-use Rattle.tn_lines.specs.declared.key_lines.KeyLines.{KeyLines}
-use Rattle.tn_lines.proofs.Taking.{or_false}
-use Rattle.tn_lines.proofs.Parts.{due_unless-append, ended-append, or_or, shown_from-append, shown_one, each_one, nothing_due}
+use Rattle.tn_discipline.specs.{Advancing.Advances, HalfLine.{effect_of, line_after, effect_entries}, Keys.roles_from, Runs.line_after_all}
+use Rattle.tn_discipline.specs.declared.{keys.Role.Role, reads.Entry.Entry, termios.Settings.Settings}
+use Rattle.tn_discipline.proofs.lemmas.{Lines.{advances, advances_nothing}, Runs.{advances_both, line_after_all-append}}
+use Rattle.tn_lines.specs.{Said.has_ended, Shown.{shown_at, shown_from}, Steps.{due_unless, said_at, ended_after}, declared.key_lines.KeyLines.KeyLines}
+use Rattle.tn_lines.proofs.{Taking.or_false, Parts.{due_unless-append, ended-append, or_or, shown_from-append, shown_one, each_one, nothing_due}}
 
 -- these keys were taken, and gave these entries; this was said and shown
 pub record Moves (old : KeyLines) (acts : List Role) (gain : List Entry) (said shown : List ℕ) (new : KeyLines) : Type 0 where

@@ -1,18 +1,9 @@
 -- What is said and shown of more keys.
 use Rattle.std.proofs.Common.{◌≡◌, ℕ, Bool, true, false, ◌||◌, List, [], ◌∷◌, ◌++◌, refl, sym, ap, ◌∙◌, append-nil, append_assoc}
-use Rattle.tn_discipline.specs.HalfLine.{HalfLine, line_after}
-use Rattle.tn_discipline.specs.Keys.{roles_from}
-use Rattle.tn_discipline.specs.Runs.{line_after_all}
-use Rattle.tn_discipline.specs.declared.keys.Role.{Role}
+use Rattle.tn_discipline.specs.{HalfLine.{HalfLine, line_after}, Keys.roles_from, Runs.line_after_all, declared.{keys.Role.Role, reads.Entry.Entry}}
+use Rattle.tn_discipline.specs.declared.{reads.Entry.TheVariants.{Text, Eof, Signal}, termios.Flags.Flags}
 use Rattle.tn_discipline.specs.declared.keys.Role.TheVariants as role
-use Rattle.tn_discipline.specs.declared.reads.Entry.{Entry}
-use Rattle.tn_discipline.specs.declared.reads.Entry.TheVariants.{Text, Eof, Signal}
-use Rattle.tn_discipline.specs.declared.termios.Flags.{Flags}
-use Rattle.tn_lines.specs.LineEnds.{line_said}
-use Rattle.tn_lines.specs.Said.{due, has_ended}
-use Rattle.tn_lines.specs.Shown.{shown_at, shown_from}
-use Rattle.tn_lines.specs.Steps.{due_unless}
-use Rattle.tn_lines.specs.declared.line_ends.LineEnd.{LineEnd}
+use Rattle.tn_lines.specs.{LineEnds.line_said, Said.{due, has_ended}, Shown.{shown_at, shown_from}, Steps.due_unless, declared.line_ends.LineEnd.LineEnd}
 
 -- MORE ENTRIES
 

@@ -1,8 +1,7 @@
 -- A file that is read in pieces.
 use Rattle.std.proofs.Common.{◌≡◌, ◌<◌, ℕ, ◌+◌, ◌==◌, Bool, false, List, [], ◌∷◌, ◌++◌, length, take, get_or, refl, sym, ap, ◌∙◌, append-nil, append_assoc}
 use Rattle.std.proofs.lemmas.List.{take_more}
-use Rattle.tn_lines.specs.Files.{byte_said, said_from, ends_in_return, said_of_file, Reads}
-use Rattle.tn_lines.specs.declared.file_lines.FileLines.{FileLines}
+use Rattle.tn_lines.specs.{Files.{byte_said, said_from, ends_in_return, said_of_file, Reads}, declared.file_lines.FileLines.FileLines}
 use Rattle.tn_lines.specs.declared.line_ends.LineEnd.{LineEnd}
 
 pub said_from-append : (e : LineEnd) (after : Bool) (xs ys : List ℕ)

@@ -1,9 +1,7 @@
 -- What is shown in pieces.
 use Rattle.std.proofs.Common.{◌≡◌, ◌<◌, ℕ, ◌+◌, ◌==◌, Bool, false, List, [], ◌∷◌, ◌++◌, length, take, get_or, refl, sym, ap, ◌∙◌, append-nil, append_assoc}
 use Rattle.std.proofs.lemmas.List.{take_more}
-use Rattle.tn_lines.specs.Files.{ends_in_return}
-use Rattle.tn_lines.specs.Edges.{byte_shown, shown_behind, at_screen, ShowsOn}
-use Rattle.tn_lines.specs.declared.left_edge.LeftEdge.{LeftEdge}
+use Rattle.tn_lines.specs.{Files.ends_in_return, Edges.{byte_shown, shown_behind, at_screen, ShowsOn}, declared.left_edge.LeftEdge.LeftEdge}
 use Rattle.tn_lines.proofs.Reading.{ends-append}
 
 shown_behind-append : (t after : Bool) (xs ys : List ℕ) → shown_behind t after (xs ++ ys) ≡ shown_behind t after xs

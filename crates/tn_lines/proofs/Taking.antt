@@ -1,9 +1,7 @@
 -- More keys that are taken.
 use Rattle.std.proofs.Common.{◌≡◌, ℕ, suc, Bool, true, false, ◌||◌, ◌&&◌, All, arith, List, [], ◌∷◌, ◌++◌, refl, sym, ap, ◌∙◌, append-nil, append_assoc}
 use Rattle.std.proofs.Common.{if◌then◌else◌}
-use Rattle.tn_discipline.specs.Keys.{roles_from}
-use Rattle.tn_discipline.specs.Steps.{half_next, half_all}
-use Rattle.tn_discipline.specs.declared.keys.Role.{Role}
+use Rattle.tn_discipline.specs.{Keys.roles_from, Steps.{half_next, half_all}, declared.keys.Role.Role}
 use Rattle.tn_discipline.specs.declared.keys.Role.TheVariants as role
 use Rattle.tn_lines.specs.Taken.{is_empty, interrupts, leaves, taken_as, taken_from, has_left_from}
 

@@ -1,30 +1,14 @@
 -- What typed keys lead to.
 use Rattle.std.proofs.Common.{◌≡◌, ◌<◌, ℕ, ◌+◌, Bool, true, false, ◌||◌, List, [], ◌∷◌, ◌++◌, length, take, get_or, refl, sym, ap, ◌∙◌, subst, arith}
-use Rattle.std.proofs.Common.{append-nil, append_assoc}
-use Rattle.std.proofs.lemmas.List.{take_more}
+use Rattle.std.proofs.{Common.{append-nil, append_assoc}, lemmas.List.take_more}
 use Rattle.tn_discipline.specs.Advancing as discipline
-use Rattle.tn_discipline.specs.Canon.{Canon}
-use Rattle.tn_discipline.specs.Entries.{entries_of, half_of}
-use Rattle.tn_discipline.specs.HalfLine.{empty_line}
-use Rattle.tn_discipline.specs.Keys.{roles_of, role_of_key, roles_from}
-use Rattle.tn_discipline.specs.Runs.{line_after_all}
-use Rattle.tn_discipline.specs.Steps.{half_all}
-use Rattle.tn_discipline.specs.declared.keys.Role.{Role}
-use Rattle.tn_discipline.specs.declared.reads.Entry.{Entry}
-use Rattle.tn_discipline.specs.declared.termios.Settings.{Settings}
-use Rattle.tn_discipline.proofs.lemmas.Histories.{half-all}
-use Rattle.tn_discipline.proofs.lemmas.KeyRoles.{roles_of-push}
-use Rattle.tn_discipline.proofs.lemmas.Runs.{line_after_all-append}
-use Rattle.tn_lines.specs.Leading.{LeadsTo, Types, Grows}
-use Rattle.tn_lines.specs.Said.{due, has_ended, entries_taken, said_of}
-use Rattle.tn_lines.specs.Shown.{shown_from, shown_of}
-use Rattle.tn_lines.specs.Steps.{due_unless}
-use Rattle.tn_lines.specs.Taken.{leaves, taken_from, has_left_from, taken, has_left}
-use Rattle.tn_lines.specs.declared.key_lines.KeyLines.{KeyLines}
-use Rattle.tn_lines.specs.declared.outputs.Output.{Output}
-use Rattle.tn_lines.proofs.Taking.{taken-more, left-more, taken-left, left-left, acts_of, taken_from-one, has_left_from-one}
+use Rattle.tn_discipline.specs.{Canon.Canon, Entries.{entries_of, half_of}, HalfLine.empty_line, Keys.{roles_of, role_of_key, roles_from}, Runs.line_after_all}
+use Rattle.tn_discipline.specs.{Steps.half_all, declared.{keys.Role.Role, reads.Entry.Entry, termios.Settings.Settings}}
+use Rattle.tn_discipline.proofs.lemmas.{Histories.half-all, KeyRoles.roles_of-push, Runs.line_after_all-append}
+use Rattle.tn_lines.specs.{Leading.{LeadsTo, Types, Grows}, Said.{due, has_ended, entries_taken, said_of}, Shown.{shown_from, shown_of}, Steps.due_unless}
+use Rattle.tn_lines.specs.{Taken.{leaves, taken_from, has_left_from, taken, has_left}, declared.{key_lines.KeyLines.KeyLines, outputs.Output.Output}}
+use Rattle.tn_lines.proofs.{Taking.{taken-more, left-more, taken-left, left-left, acts_of, taken_from-one, has_left_from-one}, Moving.{Moves, moves_nothing}}
 use Rattle.tn_lines.proofs.Parts.{due-append, ended-append, shown_from-append}
-use Rattle.tn_lines.proofs.Moving.{Moves, moves_nothing}
 
 -- of these keys, behind those before them, these were taken; and they left, or not
 pub record TakesOn (canon : Canon) (before keys : List ℕ) (acts : List Role) (left : Bool) : Type 0 where

@@ -1,8 +1,7 @@
 -- What a screen shows of what a service says: its bytes as they are, and at a terminal a carriage return
 -- before each line feed that has none.
 use Rattle.std.specs.Prelude.{◌≡◌, ℕ, ◌==◌, Bool, false, not, ◌&&◌, List, [], ◌∷◌, ◌++◌, if◌then◌else◌}
-use Rattle.tn_lines.specs.Files.{ends_in_return}
-use Rattle.tn_lines.specs.declared.left_edge.LeftEdge.{LeftEdge}
+use Rattle.tn_lines.specs.{Files.ends_in_return, declared.left_edge.LeftEdge.LeftEdge}
 
 abbrev pub byte_shown : Bool → Bool → ℕ → List ℕ
 byte_shown at_terminal after_return byte =

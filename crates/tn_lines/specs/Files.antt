@@ -1,8 +1,7 @@
 -- What a service is told of a file: its bytes as they are, and of each line end, which is CR, LF or CR LF,
 -- the one that was chosen.
 use Rattle.std.specs.Prelude.{◌≡◌, ℕ, ◌==◌, Bool, false, List, [], ◌∷◌, ◌++◌, if◌then◌else◌}
-use Rattle.tn_lines.specs.LineEnds.{end_bytes}
-use Rattle.tn_lines.specs.declared.line_ends.LineEnd.{LineEnd}
+use Rattle.tn_lines.specs.{LineEnds.end_bytes, declared.line_ends.LineEnd.LineEnd}
 use Rattle.tn_lines.specs.declared.file_lines.FileLines.{FileLines}
 
 -- a line feed behind a carriage return ends the same line

@@ -3,11 +3,8 @@ use Rattle.std.specs.Prelude.{◌≡◌, ℕ, Bool, false, List, [], ◌++◌}
 use Rattle.tn_discipline.specs.Canon.{Canon}
 use Rattle.tn_lines.specs.Files as files
 use Rattle.tn_lines.specs.Leading as typing
-use Rattle.tn_lines.specs.Said.{entries_taken, said_of, has_ended}
-use Rattle.tn_lines.specs.Shown.{shown_of}
-use Rattle.tn_lines.specs.Taken.{has_left}
-use Rattle.tn_lines.specs.declared.any_lines.AnyLines.{AnyLines}
-use Rattle.tn_lines.specs.declared.any_lines.AnyLines.TheVariants.{Typed, Read}
+use Rattle.tn_lines.specs.{Said.{entries_taken, said_of, has_ended}, Shown.shown_of, Taken.has_left}
+use Rattle.tn_lines.specs.declared.any_lines.AnyLines.{AnyLines, TheVariants.{Typed, Read}}
 use Rattle.tn_lines.specs.declared.line_ends.LineEnd.{LineEnd}
 
 -- the settings of the terminal if there is one, and the line end

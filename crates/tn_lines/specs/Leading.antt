@@ -1,14 +1,9 @@
 -- What typed keys lead to, whatever keys were typed before.
 use Rattle.std.specs.Prelude.{◌≡◌, ℕ, List, ◌++◌}
 use Rattle.tn_discipline.specs.Advancing as discipline
-use Rattle.tn_discipline.specs.Canon.{Canon}
-use Rattle.tn_discipline.specs.HalfLine.{empty_line}
-use Rattle.tn_discipline.specs.Runs.{line_after_all}
-use Rattle.tn_lines.specs.Said.{entries_taken, said_of, has_ended}
-use Rattle.tn_lines.specs.Shown.{shown_of}
-use Rattle.tn_lines.specs.Taken.{taken, has_left}
-use Rattle.tn_lines.specs.declared.key_lines.KeyLines.{KeyLines}
-use Rattle.tn_lines.specs.declared.outputs.Output.{Output}
+use Rattle.tn_discipline.specs.{Canon.Canon, HalfLine.empty_line, Runs.line_after_all}
+use Rattle.tn_lines.specs.{Said.{entries_taken, said_of, has_ended}, Shown.shown_of, Taken.{taken, has_left}}
+use Rattle.tn_lines.specs.declared.{key_lines.KeyLines.KeyLines, outputs.Output.Output}
 
 -- these keys were typed at a terminal with these settings
 pub record LeadsTo (canon : Canon) (keys : List ℕ) (lines : KeyLines) : Type 0 where

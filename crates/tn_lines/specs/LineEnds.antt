@@ -1,7 +1,6 @@
 -- A line on its way to a service, which ends there by the line end that was chosen.
 use Rattle.std.specs.Prelude.{ℕ, ◌==◌, List, [], ◌∷◌, if◌then◌else◌}
-use Rattle.tn_lines.specs.declared.line_ends.LineEnd.{LineEnd}
-use Rattle.tn_lines.specs.declared.line_ends.LineEnd.TheVariants.{CrLf, Lf, Cr}
+use Rattle.tn_lines.specs.declared.line_ends.LineEnd.{LineEnd, TheVariants.{CrLf, Lf, Cr}}
 
 abbrev pub end_bytes : LineEnd → List ℕ
 end_bytes CrLf = 13 ∷ 10 ∷ []

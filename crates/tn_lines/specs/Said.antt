@@ -1,13 +1,9 @@
 -- What a service is told of typed keys: the lines of the entries that they give at the user's terminal, each
 -- once, in order, each with its line end, up to the end of file.
 use Rattle.std.specs.Prelude.{ℕ, Bool, true, false, List, [], ◌∷◌, ◌++◌}
-use Rattle.tn_discipline.specs.Canon.{Canon}
-use Rattle.tn_discipline.specs.Entries.{entries_of}
-use Rattle.tn_discipline.specs.declared.reads.Entry.{Entry}
+use Rattle.tn_discipline.specs.{Canon.Canon, Entries.entries_of, declared.reads.Entry.Entry}
 use Rattle.tn_discipline.specs.declared.reads.Entry.TheVariants.{Text, Eof, Signal}
-use Rattle.tn_lines.specs.LineEnds.{line_said}
-use Rattle.tn_lines.specs.Taken.{taken}
-use Rattle.tn_lines.specs.declared.line_ends.LineEnd.{LineEnd}
+use Rattle.tn_lines.specs.{LineEnds.line_said, Taken.taken, declared.line_ends.LineEnd.LineEnd}
 
 -- a line that the end of file closed has no line feed, and goes as it is
 abbrev pub due : LineEnd → List Entry → List ℕ

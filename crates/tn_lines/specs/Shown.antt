@@ -1,14 +1,10 @@
 -- What a user's terminal shows of typed keys: their echo, and an interrupt or a quit by its name.
 use Rattle.std.specs.Prelude.{ℕ, Option, Some, None, List, [], ◌∷◌, ◌++◌}
-use Rattle.tn_discipline.specs.Canon.{Canon}
-use Rattle.tn_discipline.specs.Echo.{echo_at}
+use Rattle.tn_discipline.specs.{Canon.Canon, Echo.echo_at, declared.{echo.Symbol.Symbol, keys.Role.Role}}
 use Rattle.tn_discipline.specs.HalfLine.{HalfLine, empty_line, effect_of, line_after}
-use Rattle.tn_discipline.specs.declared.echo.Symbol.{Symbol}
-use Rattle.tn_discipline.specs.declared.echo.Symbol.TheVariants.{Byte, Newline}
-use Rattle.tn_discipline.specs.declared.keys.Role.{Role}
-use Rattle.tn_discipline.specs.declared.keys.Role.TheVariants as role
+use Rattle.tn_discipline.specs.declared.{echo.Symbol.TheVariants.{Byte, Newline}, termios.Flags.Flags}
 use Rattle.tn_discipline.specs.declared.reads.Sig.TheVariants.{Int, Quit}
-use Rattle.tn_discipline.specs.declared.termios.Flags.{Flags}
+use Rattle.tn_discipline.specs.declared.keys.Role.TheVariants as role
 use Rattle.tn_lines.specs.Taken.{taken}
 
 -- a new line is a carriage return and a line feed

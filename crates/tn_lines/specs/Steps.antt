@@ -1,10 +1,8 @@
 -- What one key more says and ends, where its role and the half line before it are these.
 use Rattle.std.specs.Prelude.{ℕ, Bool, ◌||◌, List, [], if◌then◌else◌}
-use Rattle.tn_discipline.specs.HalfLine.{HalfLine, effect_of, effect_entries}
-use Rattle.tn_discipline.specs.declared.keys.Role.{Role}
+use Rattle.tn_discipline.specs.{HalfLine.{HalfLine, effect_of, effect_entries}, declared.keys.Role.Role}
 use Rattle.tn_discipline.specs.declared.reads.Entry.{Entry}
-use Rattle.tn_lines.specs.Said.{due, has_ended}
-use Rattle.tn_lines.specs.declared.line_ends.LineEnd.{LineEnd}
+use Rattle.tn_lines.specs.{Said.{due, has_ended}, declared.line_ends.LineEnd.LineEnd}
 
 -- nothing is said any more once the end of file came
 abbrev pub due_unless : Bool → LineEnd → List Entry → List ℕ

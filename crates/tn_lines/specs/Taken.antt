@@ -1,12 +1,9 @@
 -- The keys that a user's terminal takes. An interrupt or a quit discards the line, as KILL does (XBD 11.2.5,
 -- where NOFLSH is not set). Where nothing is typed it leaves: no key behind it is taken.
 use Rattle.std.specs.Prelude.{ℕ, Bool, true, false, ◌&&◌, ◌||◌, List, [], ◌∷◌, ◌++◌, if◌then◌else◌}
-use Rattle.tn_discipline.specs.Canon.{Canon}
-use Rattle.tn_discipline.specs.Keys.{roles_of}
-use Rattle.tn_discipline.specs.Steps.{half_all}
-use Rattle.tn_discipline.specs.declared.keys.Role.{Role}
-use Rattle.tn_discipline.specs.declared.keys.Role.TheVariants as role
+use Rattle.tn_discipline.specs.{Canon.Canon, Keys.roles_of, Steps.half_all, declared.keys.Role.Role}
 use Rattle.tn_discipline.specs.declared.reads.Sig.TheVariants.{Int, Quit}
+use Rattle.tn_discipline.specs.declared.keys.Role.TheVariants as role
 
 abbrev pub is_empty : List ℕ → Bool
 is_empty [] = true

@@ -1,17 +1,11 @@
 //! The lines that a user edits at a terminal of its own.
 
 ghost use Rattle.std.specs.Prelude.{◌≡◌, ◌||◌, false, ℕ, List, [], ◌∷◌, ◌++◌, IfOk, OnOk};
-ghost use Rattle.tn_discipline.specs.Canon.{Canon};
-ghost use Rattle.tn_discipline.specs.Editing.{IsClosing, closing_byte, with_byte};
-ghost use Rattle.tn_discipline.specs.Entries.{line_of};
-ghost use Rattle.tn_discipline.specs.Echo.{echo_at};
-ghost use Rattle.tn_discipline.specs.HalfLine.{line_after};
-ghost use Rattle.tn_lines.specs.Leading.{Grows, LeadsTo, Types};
-ghost use Rattle.tn_lines.specs.LineEnds.{line_said};
-ghost use Rattle.tn_lines.specs.Said.{has_ended};
-ghost use Rattle.tn_lines.specs.Shown.{bytes_shown, mark, shown_at, symbol_bytes};
-ghost use Rattle.tn_lines.specs.Steps.{due_unless, ended_after, said_at};
-ghost use Rattle.tn_lines.specs.Taken.{interrupts, is_empty, leaves};
+ghost use Rattle.tn_discipline.specs.{Canon.Canon, Editing.{IsClosing, closing_byte, with_byte}};
+ghost use Rattle.tn_discipline.specs.{Entries.line_of, Echo.echo_at, HalfLine.line_after};
+ghost use Rattle.tn_lines.specs.{Leading.{Grows, LeadsTo, Types}, Steps.{due_unless, ended_after, said_at}};
+ghost use Rattle.tn_lines.specs.{LineEnds.line_said, Shown.{bytes_shown, mark, shown_at, symbol_bytes}};
+ghost use Rattle.tn_lines.specs.{Said.has_ended, Taken.{interrupts, is_empty, leaves}};
 
 use crate::line_ends::{LineEnd, say_line};
 use crate::outputs::Output;

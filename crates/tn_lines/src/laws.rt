@@ -1,13 +1,9 @@
 //! Laws of the definitions alone.
 
 ghost use Rattle.std.specs.Prelude.{◌≡◌, false, IsFalse, ℕ, List, All, [], ◌∷◌, ◌++◌};
-ghost use Rattle.tn_discipline.specs.Canon.{Canon, typed_entries};
-ghost use Rattle.tn_discipline.specs.Keys.{roles_of};
-ghost use Rattle.tn_discipline.specs.declared.keys.Role.{Role};
-ghost use Rattle.tn_lines.specs.Files.{ends_in_return, said_from};
-ghost use Rattle.tn_lines.specs.LineEnds.{end_bytes, line_said};
-ghost use Rattle.tn_lines.specs.Said.{due, entries_taken, said_of};
-ghost use Rattle.tn_lines.specs.Taken.{interrupts};
+ghost use Rattle.tn_discipline.specs.{Canon.{Canon, typed_entries}, Keys.roles_of, declared.keys.Role.Role};
+ghost use Rattle.tn_lines.specs.{Files.{ends_in_return, said_from}, LineEnds.{end_bytes, line_said}};
+ghost use Rattle.tn_lines.specs.{Said.{due, entries_taken, said_of}, Taken.interrupts};
 ghost use Rattle.tn_lines.specs.declared.line_ends.LineEnd.{LineEnd};
 
 /// Where no key is an interrupt or a quit, what is said is the lines of what a local terminal gives of the

@@ -1,7 +1,6 @@
 -- Counts, and which of several ends counts.
 use Rattle.std.specs.Prelude.{ℕ, ◌+◌, ◌-◌, ◌^◌, min}
-use Rattle.tn_machines.specs.declared.faults.Ended.{Ended}
-use Rattle.tn_machines.specs.declared.faults.Ended.TheVariants.{HangUp, Done, Fault}
+use Rattle.tn_machines.specs.declared.faults.Ended.{Ended, TheVariants.{HangUp, Done, Fault}}
 
 -- a count that has reached the greatest number stays there
 abbrev pub one_more : ℕ → ℕ

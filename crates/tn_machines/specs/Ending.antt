@@ -1,8 +1,6 @@
 -- What a run of messages ends by: one of them; and which ends are no fault.
-use Rattle.std.specs.Prelude.{◌≡◌, ◌⊎◌, List, ◌∷◌, ◌++◌}
-use Rattle.std.specs.List.{FoldsTo}
-use Rattle.tn_machines.specs.declared.faults.Ended.{Ended}
-use Rattle.tn_machines.specs.declared.faults.Ended.TheVariants.{HangUp, Done}
+use Rattle.std.specs.{Prelude.{◌≡◌, ◌⊎◌, List, ◌∷◌, ◌++◌}, List.FoldsTo}
+use Rattle.tn_machines.specs.declared.faults.Ended.{Ended, TheVariants.{HangUp, Done}}
 
 -- it ended without a fault
 abbrev pub EndsWhole : Ended → Type 0

@@ -1,10 +1,8 @@
 -- The bytes that messages bring, and how many of them were taken.
 use Rattle.std.specs.Prelude.{◌≡◌, ℕ, Bool, IsFalse, List, [], ◌++◌}
-use Rattle.tn_machines.specs.declared.messages.Message.{Message}
-use Rattle.tn_machines.specs.declared.messages.Message.TheVariants.{Piece}
-use Rattle.tn_nvt.specs.Feeding.{DecoderState}
+use Rattle.tn_machines.specs.declared.messages.Message.{Message, TheVariants.Piece}
+use Rattle.tn_nvt.specs.{Feeding.DecoderState, declared.items.Item.Item}
 use Rattle.tn_nvt.specs.Feeding as nvt
-use Rattle.tn_nvt.specs.declared.items.Item.{Item}
 use Rattle.tn_linemode.specs.Prefixes.{WantsMemory}
 
 -- the bytes that a message brings

@@ -1,8 +1,7 @@
 //! How a session ends.
 
 ghost use Rattle.std.specs.Prelude.{◌≡◌, true, IsTrue, false, IsFalse};
-ghost use Rattle.tn_machines.specs.Counting.{first_end};
-ghost use Rattle.tn_machines.specs.Ending.{EndsWhole};
+ghost use Rattle.tn_machines.specs.{Counting.first_end, Ending.EndsWhole};
 
 use thiserror::Error;
 use tn_client::ClientFault;

@@ -1,8 +1,6 @@
 -- A list cut at an index: the rest of a piece, a prefix of that, and its first byte.
 use Rattle.std.proofs.Common.{◌≡◌, ℕ, ◌-◌, ◌+◌, ◌≤◌, All, List, [], ◌++◌, take, drop, get_or, length, refl, sym, ◌∙◌, arith, ◌∷◌, ◌<◌, length-drop}
-use Rattle.std.proofs.Common.{length-take-le, take-append-drop, drop-drop}
-use Rattle.std.proofs.lemmas.List.{take_all}
-use Rattle.std.proofs.Math.Seq.{take-add}
+use Rattle.std.proofs.{Common.{length-take-le, take-append-drop, drop-drop}, lemmas.List.take_all, Math.Seq.take-add}
 use Rattle.tn_nvt.specs.Sinks.{IsPlain, IsRun}
 
 -- what is left at an index

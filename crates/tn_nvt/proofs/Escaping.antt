@@ -1,9 +1,6 @@
 -- The first bytes of an escape, one after another.
-use Rattle.std.proofs.Common.{ℕ, ◌+◌, ◌<◌, List, [], ◌∷◌, length, take, get_or, arith}
-use Rattle.std.proofs.lemmas.List.{take_more}
-use Rattle.tn_nvt.specs.declared.items.Item.{Item}
-use Rattle.tn_nvt.specs.Machine.{Gathered, Progress, Outside, Inside, InsideIac, StepAdvances}
-use Rattle.tn_nvt.specs.Runs.{KeepsFront}
+use Rattle.std.proofs.{Common.{ℕ, ◌+◌, ◌<◌, List, [], ◌∷◌, length, take, get_or, arith}, lemmas.List.take_more}
+use Rattle.tn_nvt.specs.{declared.items.Item.Item, Machine.{Gathered, Progress, Outside, Inside, InsideIac, StepAdvances}, Runs.KeepsFront}
 use Rattle.tn_nvt.proofs.Steps.{StepAdvances-append, inside_iac}
 
 one_below : 1 < 0 → ⊥

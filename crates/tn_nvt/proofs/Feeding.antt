@@ -1,24 +1,14 @@
 -- From places to what the decoder's contract says of standings.
 use Rattle.std.proofs.Common.{◌≡◌, ◌≢◌, ℕ, ◌<◌, inl, inr, List, [], ◌∷◌, ◌++◌, length, get_or, take, drop, ◌+◌, refl, sym, ◌∙◌, ap, arith, append_assoc, lit<}
-use Rattle.std.proofs.lemmas.List.{append-nil, take_more, take-append-drop}
-use Rattle.std.proofs.lemmas.Grind.{flat_map-append}
-use Rattle.tn_codes.specs.Codes.{verb_code}
-use Rattle.tn_codes.specs.declared.codes.Verb.{Verb}
+use Rattle.std.proofs.lemmas.{List.{append-nil, take_more, take-append-drop}, Grind.flat_map-append}
+use Rattle.tn_codes.specs.{Codes.verb_code, declared.codes.Verb.Verb}
 use Rattle.tn_codes.specs.declared.codes.Verb.TheVariants as verb
-use Rattle.tn_nvt.specs.declared.items.Item.{Item}
-use Rattle.tn_nvt.specs.declared.items.Item.TheVariants.{Newline, Neg}
-use Rattle.tn_nvt.specs.Machine.{Nothing, Kept, Overlong}
-use Rattle.tn_nvt.specs.Machine.{Progress}
-use Rattle.tn_nvt.specs.Machine.{Outside, AfterCr, AfterIac, AfterVerb, Inside, InsideIac, Failed}
-use Rattle.tn_nvt.specs.declared.places.Body.{Body}
-use Rattle.tn_nvt.specs.declared.places.Given.{Given}
-use Rattle.tn_nvt.specs.declared.places.Given.TheVariants as given
-use Rattle.tn_nvt.specs.declared.places.Place.{Place}
-use Rattle.tn_nvt.specs.declared.places.Place.TheVariants as place
-use Rattle.tn_nvt.specs.Spelling.{doubled_bytes}
-use Rattle.tn_nvt.specs.Stream.{spelled, escaped, cut, IsPartial}
+use Rattle.tn_nvt.specs.{declared.{items.Item.{Item, TheVariants.{Newline, Neg}}, places.Body.Body}, Machine.{PlaceHasRest, StepAdvances, KeepsByte}}
+use Rattle.tn_nvt.specs.Machine.{Nothing, Kept, Overlong, Progress, Outside, AfterCr, AfterIac, AfterVerb, Inside, InsideIac, Failed, state_of_place, progress}
+use Rattle.tn_nvt.specs.{declared.places.{Given.Given, Place.Place}, Spelling.doubled_bytes, Stream.{spelled, escaped, cut, IsPartial}}
 use Rattle.tn_nvt.specs.Feeding.{HasRest, LeadsTo, Advances, Feeds, KeepsParameter, StopsWithin}
-use Rattle.tn_nvt.specs.Machine.{state_of_place, progress, PlaceHasRest, StepAdvances, KeepsByte}
+use Rattle.tn_nvt.specs.declared.places.Given.TheVariants as given
+use Rattle.tn_nvt.specs.declared.places.Place.TheVariants as place
 use Rattle.tn_nvt.proofs.Steps.{Splits-append, StepAdvances-append}
 
 -- each place stands at less than a segment

@@ -1,9 +1,6 @@
 -- What plain bytes complete.
-use Rattle.std.proofs.Common.{◌≢◌, ℕ, ◌<◌, List, [], ◌∷◌, All, zero, suc, length, take, get_or, map, arith}
-use Rattle.std.proofs.lemmas.List.Elements.{All-head, All-tail}
-use Rattle.tn_nvt.specs.declared.items.Item.TheVariants.{Byte}
-use Rattle.tn_nvt.specs.Machine.{Outside, AfterCr, StepAdvances}
-use Rattle.tn_nvt.specs.Sinks.{IsPlain}
+use Rattle.std.proofs.{Common.{◌≢◌, ℕ, ◌<◌, List, [], ◌∷◌, All, zero, suc, length, take, get_or, map, arith}, lemmas.List.Elements.{All-head, All-tail}}
+use Rattle.tn_nvt.specs.{declared.items.Item.TheVariants.Byte, Machine.{Outside, AfterCr, StepAdvances}, Sinks.IsPlain}
 use Rattle.tn_nvt.proofs.Steps.{StepAdvances-none, StepAdvances-append, plain, cr_plain}
 
 pub plain_run : (bytes : List ℕ) → All IsPlain bytes → StepAdvances Outside bytes (map Byte bytes) Outside

@@ -1,21 +1,13 @@
 -- From what a sink took of each byte and each run to what it took of a piece.
 use Rattle.std.proofs.Common.{◌≡◌, ℕ, ◌+◌, ◌<◌, ◌≤◌, inr, length, take, drop, get_or, lit<, arith, List, [], ◌∷◌, ◌++◌, map, Result, Ok, Err, OnErr, IsErrOf}
-use Rattle.std.proofs.Common.{refl, sym, ◌∙◌, ap, subst, append-nil, append_assoc}
-use Rattle.std.proofs.lemmas.Grind.{flat_map-append}
-use Rattle.tn_nvt.specs.declared.decoding.NvtFault.{NvtFault}
-use Rattle.tn_nvt.specs.declared.items.Item.{Item}
-use Rattle.tn_nvt.specs.declared.items.Item.TheVariants.{Byte}
-use Rattle.tn_nvt.specs.Machine.{Gathered, Progress, Outside, Inside, InsideIac, state_of_place, StepAdvances, KeepsByte}
-use Rattle.tn_nvt.specs.Sinks.{IsRun, EndsRun, AreSpecial, Part, run, said, bytes_of, part_bytes, calls_of, part_calls, all_of, AreLongest, TakesEach, FeedsTo}
-use Rattle.tn_nvt.specs.Sinks.{StopsAtSink, StopsForMemory}
-use Rattle.tn_nvt.specs.Runs.{singles, RefusesEach, HandsFront, HandsSome, StopsFront, WantsMemory, Escapes, HasRun, KeepsFront}
-use Rattle.tn_nvt.specs.Feeding.{DecoderState, IsLetGo}
+use Rattle.std.proofs.{Common.{refl, sym, ◌∙◌, ap, subst, append-nil, append_assoc}, lemmas.Grind.flat_map-append}
 use Rattle.std.proofs.lemmas.List.{take_all, drop_all, take-append-drop}
-use Rattle.tn_nvt.proofs.Cuts.{rest_of, rest_is, front_is, back_is, parts_is, split_is, within_is, run_is, one_front, first_and}
-use Rattle.tn_nvt.proofs.Escaping.{kept_then_iac}
-use Rattle.tn_nvt.proofs.LettingGo.{wants_none}
-use Rattle.tn_nvt.proofs.Steps.{StepAdvances-none, StepAdvances-append}
-use Rattle.tn_nvt.proofs.Feeding.{Advances-from_advances, kept}
+use Rattle.tn_nvt.specs.{declared.{decoding.NvtFault.NvtFault, items.Item.{Item, TheVariants.Byte}}, Sinks.{StopsAtSink, StopsForMemory}}
+use Rattle.tn_nvt.specs.{Machine.{Gathered, Progress, Outside, Inside, InsideIac, state_of_place, StepAdvances, KeepsByte}, Feeding.{DecoderState, IsLetGo}}
+use Rattle.tn_nvt.specs.Sinks.{IsRun, EndsRun, AreSpecial, Part, run, said, bytes_of, part_bytes, calls_of, part_calls, all_of, AreLongest, TakesEach, FeedsTo}
+use Rattle.tn_nvt.specs.Runs.{singles, RefusesEach, HandsFront, HandsSome, StopsFront, WantsMemory, Escapes, HasRun, KeepsFront}
+use Rattle.tn_nvt.proofs.{Cuts.{rest_of, rest_is, front_is, back_is, parts_is, split_is, within_is, run_is, one_front, first_and}, Escaping.kept_then_iac}
+use Rattle.tn_nvt.proofs.{LettingGo.wants_none, Steps.{StepAdvances-none, StepAdvances-append}, Feeding.{Advances-from_advances, kept}}
 
 -- what holds anyway holds at a refusal
 pub on_err : {T E : Type 0} (r : Result T E) (P : Type 0) → P → OnErr r P

@@ -1,11 +1,9 @@
 -- What is handed on of the next bytes, at once.
 use Rattle.std.specs.Prelude.{◌≡◌, ◌≢◌, ◌<◌, ◌≤◌, ℕ, List, [], ◌∷◌, ◌++◌, map, take, drop, length, get_or}
 use Rattle.std.specs.Prelude.{All}
-use Rattle.tn_nvt.specs.declared.items.Item.{Item}
+use Rattle.tn_nvt.specs.{declared.items.Item.Item, Sinks.TakesEach, Spelling.{nul, lf, iac}}
 use Rattle.tn_nvt.specs.Machine.{Gathered, Progress, Outside, Inside, StepAdvances, KeepsByte}
 use Rattle.tn_nvt.specs.Sinks.{IsPlain, EndsRun, AreSpecial, Part, bytes_of, calls_of, all_of, AreLongest}
-use Rattle.tn_nvt.specs.Sinks.{TakesEach}
-use Rattle.tn_nvt.specs.Spelling.{nul, lf, iac}
 
 -- the bytes begin with a run of this length, and no longer one
 pub record HasRun (bytes : List ℕ) (count : ℕ) : Type 0 where

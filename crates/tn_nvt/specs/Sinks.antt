@@ -1,9 +1,7 @@
 -- What a sink is handed of a stream: plain bytes in runs as long as can be, all else item by item.
 use Rattle.std.specs.Prelude.{◌≡◌, ◌≢◌, ℕ, ◌<◌, List, [], ◌∷◌, ◌++◌, ◌⊎◌, length, map, flat_map, All}
-use Rattle.tn_nvt.specs.declared.items.Item.{Item}
-use Rattle.tn_nvt.specs.declared.items.Item.TheVariants.{Byte, Newline, Cmd, Neg, Sub}
-use Rattle.tn_nvt.specs.Spelling.{cr, iac}
-use Rattle.tn_nvt.specs.Feeding.{DecoderState, Advances, KeepsParameter}
+use Rattle.tn_nvt.specs.declared.items.Item.{Item, TheVariants.{Byte, Newline, Cmd, Neg, Sub}}
+use Rattle.tn_nvt.specs.{Spelling.{cr, iac}, Feeding.{DecoderState, Advances, KeepsParameter}}
 
 -- neither CR nor IAC
 abbrev pub IsPlain : ℕ → Type 0

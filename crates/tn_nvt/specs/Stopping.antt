@@ -1,9 +1,8 @@
 -- Why a piece was not read to its end into a list.
 use Rattle.std.specs.Prelude.{◌≡◌, ℕ, List}
-use Rattle.tn_nvt.specs.Feeding.{DecoderState, failed, StopsWithin}
-use Rattle.tn_nvt.specs.declared.decoding.NvtFault.{NvtFault}
-use Rattle.tn_nvt.specs.declared.decoding.NvtFault.TheVariants as fault
+use Rattle.tn_nvt.specs.{Feeding.{DecoderState, failed, StopsWithin}, declared.decoding.NvtFault.NvtFault}
 use Rattle.tn_nvt.specs.declared.items.Item.{Item}
+use Rattle.tn_nvt.specs.declared.decoding.NvtFault.TheVariants as fault
 
 -- Memory ran out within the piece, or the decoder had failed before, and then nothing was appended. A list
 -- refuses no item.

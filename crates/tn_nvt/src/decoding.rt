@@ -2,10 +2,8 @@
 
 ghost use Rattle.std.specs.Prelude.{◌≡◌, ◌≢◌, ◌↔◌, ◌-◌, [], vec_len, vec_capacity};
 ghost use Rattle.std.specs.Prelude.{IsOk, IfOk, OnOk, IfErr, OnErr, IsErrOf};
-ghost use Rattle.tn_nvt.specs.Machine.{state_of_place, progress};
-ghost use Rattle.tn_nvt.specs.Sinks.{FeedsTo, StopsAtSink, StopsForMemory};
-ghost use Rattle.tn_nvt.specs.Feeding.{failed, LeadsTo, Feeds, IsLetGo};
-ghost use Rattle.tn_nvt.specs.Stopping.{Stops};
+ghost use Rattle.tn_nvt.specs.{Machine.{state_of_place, progress}, Feeding.{failed, LeadsTo, Feeds, IsLetGo}};
+ghost use Rattle.tn_nvt.specs.{Sinks.{FeedsTo, StopsAtSink, StopsForMemory}, Stopping.Stops};
 ghost use Rattle.tn_nvt.specs.declared.decoding.NvtFault.TheVariants.{Memory};
 ghost use Rattle.tn_nvt.specs.declared.places.Place.TheVariants as here;
 
@@ -54,8 +52,7 @@ pub struct Decoder {
 }
 
 impl Model for Decoder {
-    ghost use Rattle.tn_nvt.specs.Feeding.{DecoderState};
-    ghost use Rattle.tn_nvt.specs.Machine.{state_of_place, progress};
+    ghost use Rattle.tn_nvt.specs.{Feeding.DecoderState, Machine.{state_of_place, progress}};
 
     ghost Value = { DecoderState };
 

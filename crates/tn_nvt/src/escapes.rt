@@ -1,11 +1,10 @@
 //! Escapes outside of a subnegotiation, each read at once where all of it has come.
 
 ghost use Rattle.std.specs.Prelude.{◌≡◌, ◌≢◌, ◌<◌, length, slice_index};
-ghost use Rattle.tn_nvt.specs.declared.places.Body.{Body as Held};
+ghost use Rattle.tn_nvt.specs.{declared.places.Body.Body as Held, Machine.{progress, given_items, HasNoRun}};
+ghost use Rattle.tn_nvt.specs.Runs.{Escapes};
 ghost use Rattle.tn_nvt.specs.declared.places.Given.TheVariants as given;
 ghost use Rattle.tn_nvt.specs.declared.places.Place.TheVariants as place;
-ghost use Rattle.tn_nvt.specs.Machine.{progress, given_items, HasNoRun};
-ghost use Rattle.tn_nvt.specs.Runs.{Escapes};
 ghost use Rattle.tn_nvt.specs.Spelling as spelling;
 
 use crate::bytes::{CR, LF, NUL};

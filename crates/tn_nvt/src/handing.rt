@@ -6,10 +6,9 @@ ghost use Rattle.tn_nvt.specs.declared.decoding.NvtFault.TheVariants as fault;
 ghost use Rattle.tn_nvt.specs.declared.places.Given.TheVariants as given;
 ghost use Rattle.tn_nvt.specs.declared.places.Place.TheVariants as place;
 ghost use Rattle.tn_nvt.specs.Machine as machine;
-ghost use Rattle.tn_nvt.specs.Machine.{progress, given_items, gathered_of, HasNoRun};
+ghost use Rattle.tn_nvt.specs.{Machine.{progress, given_items, gathered_of, HasNoRun}, Runs.WantsMemory};
 ghost use Rattle.tn_nvt.specs.Sinks.{TakesEach, IsPlain};
-ghost use Rattle.tn_nvt.specs.Runs.{singles, BeginsRun, RefusesEach};
-ghost use Rattle.tn_nvt.specs.Runs.{HandsFront, HandsSome, StopsFront, WantsMemory};
+ghost use Rattle.tn_nvt.specs.Runs.{singles, BeginsRun, RefusesEach, HandsFront, HandsSome, StopsFront};
 
 use crate::bytes::{CR, LF, NUL};
 use crate::decoding::NvtFault;

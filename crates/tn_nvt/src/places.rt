@@ -5,11 +5,9 @@ ghost use Rattle.std.specs.Prelude.{IfOk, OnOk, OnErr};
 ghost use Rattle.tn_nvt.specs.declared.places.Given.TheVariants as given;
 ghost use Rattle.tn_nvt.specs.declared.places.Place.TheVariants as place;
 ghost use Rattle.tn_nvt.specs.Machine as machine;
-ghost use Rattle.tn_nvt.specs.declared.places.Body.{Body as Held};
-ghost use Rattle.tn_nvt.specs.Machine.{StepAdvances, Lengthens, IsKept, KeepsByte};
-ghost use Rattle.tn_nvt.specs.Machine.{gathered_of, progress, given_items, HasNoRun};
-ghost use Rattle.tn_nvt.specs.Runs.{KeepsFront, LacksMemory};
-ghost use Rattle.tn_nvt.specs.Sinks.{AreSpecial};
+ghost use Rattle.tn_nvt.specs.{declared.places.Body.Body as Held, Machine.{given_items, HasNoRun}};
+ghost use Rattle.tn_nvt.specs.Machine.{StepAdvances, Lengthens, IsKept, KeepsByte, gathered_of, progress};
+ghost use Rattle.tn_nvt.specs.{Runs.{KeepsFront, LacksMemory}, Sinks.AreSpecial};
 
 use crate::bytes::{CR, LF, NUL, SB, SE};
 use crate::items::Item;

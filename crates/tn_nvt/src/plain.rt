@@ -1,8 +1,7 @@
 //! Where a run of plain bytes ends.
 
 ghost use Rattle.std.specs.Prelude.{◌≡◌, ◌≤◌, ◌<◌, ◌↔◌, length, take, drop, All, IsTrue, IfSome, slice_index};
-ghost use Rattle.tn_nvt.specs.Sinks.{IsPlain, EndsRun};
-ghost use Rattle.tn_nvt.specs.Runs.{HasRun};
+ghost use Rattle.tn_nvt.specs.{Sinks.{IsPlain, EndsRun}, Runs.HasRun};
 
 use crate::bytes::CR;
 use memchr::memchr2;

@@ -1,9 +1,7 @@
 //! What a stream can be read into.
 
 ghost use Rattle.std.specs.Prelude.{List, [], ◌∷◌, map, OnOk, OnErr};
-ghost use Rattle.tn_nvt.specs.declared.items.Item.{Item};
-ghost use Rattle.tn_nvt.specs.declared.items.Item.TheVariants.{Byte, Sub};
-ghost use Rattle.tn_nvt.specs.Sinks.{IsRun};
+ghost use Rattle.tn_nvt.specs.{declared.items.Item.{Item, TheVariants.{Byte, Sub}}, Sinks.IsRun};
 
 use crate::items::Item;
 use crate::parameters::Params;

@@ -1,27 +1,16 @@
 -- Each step of two ends is, for each side of each option, a step of its own world or none.
 use Rattle.std.proofs.Common.{◌≡◌, ◌≢◌, ◌⊎◌, inl, inr, ℕ, ◌==◌, Bool, true, false, ◌&&◌, Option, Some, None, option_to_list, List, [], ◌∷◌, ◌++◌, refl, sym, ap}
-use Rattle.std.proofs.Common.{◌∙◌, subst}
-use Rattle.std.proofs.lemmas.Bool.Decides.{eqb_tells}
-use Rattle.tn_codes.specs.declared.codes.Verb.{Verb}
-use Rattle.tn_codes.specs.declared.codes.Verb.TheVariants.{Will, Wont, DoIt, DontIt}
-use Rattle.tn_option.specs.QMethod.{cell, side_of, cause_of, wish_for, word_on, word_off, word_of_answer, result_of_answer}
+use Rattle.std.proofs.{Common.{◌∙◌, subst}, lemmas.Bool.Decides.eqb_tells}
+use Rattle.tn_codes.specs.declared.codes.Verb.{Verb, TheVariants.{Will, Wont, DoIt, DontIt}}
+use Rattle.tn_option.specs.{QMethod.{cell, side_of, cause_of, wish_for, word_on, word_off, word_of_answer, result_of_answer}, Laws.IsElsewhere}
 use Rattle.tn_option.specs.Options.{Options, known_option, word_now, answer_now, state_or_no, new_options, options_after_word, reply_to, options_after_wish}
-use Rattle.tn_option.specs.Options.{answer_to, state_of, agrees_to}
-use Rattle.tn_option.specs.Laws.{IsElsewhere}
-use Rattle.tn_option.specs.OptionWorld.{OptionEnd, word_of, with_word, cause_of_word}
+use Rattle.tn_option.specs.{Options.{answer_to, state_of, agrees_to}, OptionWorld.{OptionEnd, word_of, with_word, cause_of_word}, declared.known.Known.Known}
 use Rattle.tn_option.specs.EnginePair.{EnginePair, EngineStep, ask_here, ask_there, got_here, got_there, asked_word, pair_after_ask, pair_after_word}
 use Rattle.tn_option.specs.EnginePair.{turned_pair, engine_step, engine_steps, pair_of, is_about, says_on, with_word_about, words_about, facing, EnginesAgree}
-use Rattle.tn_option.specs.declared.known.Known.{Known}
-use Rattle.tn_option.specs.declared.known.Known.TheVariants.{Echo, SuppressGoAhead, Naws, Linemode}
-use Rattle.tn_option.specs.declared.negotiation.Agree.{Agree}
-use Rattle.tn_option.specs.declared.q_method.Answer.{Answer}
-use Rattle.tn_option.specs.declared.q_method.Answer.TheVariants as answer
-use Rattle.tn_option.specs.declared.q_method.OptionEvent.{OptionEvent}
-use Rattle.tn_option.specs.declared.q_method.OptionEvent.TheVariants.{HeardOn}
-use Rattle.tn_option.specs.declared.q_method.Side.{Side}
-use Rattle.tn_option.specs.declared.q_method.Side.TheVariants.{Us, Them}
-use Rattle.tn_option.specs.declared.q_method.QState.{QState}
+use Rattle.tn_option.specs.declared.{known.Known.TheVariants.{Echo, SuppressGoAhead, Naws, Linemode}, negotiation.Agree.Agree, q_method.Answer.Answer}
+use Rattle.tn_option.specs.declared.q_method.{OptionEvent.{OptionEvent, TheVariants.HeardOn}, Side.{Side, TheVariants.{Us, Them}}, QState.QState}
 use Rattle.tn_option.specs.declared.q_method.QState.TheVariants.{No}
+use Rattle.tn_option.specs.declared.q_method.Answer.TheVariants as answer
 use Rattle.tn_option.proofs.OptionLaws.{MovesByCell-moved, LeavesOthers-moved}
 use Rattle.tn_option.proofs.OptionRows.{Stands, world_of, ends_as, wished-Stands, heard-Stands, swapped-Stands, opening-Stands, Stands-EndsAgree}
 

@@ -2,14 +2,10 @@
 use Rattle.std.specs.Prelude.{◌≡◌, ◌⊎◌, ℕ, ◌==◌, Bool, true, false, ◌&&◌, Option, None, option_to_list}
 use Rattle.std.specs.Prelude.{Result, Ok, Err, List, [], ◌∷◌, ◌++◌}
 use Rattle.tn_codes.specs.OptionCodes as option_code
-use Rattle.tn_codes.specs.declared.codes.Verb.{Verb}
-use Rattle.tn_codes.specs.declared.codes.Verb.TheVariants.{Will, Wont, DoIt, DontIt}
+use Rattle.tn_codes.specs.declared.codes.Verb.{Verb, TheVariants.{Will, Wont, DoIt, DontIt}}
 use Rattle.tn_option.specs.Options.{Options, new_options, options_after_word, reply_to, options_after_wish}
-use Rattle.tn_option.specs.Options.{answer_to, state_of}
-use Rattle.tn_option.specs.declared.negotiation.Agree.{Agree}
-use Rattle.tn_option.specs.declared.q_method.AskFault.{AskFault}
-use Rattle.tn_option.specs.declared.q_method.Side.{Side}
-use Rattle.tn_option.specs.declared.q_method.Side.TheVariants.{Us, Them}
+use Rattle.tn_option.specs.{Options.{answer_to, state_of}, declared.negotiation.Agree.Agree}
+use Rattle.tn_option.specs.declared.q_method.{AskFault.AskFault, Side.{Side, TheVariants.{Us, Them}}}
 use Rattle.tn_option.specs.declared.q_method.QState.TheVariants.{No, Yes}
 
 pub record EnginePair : Type 0 where

@@ -1,14 +1,9 @@
 -- One option in one direction, between two ends that keep the table of RFC 1143.
 use Rattle.std.specs.Prelude.{◌≡◌, ◌⊎◌, ℕ, ◌+◌, ◌≤◌, ◌*◌, Bool, true, false, Option, Some, None, List, []}
 use Rattle.std.specs.Prelude.{◌∷◌, ◌++◌}
-use Rattle.tn_option.specs.QMethod.{cell, wish_for}
-use Rattle.tn_option.specs.declared.q_method.Side.{Side}
-use Rattle.tn_option.specs.declared.q_method.Side.TheVariants.{Us, Them}
-use Rattle.tn_option.specs.declared.q_method.QState.{QState}
-use Rattle.tn_option.specs.declared.q_method.QState.TheVariants.{No, Yes}
-use Rattle.tn_option.specs.declared.q_method.OptionEvent.{OptionEvent}
-use Rattle.tn_option.specs.declared.q_method.OptionEvent.TheVariants.{HeardOn, HeardOff}
-use Rattle.tn_option.specs.declared.q_method.Answer.{Answer}
+use Rattle.tn_option.specs.{QMethod.{cell, wish_for}, declared.q_method.Side.{Side, TheVariants.{Us, Them}}}
+use Rattle.tn_option.specs.declared.q_method.{QState.{QState, TheVariants.{No, Yes}}, OptionEvent.OptionEvent}
+use Rattle.tn_option.specs.declared.q_method.{OptionEvent.TheVariants.{HeardOn, HeardOff}, Answer.Answer}
 use Rattle.tn_option.specs.declared.q_method.Answer.TheVariants as answer
 
 -- where the option stands at one end, and the words that are on their way to it, the next one first.

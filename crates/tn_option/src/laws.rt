@@ -2,15 +2,12 @@
 
 ghost use Rattle.std.specs.Prelude.{◌≡◌, ℕ, Bool, None, Some, List};
 ghost use Rattle.tn_codes.specs.declared.codes.Verb.{Verb};
-ghost use Rattle.tn_option.specs.QMethod.{side_of, cause_of, wish_for};
+ghost use Rattle.tn_option.specs.{QMethod.{side_of, cause_of, wish_for}, Options.state_of};
 ghost use Rattle.tn_option.specs.Options.{Options, known_option, options_after_word, options_after_wish};
-ghost use Rattle.tn_option.specs.Options.{state_of};
 ghost use Rattle.tn_option.specs.Laws.{MovesByCell, LeavesOthers, AgreesAsBefore};
 ghost use Rattle.tn_option.specs.OptionWorld.{OptionStep, steps, opening_world, EndsAgree, FewWords};
 ghost use Rattle.tn_option.specs.EnginePair.{EngineStep, engine_steps, pair_of, EnginesAgree};
-ghost use Rattle.tn_option.specs.declared.known.Known.{Known};
-ghost use Rattle.tn_option.specs.declared.negotiation.Agree.{Agree};
-ghost use Rattle.tn_option.specs.declared.q_method.Side.{Side};
+ghost use Rattle.tn_option.specs.declared.{known.Known.Known, negotiation.Agree.Agree, q_method.Side.Side};
 ghost use Rattle.tn_option.specs.declared.q_method.QState.TheVariants.{No};
 
 /// A word or a wish about an option that is none of the four changes nothing.

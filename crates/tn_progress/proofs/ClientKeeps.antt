@@ -1,8 +1,7 @@
 -- What holds of each state that a client's session can reach, and that each step keeps it.
 use Rattle.std.proofs.Common.{arith, ◌≡◌, ℕ, ◌+◌, ◌*◌, ◌≤◌, sym, subst}
-use Rattle.tn_progress.specs.Server.{one}
-use Rattle.tn_progress.specs.Client.{Net, net_gone, Keys, typing, keys_hands, keys_gone, Core, putting, closing, joining, ended, Sending, sent_all}
-use Rattle.tn_progress.specs.Client.{State, Sizes, waiting_mails}
+use Rattle.tn_progress.specs.{Server.one, Client.{Sizes, waiting_mails}}
+use Rattle.tn_progress.specs.Client.{Net, net_gone, Keys, typing, keys_hands, keys_gone, Core, putting, closing, joining, ended, Sending, sent_all, State}
 use Rattle.tn_progress.specs.ClientSteps.{Own, hands_piece, Outer, brings, MayGo, gone_on, MayBeLet, let_on, Reached, at_start, goes_on, let_go}
 
 abbrev pub net_gone_in : Net → ℕ

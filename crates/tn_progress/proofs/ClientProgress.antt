@@ -1,14 +1,12 @@
 -- A client's session goes on by itself, or waits for the network, the user or the screen.
 use Rattle.std.proofs.Common.{arith, ◌≡◌, ◌≢◌, ℕ, zero, suc, ◌+◌, ◌<◌, ◌≤◌, Bool, true, false, ◌⊎◌, inl, inr, refl, ap, subst}
-use Rattle.tn_progress.specs.Server.{one}
+use Rattle.tn_progress.specs.{Server.one, Client.{count_of, unsent}, ClientSteps.{for_network, for_user, for_screen, for_sending, NeverGetsStuck}}
 use Rattle.tn_progress.specs.Client.{Net, reading, net_hands, net_tells, net_leaves, net_gone, Keys, held, typing, keys_hands, looking, keys_tells, keys_leaves}
 use Rattle.tn_progress.specs.Client.{keys_gone, Core, receiving, putting, showing, closing, joining, ended, Sending, taking, sends, discards, sent_all, Box}
 use Rattle.tn_progress.specs.Client.{Kind, keys, piece, ending, keys_ending, refusal, net_left, keys_left, State, Sizes, HasRoom, HasPlace, waiting_mails}
-use Rattle.tn_progress.specs.Client.{count_of, unsent}
 use Rattle.tn_progress.specs.ClientSteps.{Own, hands_piece, tells_end, leaves_net, may_read, sees_end, hands_keys, goes_on_reading, is_stopped, tells_keys_end}
 use Rattle.tn_progress.specs.ClientSteps.{leaves_keys, handles, puts, puts_in_vain, puts_end, puts_end_in_vain, closes, joins, finishes, takes_write, takes_end}
 use Rattle.tn_progress.specs.ClientSteps.{drops_write, drops_end, Outer, brings, types, shows, is_sent, MayGo, gone_on, MayBeLet, let_on, Goes, IsLet, WaitsFor}
-use Rattle.tn_progress.specs.ClientSteps.{for_network, for_user, for_screen, for_sending, NeverGetsStuck}
 use Rattle.tn_progress.proofs.ClientKeeps.{Holds, holds, net_gone_in, keys_gone_in, all_sent}
 
 abbrev DoesNotGetStuck : Sizes → State → Type 0

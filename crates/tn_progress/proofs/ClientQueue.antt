@@ -1,9 +1,7 @@
 -- Keys alone never fill the queue of a client's session.
 use Rattle.std.proofs.Common.{arith, ◌≡◌, ℕ, ◌+◌, ◌≤◌, Bool, true, false, ◌⊎◌, inl, inr, refl, sym, ap, subst}
-use Rattle.tn_progress.specs.Server.{one}
-use Rattle.tn_progress.specs.Client.{putting, closing, sent_all, piece, State, Sizes, HasPlace, unsent}
-use Rattle.tn_progress.specs.ClientSteps.{Own, may_read, handles, Outer, brings, MayWrite}
-use Rattle.tn_progress.specs.ClientSteps.{MayGo, gone_on, MayBeLet, let_on, behind, Reached, at_start, goes_on, let_go, NeverWaitsToSend}
+use Rattle.tn_progress.specs.{Server.one, Client.{putting, closing, sent_all, piece, State, Sizes, HasPlace, unsent}, ClientSteps.{let_go, NeverWaitsToSend}}
+use Rattle.tn_progress.specs.ClientSteps.{Own, may_read, handles, Outer, brings, MayWrite, MayGo, gone_on, MayBeLet, let_on, behind, Reached, at_start, goes_on}
 use Rattle.tn_progress.proofs.ClientKeeps.{Holds, holds, in_hand, is_putting, still_closing}
 
 -- the writes that are not sent, and those that keys may still become

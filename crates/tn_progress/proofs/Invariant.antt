@@ -1,9 +1,8 @@
 -- What holds of each state that a server's session can reach.
 use Rattle.std.proofs.Common.{◌≡◌, ℕ, zero, suc, ◌+◌, ◌*◌, ◌≤◌}
 use Rattle.tn_progress.specs.Server.{one, End, nothing_comes, no_memory, Net, handing, net_tells, net_leaves, net_gone, is_done, is_refused, Cause, stops}
-use Rattle.tn_progress.specs.Server.{none_comes}
-use Rattle.tn_progress.specs.Server.{Desk, asking, waiting, desk_leaves, desk_gone, Back, back_waits, back_leaves, back_gone, Term, writing, joining, ended}
-use Rattle.tn_progress.specs.Server.{State, Sizes, waiting_mails}
+use Rattle.tn_progress.specs.Server.{none_comes, Desk, asking, waiting, desk_leaves, desk_gone, Back, back_waits, back_leaves, back_gone, Term, writing}
+use Rattle.tn_progress.specs.Server.{joining, ended, State, Sizes, waiting_mails}
 
 abbrev pub is_handing : Net → ℕ
 is_handing handing = 1

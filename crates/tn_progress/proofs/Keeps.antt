@@ -2,9 +2,8 @@
 use Rattle.std.proofs.Common.{arith, ◌≡◌, ℕ, zero, suc, ◌+◌, ◌<◌, ◌≤◌, Bool, true, false, ◌||◌, refl, sym, subst}
 use Rattle.tn_progress.proofs.Invariant.{Holds, many, is_handing}
 use Rattle.tn_progress.specs.Server.{one, Term, receiving, writing, Kind, piece, take, State, Sizes, start, count_of}
-use Rattle.tn_progress.specs.ServerSteps.{Choice, gives, refused_first, refused_last, Own, handles, writes_nothing, Outer}
-use Rattle.tn_progress.specs.ServerSteps.{writes, MayGo, gone_on, MayBeLet, let_on, waits_behind, handled, written, is_few, broken, paid}
-use Rattle.tn_progress.specs.ServerSteps.{Reached, at_start, goes_on, let_go}
+use Rattle.tn_progress.specs.ServerSteps.{Choice, gives, refused_first, refused_last, Own, handles, writes_nothing, Outer, writes, MayGo, gone_on, MayBeLet}
+use Rattle.tn_progress.specs.ServerSteps.{let_on, waits_behind, handled, written, is_few, broken, paid, Reached, at_start, goes_on, let_go}
 
 at_term : (sizes : Sizes) (s : State) (t : Term) → s.term ≡ t → Holds sizes s → Holds sizes (record s { term = t })
 at_term sizes s t e h = subst (λ (m : Term). Holds sizes (record s { term = m })) e h

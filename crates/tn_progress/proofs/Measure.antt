@@ -1,11 +1,9 @@
 -- Each step that a thread makes by itself is one towards where nothing goes on by itself.
 use Rattle.std.proofs.Common.{arith, ℕ, ◌+◌, ◌*◌, ◌<◌, ◌≤◌, ap}
-use Rattle.tn_progress.proofs.Invariant.{is_waiting, last_of}
-use Rattle.tn_progress.proofs.Keeps.{holds}
-use Rattle.tn_progress.specs.Server.{one, Net, holding, handing, net_says, net_tells, net_leaves, Desk, asking, waiting}
-use Rattle.tn_progress.specs.Server.{desk_says, desk_tells, desk_leaves, Back, back_waits, stepping, back_says, back_tells, back_leaves, back_gone}
-use Rattle.tn_progress.specs.Server.{Term, receiving, writing, joining, ended, State, Sizes, waiting_mails}
-use Rattle.tn_progress.specs.ServerSteps.{Own, MayGo, gone_on, ComesToRest, Reached, Alone, no_step, one_more}
+use Rattle.tn_progress.proofs.{Invariant.{is_waiting, last_of}, Keeps.holds}
+use Rattle.tn_progress.specs.Server.{one, Net, holding, handing, net_says, net_tells, net_leaves, Desk, asking, waiting, desk_says, desk_tells, desk_leaves}
+use Rattle.tn_progress.specs.Server.{Back, back_waits, stepping, back_says, back_tells, back_leaves, back_gone, Term, receiving, writing, joining, ended, State}
+use Rattle.tn_progress.specs.{Server.{Sizes, waiting_mails}, ServerSteps.{Own, MayGo, gone_on, ComesToRest, Reached, Alone, no_step, one_more}}
 
 abbrev pub net_size : Net → ℕ
 net_size holding = 6

@@ -1,17 +1,14 @@
 -- A server's session goes on by itself, or waits for the network, for its foreground job or for a write.
 use Rattle.std.proofs.Common.{arith, ◌≡◌, ◌≢◌, ℕ, zero, suc, ◌+◌, ◌<◌, ◌≤◌, Bool, true, false, ◌⊎◌, inl, inr, refl, subst}
 use Rattle.tn_progress.proofs.Invariant.{Holds, may_have_said, net_left_in, desk_left_in, back_left_in, is_waiting, has_step_credit, has_ended, has_failed}
-use Rattle.tn_progress.proofs.Invariant.{done_by, refused_by, desk_by, has_answer, is_leaving}
-use Rattle.tn_progress.proofs.Keeps.{holds}
-use Rattle.tn_progress.specs.Server.{End, Net, reading, holding, handing, net_says, net_tells, net_leaves, net_gone}
-use Rattle.tn_progress.specs.Server.{Cause, Desk, asking, waiting, answering, desk_says, desk_tells, desk_leaves, desk_gone, Back}
-use Rattle.tn_progress.specs.Server.{back_waits, stepping, back_says, back_tells, back_leaves, back_gone, Term, receiving, writing, joining, ended, Kind, piece}
-use Rattle.tn_progress.specs.Server.{words, ending, take, said, step, done, refusal, left, Box, State, Sizes, HasRoom, waiting_mails, count_of}
+use Rattle.tn_progress.proofs.{Invariant.{done_by, refused_by, desk_by, has_answer, is_leaving}, Keeps.holds}
+use Rattle.tn_progress.specs.Server.{End, Net, reading, holding, handing, net_says, net_tells, net_leaves, net_gone, Cause, Desk, asking, waiting, answering}
+use Rattle.tn_progress.specs.Server.{desk_says, desk_tells, desk_leaves, desk_gone, Back, back_waits, stepping, back_says, back_tells, back_leaves, back_gone}
+use Rattle.tn_progress.specs.Server.{Term, receiving, writing, joining, ended, Kind, piece, words, ending, take, said, step, done, refusal, left, Box, State}
+use Rattle.tn_progress.specs.{Server.{Sizes, HasRoom, waiting_mails, count_of}, ServerSteps.{IsLet, waits_behind, NeverGetsStuck, PutsNeverWait, FewMailsWait}}
 use Rattle.tn_progress.specs.ServerSteps.{gives, Own, takes_credit, hands_piece, says_words, tells_end, net_left, asks_entry, takes_entry, takes_end}
-use Rattle.tn_progress.specs.ServerSteps.{says_answer}
-use Rattle.tn_progress.specs.ServerSteps.{tells_stop, desk_left, takes_step_credit, says_step, is_stopped, tells_refusal, back_left, handles, joins, finishes}
-use Rattle.tn_progress.specs.ServerSteps.{MayGo, gone_on, Goes, WaitsFor, for_network, for_job, for_write, brings, answers, writes, let_on, IsLet, waits_behind}
-use Rattle.tn_progress.specs.ServerSteps.{NeverGetsStuck, PutsNeverWait, FewMailsWait}
+use Rattle.tn_progress.specs.ServerSteps.{says_answer, tells_stop, desk_left, takes_step_credit, says_step, is_stopped, tells_refusal, back_left, handles}
+use Rattle.tn_progress.specs.ServerSteps.{joins, finishes, MayGo, gone_on, Goes, WaitsFor, for_network, for_job, for_write, brings, answers, writes, let_on}
 
 abbrev DoesNotGetStuck : Sizes → State → Type 0
 DoesNotGetStuck sizes s = ((t : State) × Goes sizes s t) ⊎ (WaitsFor s × ((t : State) × IsLet sizes s t))

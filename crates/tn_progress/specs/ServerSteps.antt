@@ -2,14 +2,12 @@
 use Rattle.std.specs.Prelude.{◌≡◌, ◌≢◌, ℕ, zero, suc, ◌+◌, ◌-◌, ◌*◌, ◌<◌, ◌≤◌, Bool, true, IsTrue, false}
 use Rattle.std.specs.Prelude.{◌||◌, ◌⊎◌}
 use Rattle.tn_progress.specs.Server.{one, End, nothing_comes, reading, holding, handing, net_says, net_tells}
-use Rattle.tn_progress.specs.Server.{net_leaves}
-use Rattle.tn_progress.specs.Server.{net_gone, words}
-use Rattle.tn_progress.specs.Server.{Stop, Cause, stops, none_comes, asking, waiting, answering, desk_says}
-use Rattle.tn_progress.specs.Server.{desk_tells, desk_leaves, desk_gone, back_waits, stepping, back_says}
-use Rattle.tn_progress.specs.Server.{back_tells, back_leaves, back_gone, Term, receiving, writing, joining}
-use Rattle.tn_progress.specs.Server.{ended, Kind, piece, ending, take, said, step, done, refusal, left, Box}
-use Rattle.tn_progress.specs.Server.{State, Sizes, start, HasRoom, waiting_mails, count_of, put, taken}
-use Rattle.tn_progress.specs.Server.{told_of_end, told_of_stop}
+use Rattle.tn_progress.specs.Server.{net_leaves, net_gone, words, Stop, Cause, stops, none_comes, asking}
+use Rattle.tn_progress.specs.Server.{waiting, answering, desk_says, desk_tells, desk_leaves, desk_gone}
+use Rattle.tn_progress.specs.Server.{back_waits, stepping, back_says, back_tells, back_leaves, back_gone}
+use Rattle.tn_progress.specs.Server.{Term, receiving, writing, joining, ended, Kind, piece, ending, take}
+use Rattle.tn_progress.specs.Server.{said, step, done, refusal, left, Box, State, Sizes, start, HasRoom}
+use Rattle.tn_progress.specs.Server.{waiting_mails, count_of, put, taken, told_of_end, told_of_stop}
 
 -- TERM HANDLES A MESSAGE
 

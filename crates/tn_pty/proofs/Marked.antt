@@ -1,12 +1,10 @@
 -- A queue of symbols that is kept as bytes, with a mark for each line feed among them.
 use Rattle.std.proofs.Common.{◌≡◌, ◌<◌, ◌≤◌, ℕ, zero, suc, ◌+◌, ◌-◌, ◌==◌, ◌||◌, min, Bool, true, false, List, [], ◌∷◌, ◌++◌, length, map, take, drop, get_or}
-use Rattle.std.proofs.Common.{replicate, refl, sym, ap, ◌∙◌, inl, inr, if◌then◌else◌, arith, append-nil, length-append, take-add}
+use Rattle.std.proofs.{Common.{replicate, refl, sym, ap, ◌∙◌, inl, inr, if◌then◌else◌, arith, append-nil, length-append, take-add}, lemmas.Bool.cases_Bool}
+use Rattle.std.proofs.lemmas.{Bool.{or_parts, false_from_ne_true, ne_eqb}, List.{take_more, take_min, take-append-drop, drop-drop, length-drop, length-take}}
 use Rattle.std.specs.Prelude.{IsOk, OnOk, ◌↔◌, Result, Ok, Err}
-use Rattle.std.proofs.lemmas.Bool.{cases_Bool, or_parts, false_from_ne_true, ne_eqb}
-use Rattle.std.proofs.lemmas.List.{take_more, take_min, take-append-drop, drop-drop, length-drop, length-take}
 use Rattle.memchr.specs.Find.{is_byte, is_byte3, Passes, Nowhere}
-use Rattle.tn_discipline.specs.declared.echo.Symbol.{Symbol}
-use Rattle.tn_discipline.specs.declared.echo.Symbol.TheVariants.{Byte, Newline}
+use Rattle.tn_discipline.specs.declared.echo.Symbol.{Symbol, TheVariants.{Byte, Newline}}
 use Rattle.tn_pty.specs.Runs.{shown_byte, ends_run, leading_run, leading_bytes, feeds, marks_after, marked_symbols}
 
 -- as many symbols as bytes

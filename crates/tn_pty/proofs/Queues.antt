@@ -1,11 +1,8 @@
 -- A queue into which symbols are put that may not fit.
 use Rattle.std.proofs.Common.{◌≡◌, ℕ, zero, suc, ◌+◌, ◌-◌, ◌<◌, ◌≤◌, min, nat_le, Bool, true, false, List, [], ◌∷◌, ◌++◌, length, map, take, get_or, refl, sym}
-use Rattle.std.proofs.Common.{ap, ◌∙◌, if◌then◌else◌, arith, append-nil, append_assoc, length-append}
-use Rattle.std.proofs.lemmas.List.{take_more, take_min, take-map, map-append}
-use Rattle.tn_discipline.specs.declared.echo.Symbol.{Symbol}
-use Rattle.tn_discipline.specs.declared.echo.Symbol.TheVariants.{Byte}
-use Rattle.tn_pty.specs.Terminal.{queue_with, queue_with_each}
-use Rattle.tn_pty.specs.Runs.{shown_byte}
+use Rattle.std.proofs.{Common.{ap, ◌∙◌, if◌then◌else◌, arith, append-nil, append_assoc, length-append}, lemmas.List.{take_more, take_min, take-map, map-append}}
+use Rattle.tn_discipline.specs.declared.echo.Symbol.{Symbol, TheVariants.Byte}
+use Rattle.tn_pty.specs.{Terminal.{queue_with, queue_with_each}, Runs.shown_byte}
 use Rattle.tn_pty.proofs.Marked.{shown_plain}
 
 le_true : (a b : ℕ) → a ≤ b → nat_le a b ≡ true

@@ -1,12 +1,8 @@
 -- Why a terminal refuses a key or a command.
 use Rattle.std.specs.Prelude.{◌≡◌, ◌<◌, ℕ, IsTrue, IsFalse, List, [], ◌∷◌, ◌++◌, length}
-use Rattle.tn_discipline.specs.HalfLine.{GivesText}
-use Rattle.tn_discipline.specs.Keys.{gives_entry}
-use Rattle.tn_discipline.specs.declared.keys.Role.{Role}
-use Rattle.tn_pty.specs.Terminal.{Terminal, max_waiting, shut_terminal}
-use Rattle.tn_pty.specs.Typing.{role_of_input, after_byte, after_all}
-use Rattle.tn_pty.specs.declared.pty.Input.{Input}
-use Rattle.tn_pty.specs.declared.pty.PtyFault.{PtyFault}
+use Rattle.tn_discipline.specs.{HalfLine.GivesText, Keys.gives_entry, declared.keys.Role.Role}
+use Rattle.tn_pty.specs.{Terminal.{Terminal, max_waiting, shut_terminal}, declared.pty.Input.Input}
+use Rattle.tn_pty.specs.{Typing.{role_of_input, after_byte, after_all}, declared.pty.PtyFault.PtyFault}
 use Rattle.tn_pty.specs.declared.pty.PtyFault.TheVariants.{Closed, TooFarAhead, Memory}
 
 -- the terminal takes keys, and has room for the entry that a key of this role makes

@@ -2,8 +2,7 @@
 -- bytes.
 use Rattle.std.specs.Prelude.{ℕ, suc, ◌==◌, ◌&&◌, ◌||◌, Bool, false, List, [], ◌∷◌, drop, get_or}
 use Rattle.std.specs.Prelude.{if◌then◌else◌}
-use Rattle.tn_discipline.specs.declared.echo.Symbol.{Symbol}
-use Rattle.tn_discipline.specs.declared.echo.Symbol.TheVariants.{Byte, Newline}
+use Rattle.tn_discipline.specs.declared.echo.Symbol.{Symbol, TheVariants.{Byte, Newline}}
 
 -- how a byte is shown where a line feed is a new line, and where it is not
 abbrev pub shown_byte : Bool → ℕ → Symbol

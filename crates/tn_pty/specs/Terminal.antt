@@ -1,14 +1,10 @@
 -- A terminal, seen from outside: what is typed at its master, and what its slave reads and writes (pty(7)).
 use Rattle.std.specs.Prelude.{ℕ, ◌+◌, ◌-◌, min, nat_le, Bool, true, false, ◌&&◌, ◌==◌, Option, Some, None}
 use Rattle.std.specs.Prelude.{List, [], ◌∷◌, ◌++◌, length, map, if◌then◌else◌}
-use Rattle.tn_discipline.specs.HalfLine.{HalfLine, empty_line}
-use Rattle.tn_discipline.specs.declared.termios.Flags.{Flags}
-use Rattle.tn_discipline.specs.declared.termios.Settings.{Settings}
-use Rattle.tn_discipline.specs.declared.reads.Sig.{Sig}
-use Rattle.tn_discipline.specs.declared.reads.Entry.{Entry}
+use Rattle.tn_discipline.specs.{HalfLine.{HalfLine, empty_line}, declared.termios.Flags.Flags}
+use Rattle.tn_discipline.specs.declared.{termios.Settings.Settings, reads.{Sig.Sig, Entry.Entry}}
+use Rattle.tn_discipline.specs.declared.echo.Symbol.{Symbol, TheVariants.{Byte, Newline}}
 use Rattle.tn_discipline.specs.declared.reads.Entry.TheVariants as entry
-use Rattle.tn_discipline.specs.declared.echo.Symbol.{Symbol}
-use Rattle.tn_discipline.specs.declared.echo.Symbol.TheVariants.{Byte, Newline}
 
 -- the entries wait to be read, the first at the left, and the symbols to be pulled
 pub record Terminal : Type 0 where

@@ -2,20 +2,13 @@
 use Rattle.std.specs.Prelude.{◌≡◌, ℕ, Bool, Option, Some, None, List, [], ◌∷◌, ◌++◌, map, if◌then◌else◌}
 use Rattle.tn_codes.specs.declared.codes.Command.{Command}
 use Rattle.tn_codes.specs.declared.codes.Command.TheVariants as command
-use Rattle.tn_discipline.specs.HalfLine.{HalfLine, effect_of, line_after, effect_entries}
-use Rattle.tn_discipline.specs.Characters.{Characters}
-use Rattle.tn_discipline.specs.Keys.{role_of_key, literal_role}
-use Rattle.tn_discipline.specs.Runs.{gains_from}
-use Rattle.tn_discipline.specs.Echo.{echo_at}
-use Rattle.tn_discipline.specs.declared.termios.Settings.{Settings}
-use Rattle.tn_discipline.specs.declared.reads.Sig.TheVariants.{Int, Quit, Tstp}
-use Rattle.tn_discipline.specs.declared.reads.Entry.{Entry}
-use Rattle.tn_discipline.specs.declared.keys.Role.{Role}
-use Rattle.tn_discipline.specs.declared.keys.Role.TheVariants as role
-use Rattle.tn_discipline.specs.declared.echo.Symbol.{Symbol}
+use Rattle.tn_discipline.specs.{HalfLine.{HalfLine, effect_of, line_after, effect_entries}, Runs.gains_from}
+use Rattle.tn_discipline.specs.{Characters.Characters, Keys.{role_of_key, literal_role}, Echo.echo_at}
+use Rattle.tn_discipline.specs.declared.{termios.Settings.Settings, reads.Sig.TheVariants.{Int, Quit, Tstp}}
+use Rattle.tn_discipline.specs.declared.{reads.Entry.Entry, keys.Role.Role, echo.Symbol.Symbol}
 use Rattle.tn_discipline.specs.declared.echo.Symbol.TheVariants.{Byte, Newline}
-use Rattle.tn_pty.specs.Terminal.{Terminal, queue_with}
-use Rattle.tn_pty.specs.declared.pty.Input.{Input}
+use Rattle.tn_discipline.specs.declared.keys.Role.TheVariants as role
+use Rattle.tn_pty.specs.{Terminal.{Terminal, queue_with}, declared.pty.Input.Input}
 use Rattle.tn_pty.specs.declared.pty.Input.TheVariants.{Keys, Edited}
 
 -- the entries that a key of this role gives at this line

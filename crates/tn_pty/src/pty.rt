@@ -5,16 +5,13 @@ ghost use Rattle.std.specs.Prelude.{length, map, take, drop, min, IfOk, IfErr, I
 ghost use Rattle.std.specs.Prelude.{slice_get, option_copied, count_by, is_some, vec_len, vec_capacity};
 ghost use Rattle.tn_discipline.specs.Keys.{roles_of, role_of_key, literal_role, roles_from};
 ghost use Rattle.tn_discipline.specs.HalfLine.{effect_of, line_after, effect_entries, GivesText};
-ghost use Rattle.tn_discipline.specs.Advancing.{Advances};
-ghost use Rattle.tn_discipline.specs.RolesTable.{IsPlain};
+ghost use Rattle.tn_discipline.specs.{Advancing.Advances, RolesTable.IsPlain};
 ghost use Rattle.tn_discipline.specs.declared.echo.Symbol.TheVariants.{Byte};
 ghost use Rattle.tn_pty.specs.Terminal.{new_terminal, queue_with, queue_with_each, output_symbols};
 ghost use Rattle.tn_pty.specs.Terminal.{fitting_count, shut_terminal, first_signal, queue_symbols};
-ghost use Rattle.tn_pty.specs.Terminal.{max_waiting};
-ghost use Rattle.tn_pty.specs.Runs.{leading_run};
+ghost use Rattle.tn_pty.specs.{Terminal.max_waiting, Runs.leading_run, Typing.{command_shows, IsCommandRole}};
 ghost use Rattle.tn_pty.specs.Typing.{gain_of, symbols_in, echo_symbols, terminal_after, role_of_input};
 ghost use Rattle.tn_pty.specs.Typing.{after_byte, after_all, input_gains, JoinsEdited, command_role};
-ghost use Rattle.tn_pty.specs.Typing.{command_shows, IsCommandRole};
 ghost use Rattle.tn_pty.specs.Faults.{Accepts, Refuses, AcceptsAll, StopsWithin};
 ghost use Rattle.tn_pty.specs.declared.pty.Input.TheVariants.{Keys, Edited};
 

@@ -3,9 +3,8 @@
 ghost use Rattle.std.specs.Prelude.{◌≡◌, ◌+◌, ◌<◌, ◌≤◌, false, [], ◌++◌, ◌∷◌, length, map, take, drop, min};
 ghost use Rattle.std.specs.Prelude.{get_or, replicate, slice_get, IfOk, vec_len, vec_capacity};
 ghost use Rattle.circular_buffer.specs.Buffer.{buffer};
-ghost use Rattle.tn_pty.specs.Terminal.{queue_with, queue_symbols};
+ghost use Rattle.tn_pty.specs.{Terminal.{queue_with, queue_symbols}, Runs.{marked_symbols, feeds}};
 ghost use Rattle.tn_pty.specs.Runs.{shown_byte, ends_run, leading_run, leading_bytes, marks_after};
-ghost use Rattle.tn_pty.specs.Runs.{marked_symbols, feeds};
 
 use circular_buffer::HeapCircularBuffer;
 use memchr::{memchr, memchr3};
@@ -27,8 +26,7 @@ pub(crate) struct Queue {
 impl Model for Queue {
     ghost use Rattle.std.specs.Prelude.{◌≡◌, List, length};
     ghost use Rattle.tn_discipline.specs.declared.echo.Symbol.{Symbol};
-    ghost use Rattle.tn_pty.specs.Terminal.{queue_symbols};
-    ghost use Rattle.tn_pty.specs.Runs.{feeds, marked_symbols};
+    ghost use Rattle.tn_pty.specs.{Terminal.queue_symbols, Runs.{feeds, marked_symbols}};
 
     ghost Value = { List Symbol };
 

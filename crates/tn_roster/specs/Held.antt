@@ -1,7 +1,6 @@
 -- Which numbers a roster has given to sessions, and how many sessions there may be.
 use Rattle.std.specs.Prelude.{◌≡◌, ◌≢◌, ◌≤◌, ◌+◌, ◌⊎◌, ⊤, ℕ, Bool, IsTrue, IsFalse, Option, None, List}
-use Rattle.std.specs.Prelude.{count_by}
-use Rattle.std.specs.Prelude.{is_some, slice_index_or}
+use Rattle.std.specs.Prelude.{count_by, is_some, slice_index_or}
 
 pub record Held : Type 0 where
   -- how many numbers may be held

@@ -1,19 +1,12 @@
 -- The server says nothing to what a client answered.
 use Rattle.std.proofs.Common.{◌≡◌, ℕ, Bool, true, false, ◌&&◌, nat_le, Some, None, List, [], ◌++◌, length, refl, ◌∙◌, ap, if◌then◌else◌}
-use Rattle.tn_codes.specs.PayloadOf.{payload_of}
-use Rattle.tn_codes.specs.Payloads.{parameters_of}
-use Rattle.tn_codes.specs.declared.payloads.Payload.TheVariants.{Slc}
-use Rattle.tn_codes.specs.declared.triples.Triple.{Triple}
+use Rattle.tn_codes.specs.{PayloadOf.payload_of, Payloads.parameters_of, declared.{payloads.Payload.TheVariants.Slc, triples.Triple.Triple}}
 use Rattle.tn_codes.proofs.lemmas.Telling.{told}
 use Rattle.tn_discipline.specs.Characters.{Characters}
-use Rattle.tn_linemode.specs.Exchange.{server_answers, server_is_asked}
-use Rattle.tn_nvt.specs.declared.items.Item.{Item}
-use Rattle.tn_nvt.specs.declared.items.Item.TheVariants.{Sub}
-use Rattle.tn_option.specs.Options.{state_of, is_yes}
-use Rattle.tn_option.specs.declared.q_method.Side.TheVariants.{Them}
-use Rattle.tn_linemode.specs.Words.{list_items}
-use Rattle.tn_server.specs.Events.{History, got}
-use Rattle.tn_server.specs.Replies.{items_at, list_replies, table_items, replies}
+use Rattle.tn_linemode.specs.{Exchange.{server_answers, server_is_asked}, Words.list_items}
+use Rattle.tn_nvt.specs.declared.items.Item.{Item, TheVariants.Sub}
+use Rattle.tn_option.specs.{Options.{state_of, is_yes}, declared.q_method.Side.TheVariants.Them}
+use Rattle.tn_server.specs.{Events.{History, got}, Replies.{items_at, list_replies, table_items, replies}}
 use Rattle.tn_server.specs.Terms.{options, flags, chars, terms, payload_at, chars_after}
 use Rattle.tn_server.proofs.lemmas.Terms.{says_nothing}
 

@@ -4,9 +4,7 @@ use Rattle.tn_discipline.specs.Canon.{Canon}
 use Rattle.tn_linemode.specs.Modes.{no_mode}
 use Rattle.tn_option.specs.Options.{Options}
 use Rattle.tn_pty.specs.Terminal.{new_terminal}
-use Rattle.tn_server.specs.Events.{begun}
-use Rattle.tn_server.specs.Terms.{opening_options, linemode, asked_mask_while}
-use Rattle.tn_server.specs.Calls.{End, LeadsTo}
+use Rattle.tn_server.specs.{Events.begun, Terms.{opening_options, linemode, asked_mask_while}, Calls.{End, LeadsTo}}
 
 -- with no wish nothing is asked
 pub nothing_asked : (on : Bool) → asked_mask_while on 0 ≡ 0

@@ -1,55 +1,31 @@
 -- How much a server end sends at most.
 use Rattle.std.proofs.Common.{◌≡◌, ◌≢◌, ℕ, ◌+◌, ◌*◌, ◌≤◌, ◌==◌, nat_le, Bool, true, false, not, ◌&&◌, ◌||◌, Option, Some, None, Result, Ok, Err, List, [], ◌∷◌}
-use Rattle.std.proofs.Common.{◌++◌, length, map, take, drop, refl, sym, ◌∙◌, ap, arith, if◌then◌else◌, length-take, take-append-drop}
+use Rattle.std.proofs.{Common.{◌++◌, length, map, take, drop, refl, sym, ◌∙◌, ap, arith, if◌then◌else◌, length-take, take-append-drop}, lemmas.Nat.and_le_r}
 use Rattle.std.proofs.lemmas.List.{map-append, length-map}
-use Rattle.std.proofs.lemmas.Nat.{and_le_r}
-use Rattle.tn_codes.specs.Masks.{trimmed_octets}
-use Rattle.tn_codes.specs.declared.codes.Command.{Command}
+use Rattle.tn_codes.specs.{Masks.trimmed_octets, declared.{codes.{Command.Command, Func.Func, Verb.Verb}, masks.Mask.Mask, payloads.Payload.Payload}}
+use Rattle.tn_codes.specs.declared.{payloads.Payload.TheVariants.Slc, triples.Triple.Triple}
 use Rattle.tn_codes.specs.declared.codes.Command.TheVariants as command
-use Rattle.tn_codes.specs.declared.codes.Func.{Func}
-use Rattle.tn_codes.specs.declared.codes.Verb.{Verb}
-use Rattle.tn_codes.specs.declared.masks.Mask.{Mask}
-use Rattle.tn_codes.specs.declared.payloads.Payload.{Payload}
-use Rattle.tn_codes.specs.declared.payloads.Payload.TheVariants.{Slc}
-use Rattle.tn_codes.specs.declared.triples.Triple.{Triple}
 use Rattle.tn_codes.proofs.lemmas.Masks.{length-trimmed}
-use Rattle.tn_discipline.specs.Characters.{Characters, AreAllowed, slot, with_slot, char_fault, is_settable}
-use Rattle.tn_discipline.specs.declared.characters.CharFault.TheVariants.{NotSettable, Reserved}
-use Rattle.tn_discipline.specs.Echo.{echo_at, one_shown, is_erased, wiping_symbols, no_echo}
-use Rattle.tn_discipline.specs.HalfLine.{HalfLine, effect_of}
-use Rattle.tn_discipline.specs.Keys.{role_of_key}
-use Rattle.tn_discipline.specs.declared.echo.Symbol.{Symbol}
+use Rattle.tn_discipline.specs.{Characters.{Characters, AreAllowed, slot, with_slot, char_fault, is_settable}, HalfLine.{HalfLine, effect_of}, Keys.role_of_key}
+use Rattle.tn_discipline.specs.declared.{characters.CharFault.TheVariants.{NotSettable, Reserved}, echo.Symbol.Symbol, half_line.Effect.Effect, keys.Role.Role}
+use Rattle.tn_discipline.specs.{Echo.{echo_at, one_shown, is_erased, wiping_symbols, no_echo}, declared.termios.{Flags.Flags, Settings.Settings}}
 use Rattle.tn_discipline.specs.declared.echo.Symbol.TheVariants as symbol
-use Rattle.tn_discipline.specs.declared.half_line.Effect.{Effect}
-use Rattle.tn_discipline.specs.declared.keys.Role.{Role}
 use Rattle.tn_discipline.specs.declared.keys.Role.TheVariants as role
-use Rattle.tn_discipline.specs.declared.termios.Flags.{Flags}
-use Rattle.tn_discipline.specs.declared.termios.Settings.{Settings}
-use Rattle.tn_linemode.specs.Exchange.{server_next, server_answer, server_after, server_answers, server_is_asked, is_same_value, Answers}
-use Rattle.tn_linemode.specs.Modes.{mode_of, edits}
-use Rattle.tn_nvt.specs.Spelling.{cr, doubled_byte, doubled_bytes, spelling, Fits}
-use Rattle.tn_nvt.specs.declared.items.Item.{Item}
-use Rattle.tn_nvt.specs.declared.items.Item.TheVariants.{Byte, Newline, Cmd, Neg, Sub}
+use Rattle.tn_linemode.specs.{Exchange.{server_next, server_answer, server_after, server_answers, server_is_asked, is_same_value, Answers}, Prefixes.IsRead}
+use Rattle.tn_linemode.specs.{Modes.{mode_of, edits}, Words.{word_items, payload_items, mode_items, list_items}}
+use Rattle.tn_nvt.specs.{Spelling.{cr, doubled_byte, doubled_bytes, spelling, Fits}, declared.items.Item.{Item, TheVariants.{Byte, Newline, Cmd, Neg, Sub}}}
 use Rattle.tn_nvt.proofs.lemmas.Sizes.{doubled_within, doubled_some, doubled_alone, length-doubled-cons, total, total-append, IsWeight, weighs_at_most}
-use Rattle.tn_option.specs.Options.{Options, options_after_word, reply_to, answer_to, state_of, is_yes}
-use Rattle.tn_option.specs.declared.q_method.AskFault.{AskFault}
+use Rattle.tn_option.specs.{Options.{Options, options_after_word, reply_to, answer_to, state_of, is_yes}, declared.q_method.AskFault.AskFault}
 use Rattle.tn_option.specs.declared.q_method.Side.TheVariants.{Us, Them}
-use Rattle.tn_pty.specs.Terminal.{queue_with, output_symbol, output_symbols, fitting_count}
-use Rattle.tn_pty.specs.Typing.{symbols_in, echo_symbols, command_shows}
-use Rattle.tn_linemode.specs.Prefixes.{IsRead}
-use Rattle.tn_linemode.specs.Words.{word_items, payload_items, mode_items, list_items}
+use Rattle.tn_pty.specs.{Terminal.{queue_with, output_symbol, output_symbols, fitting_count}, Typing.{symbols_in, echo_symbols, command_shows}}
 use Rattle.tn_linemode.proofs.lemmas.Sizes.{size, size-append, size-one, size-word, size-mode, size-list, size-plain_triple, size-table, octets_size}
-use Rattle.tn_linemode.proofs.lemmas.Sizes.{answers-size}
-use Rattle.tn_linemode.proofs.lemmas.Sizes.{says_under, size-came, size-least, size-sub, size-params, doubled_most}
-use Rattle.tn_server.specs.Bounds.{max_said, HasAllowedCharacters, max_of_calls, bytes_due}
+use Rattle.tn_linemode.proofs.lemmas.Sizes.{answers-size, says_under, size-came, size-least, size-sub, size-params, doubled_most}
+use Rattle.tn_server.specs.{Bounds.{max_said, HasAllowedCharacters, max_of_calls, bytes_due}, Lines.line, Screen.{shows, queue, sends_ga, none_waits, due}}
 use Rattle.tn_server.specs.Events.{History, Event, begun, next, got, took, wrote, pulled, wished, char_set, echo_set, mask_set, items}
-use Rattle.tn_server.specs.Lines.{line}
-use Rattle.tn_server.specs.Screen.{shows, queue, sends_ga, none_waits, due}
 use Rattle.tn_server.specs.Terms.{Terms, terms, options, flags, chars, mode, settings, linemode, echoes, payload_at, options_after, wish_at, wish_after}
 use Rattle.tn_server.specs.Terms.{mask_told, mode_sent, asks_echo, asked_mask_of, wants_echo, terms_by, chars_after, opening_options}
 use Rattle.tn_server.specs.Replies.{asked_word_items, table_items, new_table_items, echo_items, items_by, items_at, list_replies, triple_items, forward_payload}
-use Rattle.tn_server.specs.Replies.{data_of, replies, items_said}
-use Rattle.tn_server.specs.declared.wishes.Editing.{Editing}
+use Rattle.tn_server.specs.{Replies.{data_of, replies, items_said}, declared.wishes.Editing.Editing}
 use Rattle.tn_server.proofs.lemmas.Terms.{differ_self, told_again, table_again, says_nothing, echo_keeps_linemode}
 
 -- WHAT IS SAID, part by part

@@ -1,34 +1,19 @@
 -- Where the owner's calls lead.
 use Rattle.std.proofs.Common.{◌≡◌, ℕ, ◌+◌, nat_lt, Bool, true, false, not, ◌&&◌, ◌||◌, Option, Some, None, is_some, List, [], ◌∷◌, ◌++◌, length, take, drop}
-use Rattle.std.proofs.Common.{refl, sym, ap, ◌∙◌, subst, arith, append-nil, append_assoc, length-append, if◌then◌else◌}
-use Rattle.std.proofs.lemmas.Bool.{lt-ltb, le-ltb}
-use Rattle.tn_codes.specs.declared.codes.Func.{Func}
-use Rattle.tn_discipline.specs.Characters.{Characters, slot, with_slot}
-use Rattle.tn_discipline.specs.declared.reads.Entry.{Entry}
-use Rattle.tn_discipline.specs.declared.echo.Symbol.{Symbol}
-use Rattle.tn_discipline.specs.declared.termios.Flags.{Flags}
+use Rattle.std.proofs.{Common.{refl, sym, ap, ◌∙◌, subst, arith, append-nil, append_assoc, length-append, if◌then◌else◌}, lemmas.Bool.{lt-ltb, le-ltb}}
+use Rattle.tn_codes.specs.declared.{codes.{Func.Func, Command.TheVariants.Ga}, masks.Mask.Mask}
+use Rattle.tn_discipline.specs.{Characters.{Characters, slot, with_slot}, declared.{reads.Entry.Entry, echo.Symbol.Symbol, termios.Flags.Flags}}
 use Rattle.tn_discipline.specs.declared.termios.Settings.{Settings}
-use Rattle.tn_codes.specs.declared.codes.Command.TheVariants.{Ga}
-use Rattle.tn_codes.specs.declared.masks.Mask.{Mask}
-use Rattle.tn_linemode.specs.Modes.{Modes}
-use Rattle.tn_nvt.specs.Spelling.{spells}
-use Rattle.tn_nvt.specs.declared.items.Item.{Item}
-use Rattle.tn_nvt.specs.declared.items.Item.TheVariants.{Cmd}
-use Rattle.tn_option.specs.Options.{state_of, is_yes}
-use Rattle.tn_option.specs.declared.q_method.Side.TheVariants.{Us}
+use Rattle.tn_linemode.specs.{Modes.Modes, Words.{differ, mode_items}}
+use Rattle.tn_nvt.specs.{Spelling.spells, declared.items.Item.{Item, TheVariants.Cmd}}
+use Rattle.tn_option.specs.{Options.{state_of, is_yes}, declared.q_method.Side.TheVariants.Us}
 use Rattle.tn_pty.specs.Terminal.{Terminal, fitting_count, output_symbols}
-use Rattle.tn_server.specs.Events.{History, next, took, wrote, pulled, wished, char_set, echo_set, mask_set}
-use Rattle.tn_server.specs.Terms.{Terms, terms, terms_by, options, flags, chars, settings, asked_mask, asked_mask_of, asked_mask_while, changes, mask_after, linemode}
-use Rattle.tn_server.specs.Terms.{mask_for, asks_echo, options_with_echo, wants_echo, mask_told, wish_after, sends_mode}
-use Rattle.tn_linemode.specs.Words.{differ, mode_items}
-use Rattle.tn_server.specs.Lines.{entries, taken_count}
-use Rattle.tn_server.specs.Screen.{queue}
-use Rattle.tn_server.specs.Replies.{replies, items_by, echo_items, new_table_items, character_items}
-use Rattle.tn_server.specs.Calls.{End, LeadsTo}
+use Rattle.tn_server.specs.{Events.{History, next, took, wrote, pulled, wished, char_set, echo_set, mask_set}, Lines.{entries, taken_count}, Screen.queue}
+use Rattle.tn_server.specs.Terms.{Terms, terms, terms_by, options, flags, chars, settings, asked_mask, asked_mask_of, asked_mask_while, changes, mask_after}
+use Rattle.tn_server.specs.{Terms.{linemode, mask_for, asks_echo, options_with_echo, wants_echo, mask_told, wish_after, sends_mode}, Calls.{End, LeadsTo}}
+use Rattle.tn_server.specs.{Replies.{replies, items_by, echo_items, new_table_items, character_items}, declared.wishes.Editing.Editing}
 use Rattle.tn_server.specs.Steps.{end_after, says, end_after_take, says_take, end_after_write, end_after_pull, end_after_echo, flags_with_echo, sends_mode_now}
-use Rattle.tn_server.specs.declared.wishes.Editing.{Editing}
-use Rattle.tn_server.proofs.lemmas.Terms.{differ_self, told_again, table_again, echo_keeps_linemode}
-use Rattle.tn_server.proofs.Turning.{sound, with_all}
+use Rattle.tn_server.proofs.{lemmas.Terms.{differ_self, told_again, table_again, echo_keeps_linemode}, Turning.{sound, with_all}}
 use Rattle.tn_server.proofs.Wishing.{wish_done, wish_said, wish_told}
 
 -- OUTPUT is written

@@ -1,14 +1,10 @@
 -- A piece of a subnegotiation that is discarded is not refused.
 use Rattle.std.proofs.Common.{◌≡◌, ◌≢◌, ℕ, List, [], ◌∷◌, ◌++◌, sym, ◌∙◌}
-use Rattle.tn_nvt.specs.Feeding.{DecoderState, KeepsParameter, overlong, failed, IsLetGo}
+use Rattle.tn_nvt.specs.{Feeding.{DecoderState, KeepsParameter, overlong, failed, IsLetGo}, declared.items.Item.Item}
 use Rattle.tn_nvt.specs.Feeding as nvt
-use Rattle.tn_nvt.specs.declared.items.Item.{Item}
 use Rattle.tn_nvt.proofs.lemmas.Dropping.{gives_nothing, keeps_nothing}
 use Rattle.tn_linemode.specs.Prefixes.{WantsMemory}
-use Rattle.tn_server.specs.Answering.{IsStopCause, StopsWithin}
-use Rattle.tn_server.specs.Calls.{End, LeadsTo}
-use Rattle.tn_server.specs.Events.{History}
-use Rattle.tn_server.specs.Steps.{end_after_items}
+use Rattle.tn_server.specs.{Answering.{IsStopCause, StopsWithin}, Calls.{End, LeadsTo}, Events.History, Steps.end_after_items}
 use Rattle.tn_server.specs.declared.faults.ServerFault.{ServerFault}
 
 none_left : (done left : List Item) → done ++ left ≡ [] → left ≡ []

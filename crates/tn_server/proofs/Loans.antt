@@ -1,26 +1,17 @@
 -- What a server end did while it was lent to its decoder.
 use Rattle.std.proofs.Common.{◌≡◌, ◌↔◌, inl, inr, true, false, ℕ, List, [], ◌∷◌, ◌++◌, map, Result, Err, OnOk, IsErrOf, refl, sym, ap, ◌∙◌, append-nil, append_assoc, subst}
 use Rattle.std.proofs.lemmas.List.{map-append}
-use Rattle.tn_nvt.specs.Spelling.{spells}
-use Rattle.tn_nvt.specs.Sinks.{TakesEach, FeedsTo, StopsAtSink as RefusesRest, StopsForMemory, all_of, calls_of, bytes_of}
-use Rattle.tn_nvt.specs.Feeding.{DecoderState, failed}
+use Rattle.tn_nvt.specs.{Spelling.spells, Sinks.{TakesEach, FeedsTo, StopsAtSink as RefusesRest, StopsForMemory, all_of, calls_of, bytes_of}}
+use Rattle.tn_nvt.specs.{Feeding.{DecoderState, failed}, declared.{decoding.NvtFault.NvtFault, items.Item.{Item, TheVariants.Byte}}}
 use Rattle.tn_nvt.specs.Feeding as decoder_words
-use Rattle.tn_nvt.specs.declared.decoding.NvtFault.{NvtFault}
 use Rattle.tn_nvt.specs.declared.decoding.NvtFault.TheVariants as nvt
-use Rattle.tn_nvt.specs.declared.items.Item.{Item}
-use Rattle.tn_nvt.specs.declared.items.Item.TheVariants.{Byte}
 use Rattle.tn_nvt.proofs.lemmas.Folding.{taken_all, refused_items, kept_by_all}
 use Rattle.tn_linemode.specs.Prefixes.{AppendsPrefix}
 use Rattle.tn_linemode.proofs.lemmas.Cutting.{spelled_on}
 use Rattle.tn_pty.specs.declared.pty.PtyFault.TheVariants.{Closed}
-use Rattle.tn_server.specs.Answering.{Feeds, StopsWithin, IsHalted}
-use Rattle.tn_server.specs.Calls.{End}
-use Rattle.tn_server.specs.Faults.{IsOfPiece}
-use Rattle.tn_server.specs.Lending.{IsSameLoan, TakesItems, RefusesItems, RefusesByte}
-use Rattle.tn_server.specs.Steps.{IsShut, IsRefusedFor, end_after_item, says_item, end_after_items, says_items}
-use Rattle.tn_server.specs.declared.faults.ServerFault.{ServerFault}
-use Rattle.tn_server.specs.declared.faults.ServerFault.TheVariants.{Pty, Memory, Failed}
-use Rattle.tn_server.specs.declared.taking.Lent.{Lent}
+use Rattle.tn_server.specs.{Answering.{Feeds, StopsWithin, IsHalted}, Calls.End, Faults.IsOfPiece, Lending.{IsSameLoan, TakesItems, RefusesItems, RefusesByte}}
+use Rattle.tn_server.specs.{Steps.{IsShut, IsRefusedFor, end_after_item, says_item, end_after_items, says_items}, declared.faults.ServerFault.ServerFault}
+use Rattle.tn_server.specs.declared.{faults.ServerFault.TheVariants.{Pty, Memory, Failed}, taking.Lent.Lent}
 use Rattle.tn_server.proofs.lemmas.Gathering.{after_both, says_both, says_plain, after_aside, item_says, says_aside, items_keep}
 
 -- ONE CALL

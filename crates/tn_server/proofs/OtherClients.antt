@@ -1,39 +1,23 @@
 -- What a server makes of clients of other makers.
 use Rattle.std.proofs.Common.{◌≡◌, ℕ, ◌+◌, ◌≤◌, ◌<◌, ◌==◌, Bool, true, false, not, nat_le, Option, Some, None, List, [], ◌∷◌, ◌++◌, map, length, refl, sym, ap}
-use Rattle.std.proofs.Common.{◌∙◌, if◌then◌else◌, append-nil, append_assoc, arith, ◌&&◌}
-use Rattle.std.specs.Prelude.{All}
-use Rattle.std.proofs.lemmas.Bool.Decides.{nat_tests}
-use Rattle.std.proofs.lemmas.List.{length-append}
+use Rattle.std.proofs.{Common.{◌∙◌, if◌then◌else◌, append-nil, append_assoc, arith, ◌&&◌}, lemmas.{Bool.Decides.nat_tests, List.length-append, Nat.and_assoc}}
 use Rattle.std.proofs.lemmas.List.Elements.{All-head, All-tail}
-use Rattle.std.proofs.lemmas.Nat.{and_assoc}
-use Rattle.tn_codes.specs.PayloadOf.{payload_of}
-use Rattle.tn_codes.specs.declared.payloads.Payload.{Payload}
+use Rattle.std.specs.Prelude.{All}
+use Rattle.tn_codes.specs.{PayloadOf.payload_of, declared.payloads.Payload.Payload}
 use Rattle.tn_codes.specs.declared.payloads.Payload.TheVariants as payload
-use Rattle.tn_discipline.proofs.lemmas.Histories.{half-next, entries-next}
-use Rattle.tn_discipline.proofs.lemmas.KeyRoles.{roles_of-one, roles_of-append}
-use Rattle.tn_discipline.specs.Canon.{typed_entries, typed_half}
-use Rattle.tn_discipline.specs.Characters.{Characters}
-use Rattle.tn_discipline.specs.Entries.{entries_of, half_of, line_of}
-use Rattle.tn_discipline.specs.Keys.{roles_of, role_of_key, roles_from, literal_role}
-use Rattle.tn_discipline.specs.Limits.{max_counted}
-use Rattle.tn_discipline.specs.declared.keys.Role.{Role}
+use Rattle.tn_discipline.proofs.lemmas.{Histories.{half-next, entries-next}, KeyRoles.{roles_of-one, roles_of-append}}
+use Rattle.tn_discipline.specs.{Canon.{typed_entries, typed_half}, Characters.Characters, Entries.{entries_of, half_of, line_of}, Limits.max_counted}
+use Rattle.tn_discipline.specs.{Keys.{roles_of, role_of_key, roles_from, literal_role}, declared.{keys.Role.Role, reads.Entry.{Entry, TheVariants.Text}}}
+use Rattle.tn_discipline.specs.declared.termios.{Flags.Flags, Settings.Settings}
 use Rattle.tn_discipline.specs.declared.keys.Role.TheVariants as role
-use Rattle.tn_discipline.specs.declared.reads.Entry.{Entry}
-use Rattle.tn_discipline.specs.declared.reads.Entry.TheVariants.{Text}
-use Rattle.tn_discipline.specs.declared.termios.Flags.{Flags}
-use Rattle.tn_discipline.specs.declared.termios.Settings.{Settings}
 use Rattle.tn_linemode.specs.Modes.{edits, is_acknowledged, mode_of}
-use Rattle.tn_nvt.specs.declared.items.Item.{Item}
-use Rattle.tn_nvt.specs.declared.items.Item.TheVariants.{Byte, Newline, Cmd, Neg, Sub}
-use Rattle.tn_option.specs.Options.{state_of, is_yes}
-use Rattle.tn_option.specs.declared.q_method.Side.TheVariants.{Them}
-use Rattle.tn_server.specs.Events.{got, char_set, echo_set, History, begun, next, items, gets, limit, opening_settings}
+use Rattle.tn_nvt.specs.declared.items.Item.{Item, TheVariants.{Byte, Newline, Cmd, Neg, Sub}}
+use Rattle.tn_option.specs.{Options.{state_of, is_yes}, declared.q_method.Side.TheVariants.Them}
+use Rattle.tn_server.specs.{Events.{got, char_set, echo_set, History, begun, next, items, gets, limit, opening_settings}, OtherClients.AreOrdinary}
 use Rattle.tn_server.specs.Lines.{role_of_byte, role_at, roles, entries, half}
 use Rattle.tn_server.specs.OtherClients.{AcknowledgesNoEdit, KeepsCharacters, StaysRemote, opening_canon, roles_of_items, keys_of, IsNoCommand, line_items}
-use Rattle.tn_server.specs.OtherClients.{AreOrdinary}
 use Rattle.tn_server.specs.Terms.{Terms, terms, linemode, options, flags, chars, settings, mode, mask_after, chars_after, changes, payload_at}
-use Rattle.tn_server.proofs.lemmas.Histories.{gets-push}
-use Rattle.tn_server.proofs.lemmas.Terms.{differ_self, terms_stay}
+use Rattle.tn_server.proofs.lemmas.{Histories.gets-push, Terms.{differ_self, terms_stay}}
 
 -- THE MODE stays without EDIT
 pub edits-mode_of : (mask : ℕ) → edits (mode_of mask) ≡ edits mask

@@ -1,21 +1,13 @@
 -- What waits at a server end is bounded.
 use Rattle.std.proofs.Common.{◌≡◌, ℕ, ◌≤◌, ◌+◌, nat_le, ◌&&◌, Bool, true, false, List, ◌++◌, length, map, take, refl, ap, arith, length-append, length-drop}
-use Rattle.std.proofs.Common.{if◌then◌else◌}
-use Rattle.std.proofs.lemmas.Bool.{leb-true}
+use Rattle.std.proofs.{Common.if◌then◌else◌, lemmas.{Bool.leb-true, List.{length-take, length-map, Elements.All-drop}}}
 use Rattle.std.specs.Prelude.{All}
-use Rattle.std.proofs.lemmas.List.{length-take, length-map}
-use Rattle.std.proofs.lemmas.List.Elements.{All-drop}
 use Rattle.tn_discipline.proofs.lemmas.Texts.{texts_fit}
-use Rattle.tn_discipline.specs.Entries.{HasAtMost}
-use Rattle.tn_discipline.specs.Limits.{is_limit, standard_limit, max_limit}
-use Rattle.tn_discipline.specs.declared.echo.Symbol.{Symbol}
+use Rattle.tn_discipline.specs.{Entries.HasAtMost, Limits.{is_limit, standard_limit, max_limit}, declared.echo.Symbol.Symbol}
 use Rattle.tn_linemode.specs.Modes.{edits}
 use Rattle.tn_pty.specs.Terminal.{queue_symbols, max_waiting, fitting_count, output_symbol}
-use Rattle.tn_server.specs.Events.{History, begun, next, got, wrote, pulled, limit}
-use Rattle.tn_server.specs.Lines.{line, roles, entries, taken_count, waiting}
-use Rattle.tn_server.specs.Screen.{queue, shows}
-use Rattle.tn_server.specs.Terms.{settings, mode, options, echoes}
-use Rattle.tn_server.specs.Calls.{End, LeadsTo}
+use Rattle.tn_server.specs.{Events.{History, begun, next, got, wrote, pulled, limit}, Lines.{line, roles, entries, taken_count, waiting}, Screen.{queue, shows}}
+use Rattle.tn_server.specs.{Terms.{settings, mode, options, echoes}, Calls.{End, LeadsTo}}
 use Rattle.tn_server.proofs.lemmas.Ends.{waits_are}
 
 fits_with : (b : Bool) (symbols more : List Symbol) → nat_le (length symbols + length more) queue_symbols ≡ b → length symbols ≤ queue_symbols

@@ -1,29 +1,18 @@
 -- Bytes of data that come in runs.
 use Rattle.std.proofs.Common.{◌≡◌, inl, inr, ℕ, Bool, true, false, Result, Ok, Err, OnOk, IfErr, List, [], ◌∷◌, map, refl, sym, ap, ◌∙◌, subst, if◌then◌else◌}
 use Rattle.std.proofs.lemmas.Result.{IfErr-weaker}
-use Rattle.tn_discipline.specs.declared.termios.Settings.{Settings}
-use Rattle.tn_discipline.specs.HalfLine.{HalfLine, GivesText, effect_entries}
-use Rattle.tn_discipline.specs.Keys.{gives_entry, role_of_key}
+use Rattle.tn_discipline.specs.{declared.termios.Settings.Settings, HalfLine.{HalfLine, GivesText, effect_entries}, Keys.{gives_entry, role_of_key}}
 use Rattle.tn_discipline.specs.declared.keys.Role.{Role}
 use Rattle.tn_discipline.specs.declared.reads.Entry.TheVariants as entry
 use Rattle.tn_discipline.proofs.lemmas.Editing.{quiet_gain}
 use Rattle.tn_linemode.specs.Modes.{edits}
 use Rattle.tn_nvt.specs.declared.items.Item.TheVariants.{Byte}
-use Rattle.tn_pty.specs.Terminal.{Terminal}
-use Rattle.tn_pty.specs.Typing.{terminal_after, role_of_input, after_byte, after_all}
-use Rattle.tn_pty.specs.Faults.{Refuses, StopsWithin}
-use Rattle.tn_pty.specs.declared.pty.Input.{Input}
-use Rattle.tn_pty.specs.declared.pty.Input.TheVariants.{Keys, Edited}
-use Rattle.tn_pty.specs.declared.pty.PtyFault.{PtyFault}
+use Rattle.tn_pty.specs.{Terminal.Terminal, Typing.{terminal_after, role_of_input, after_byte, after_all}, Faults.{Refuses, StopsWithin}}
+use Rattle.tn_pty.specs.declared.pty.{Input.{Input, TheVariants.{Keys, Edited}}, PtyFault.PtyFault}
 use Rattle.tn_pty.specs.declared.pty.PtyFault.TheVariants as pty
 use Rattle.tn_pty.proofs.lemmas.Typed.{input-settings}
-use Rattle.tn_server.specs.Lines.{role_of_byte}
-use Rattle.tn_server.specs.Screen.{byte_shows}
-use Rattle.tn_server.specs.Terms.{echoes}
-use Rattle.tn_server.specs.Calls.{End}
-use Rattle.tn_server.specs.Lending.{RefusesByte}
+use Rattle.tn_server.specs.{Lines.role_of_byte, Screen.byte_shows, Terms.echoes, Calls.End, Lending.RefusesByte, declared.faults.ServerFault.TheVariants.Pty}
 use Rattle.tn_server.specs.Steps.{IsShut, IsKeyCause, IsRefusedFor, role_of_typed, end_after_byte, end_after_items}
-use Rattle.tn_server.specs.declared.faults.ServerFault.TheVariants.{Pty}
 
 -- how bytes of data come to the terminal of an end
 abbrev pub input_of : Bool → Bool → Input

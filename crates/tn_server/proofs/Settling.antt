@@ -1,15 +1,11 @@
 -- What the code settles is what the terms of a history settle.
 use Rattle.std.proofs.Common.{◌≡◌, ℕ, ◌==◌, Bool, true, false, Option, Some, None, ◌++◌, refl, ap, ◌∙◌, if◌then◌else◌}
-use Rattle.tn_discipline.specs.Characters.{Characters}
-use Rattle.tn_discipline.specs.declared.termios.Flags.{Flags}
-use Rattle.tn_linemode.specs.Modes.{Modes, mode_of, mask_sent}
+use Rattle.tn_discipline.specs.{Characters.Characters, declared.termios.Flags.Flags}
+use Rattle.tn_linemode.specs.{Modes.{Modes, mode_of, mask_sent}, Words.{differ, mode_items}}
 use Rattle.tn_option.specs.Options.{Options}
 use Rattle.tn_server.specs.Terms.{Terms, linemode, asked_mask_while, asked_mask_of, mode_sent, mask_told, asks_echo, changes, mask_after, terms_by, wish_after}
-use Rattle.tn_server.specs.Terms.{options_with_echo, wants_echo}
-use Rattle.tn_linemode.specs.Words.{differ, mode_items}
-use Rattle.tn_server.specs.Replies.{items_by, new_table_items, echo_items}
+use Rattle.tn_server.specs.{Terms.{options_with_echo, wants_echo}, Replies.{items_by, new_table_items, echo_items}, declared.terms.Negotiation.Negotiation}
 use Rattle.tn_server.specs.Steps.{modes_before, modes_told, modes_asked, told_now, masks_by, negotiation_after, negotiation_items}
-use Rattle.tn_server.specs.declared.terms.Negotiation.{Negotiation}
 use Rattle.tn_server.specs.declared.wishes.Editing.{Editing}
 
 sent_by_asked : (m : Modes) (n wish : ℕ) → m.asked ≡ n → mask_sent m wish ≡ mask_sent (record { asked = n; current = 0 }) wish

@@ -1,14 +1,10 @@
 -- Symbols that are spelled one after another.
 use Rattle.std.proofs.Common.{◌≡◌, ◌≤◌, ℕ, zero, suc, ◌+◌, ◌==◌, ◌||◌, false, Some, List, [], ◌∷◌, ◌++◌, length, map, take, drop, slice_get, refl, ap, sym, ◌∙◌}
-use Rattle.std.proofs.Common.{inl, inr, arith, append_assoc, append-nil, take-add}
-use Rattle.std.proofs.lemmas.List.{map-append}
-use Rattle.std.proofs.lemmas.Bool.{cases_Bool, or_parts}
-use Rattle.tn_discipline.specs.declared.echo.Symbol.{Symbol}
-use Rattle.tn_discipline.specs.declared.echo.Symbol.TheVariants.{Byte, Newline}
+use Rattle.std.proofs.{Common.{inl, inr, arith, append_assoc, append-nil, take-add}, lemmas.{List.map-append, Bool.{cases_Bool, or_parts}}}
+use Rattle.tn_discipline.specs.declared.echo.Symbol.{Symbol, TheVariants.{Byte, Newline}}
 use Rattle.tn_nvt.specs.Spelling.{spelling, spells}
 use Rattle.tn_nvt.proofs.lemmas.Reading.{spells-append}
-use Rattle.tn_pty.specs.Terminal.{Terminal}
-use Rattle.tn_pty.specs.Runs.{ends_run, leading_run}
+use Rattle.tn_pty.specs.{Terminal.Terminal, Runs.{ends_run, leading_run}}
 use Rattle.tn_pty.proofs.lemmas.Fronts.{take-suc}
 use Rattle.tn_server.specs.Replies.{data_of}
 

@@ -1,28 +1,16 @@
 -- Where an item leads, from a history to the end, by the terms that the end has agreed on.
 use Rattle.std.proofs.Common.{◌≡◌, ℕ, Option, List, ◌++◌, refl, sym, ap, ◌∙◌, append_assoc, arith, subst}
 use Rattle.tn_codes.specs.declared.payloads.Payload.{Payload}
-use Rattle.tn_discipline.specs.Characters.{Characters}
-use Rattle.tn_discipline.specs.Keys.{roles_from}
-use Rattle.tn_discipline.specs.Entries.{entries_of}
-use Rattle.tn_discipline.specs.HalfLine.{HalfLine, line_after}
+use Rattle.tn_discipline.specs.{Characters.Characters, Keys.roles_from, Entries.entries_of, HalfLine.{HalfLine, line_after}, declared.keys.Role.Role}
+use Rattle.tn_discipline.specs.declared.{reads.Entry.Entry, echo.Symbol.Symbol, termios.{Flags.Flags, Settings.Settings}}
 use Rattle.tn_discipline.specs.Advancing as discipline
-use Rattle.tn_discipline.specs.declared.keys.Role.{Role}
-use Rattle.tn_discipline.specs.declared.reads.Entry.{Entry}
-use Rattle.tn_discipline.specs.declared.echo.Symbol.{Symbol}
-use Rattle.tn_discipline.specs.declared.termios.Flags.{Flags}
-use Rattle.tn_discipline.specs.declared.termios.Settings.{Settings}
 use Rattle.tn_discipline.proofs.lemmas.Lines.{advances}
 use Rattle.tn_linemode.specs.Modes.{Modes, edits}
 use Rattle.tn_nvt.specs.declared.items.Item.{Item}
 use Rattle.tn_option.specs.Options.{Options}
-use Rattle.tn_pty.specs.Terminal.{Terminal, queue_with}
-use Rattle.tn_pty.specs.Typing.{gain_of, terminal_after}
-use Rattle.tn_server.specs.Events.{Event, History, next, got}
-use Rattle.tn_server.specs.Terms.{Terms, terms_after, asked_mask_of, changes, mask_after, chars_after, payload_at, echoes}
-use Rattle.tn_server.specs.Lines.{roles, role_at, role_of_item}
-use Rattle.tn_server.specs.Screen.{shows, size_after}
-use Rattle.tn_server.specs.Replies.{replies, items_at, list_replies}
-use Rattle.tn_server.specs.Calls.{End, LeadsTo}
+use Rattle.tn_pty.specs.{Terminal.{Terminal, queue_with}, Typing.{gain_of, terminal_after}}
+use Rattle.tn_server.specs.{Events.{Event, History, next, got}, Terms.{Terms, terms_after, asked_mask_of, changes, mask_after, chars_after, payload_at, echoes}}
+use Rattle.tn_server.specs.{Lines.{roles, role_at, role_of_item}, Screen.{shows, size_after}, Replies.{replies, items_at, list_replies}, Calls.{End, LeadsTo}}
 use Rattle.tn_server.proofs.lemmas.Ends.{line_is}
 
 -- what an item does to the terminal

@@ -1,33 +1,19 @@
 -- The step of an end at an item is the one by its terms, if the parts that say the same agree.
 use Rattle.std.proofs.Common.{◌≡◌, ℕ, Bool, true, false, Option, Some, None, List, [], ◌++◌, refl, sym, ap, ◌∙◌, if◌then◌else◌, append-nil}
-use Rattle.tn_codes.specs.declared.codes.Verb.{Verb}
-use Rattle.tn_codes.specs.declared.payloads.Payload.{Payload}
-use Rattle.tn_codes.specs.declared.payloads.Payload.TheVariants.{Mode}
-use Rattle.tn_discipline.specs.Characters.{Characters}
+use Rattle.tn_codes.specs.declared.{codes.Verb.Verb, payloads.Payload.{Payload, TheVariants.Mode}}
+use Rattle.tn_discipline.specs.{Characters.Characters, declared.{reads.Entry.Entry, echo.Symbol.Symbol, termios.Settings.Settings}}
 use Rattle.tn_discipline.specs.declared.keys.Role.TheVariants as role
-use Rattle.tn_discipline.specs.declared.reads.Entry.{Entry}
-use Rattle.tn_discipline.specs.declared.echo.Symbol.{Symbol}
-use Rattle.tn_discipline.specs.declared.termios.Settings.{Settings}
-use Rattle.tn_linemode.specs.Modes.{Modes, edits, mode_of, is_acknowledged}
-use Rattle.tn_nvt.specs.declared.items.Item.{Item}
-use Rattle.tn_nvt.specs.declared.items.Item.TheVariants.{Neg, Sub}
+use Rattle.tn_linemode.specs.{Modes.{Modes, edits, mode_of, is_acknowledged}, Words.differ}
+use Rattle.tn_nvt.specs.declared.items.Item.{Item, TheVariants.{Neg, Sub}}
 use Rattle.tn_option.specs.Options.{Options, options_after_word}
-use Rattle.tn_pty.specs.Terminal.{Terminal, queue_with}
-use Rattle.tn_pty.specs.Typing.{terminal_after}
-use Rattle.tn_server.specs.Events.{History, got}
+use Rattle.tn_pty.specs.{Terminal.{Terminal, queue_with}, Typing.terminal_after}
+use Rattle.tn_server.specs.{Events.{History, got}, Terms.{payload_at, wish_in, options_after, linemode, echoes, wish_after}, Lines.role_at}
 use Rattle.tn_server.specs.Terms.{Terms, terms_by, mask_told, asks_echo, wants_echo, asked_mask_of, asked_mask_while, changes, mask_after, chars_after}
-use Rattle.tn_server.specs.Terms.{payload_at, wish_in, options_after, linemode, echoes, wish_after}
-use Rattle.tn_linemode.specs.Words.{differ}
-use Rattle.tn_server.specs.Lines.{role_at}
-use Rattle.tn_server.specs.Screen.{shows, size_after}
-use Rattle.tn_server.specs.Replies.{items_by, reply_items, list_replies}
-use Rattle.tn_server.specs.Calls.{End, LeadsTo}
+use Rattle.tn_server.specs.{Screen.{shows, size_after}, Replies.{items_by, reply_items, list_replies}, Calls.{End, LeadsTo}, declared.wishes.Editing.Editing}
 use Rattle.tn_server.specs.Steps.{end_after_word, says_words, end_after_wish, mask_wished, end_after_mode, with_negotiated, negotiation_after}
 use Rattle.tn_server.specs.declared.terms.Negotiation.{Negotiation}
-use Rattle.tn_server.specs.declared.wishes.Editing.{Editing}
-use Rattle.tn_server.proofs.lemmas.Terms.{terms_stay, says_nothing, differ_self, echo_keeps_linemode}
-use Rattle.tn_server.proofs.Settling.{Agree, terms_settle, masks_settle, says_settle}
-use Rattle.tn_server.proofs.Standings.{terms_of_event, terminal_by_terms, end_by_terms, says_by_terms}
+use Rattle.tn_server.proofs.{lemmas.Terms.{terms_stay, says_nothing, differ_self, echo_keeps_linemode}, Settling.{Agree, terms_settle, masks_settle}}
+use Rattle.tn_server.proofs.{Settling.says_settle, Standings.{terms_of_event, terminal_by_terms, end_by_terms, says_by_terms}}
 
 -- the parts of an end that say the same agree
 pub record IsSound (old : End) : Type 0 where

@@ -1,23 +1,17 @@
 -- A wish, as a call or in a MODE, and the other payloads.
 use Rattle.std.proofs.Common.{◌≡◌, ℕ, Bool, true, false, Option, Some, None, is_some, List, ◌++◌, refl, sym, ap, ◌∙◌, if◌then◌else◌, append-nil}
-use Rattle.tn_codes.specs.declared.payloads.Payload.{Payload}
-use Rattle.tn_codes.specs.declared.payloads.Payload.TheVariants.{Naws, Mode, ForwardOn, ForwardOff, ForwardYes, ForwardNo, Slc}
+use Rattle.tn_codes.specs.declared.payloads.Payload.{Payload, TheVariants.{Naws, Mode, ForwardOn, ForwardOff, ForwardYes, ForwardNo, Slc}}
 use Rattle.tn_discipline.specs.Characters.{Characters}
 use Rattle.tn_linemode.specs.Modes.{edits, is_acknowledged, wish_of_mask}
 use Rattle.tn_nvt.specs.declared.items.Item.TheVariants.{Sub}
 use Rattle.tn_pty.specs.Terminal.{Terminal}
 use Rattle.tn_server.specs.Terms.{Terms, terms_by, changes, mask_after, chars_after, payload_at, wish_in, linemode, wish_after, mask_for, mask_or, editing}
-use Rattle.tn_server.specs.Terms.{editing_of, mask_told}
-use Rattle.tn_server.specs.Replies.{items_by, list_replies}
-use Rattle.tn_server.specs.Calls.{End}
-use Rattle.tn_server.specs.Steps.{end_after_wish, says_wished, sends_wished, mask_wished, end_after_mode_by, says_mode_by, end_after_mode}
-use Rattle.tn_server.specs.Steps.{says_mode_got, end_after_payload, says_sub, with_negotiated, negotiation_after, negotiation_items}
-use Rattle.tn_server.specs.declared.wishes.Editing.{Editing}
-use Rattle.tn_server.proofs.lemmas.Terms.{terms_stay, says_nothing, differ_self, told_again}
-use Rattle.tn_server.proofs.Settling.{told_settles, says_settle}
+use Rattle.tn_server.specs.{Terms.{editing_of, mask_told}, Replies.{items_by, list_replies}, Calls.End, declared.wishes.Editing.Editing}
+use Rattle.tn_server.specs.Steps.{end_after_wish, says_wished, sends_wished, mask_wished, end_after_mode_by, says_mode_by, end_after_mode, says_mode_got}
+use Rattle.tn_server.specs.Steps.{end_after_payload, says_sub, with_negotiated, negotiation_after, negotiation_items}
+use Rattle.tn_server.proofs.{lemmas.Terms.{terms_stay, says_nothing, differ_self, told_again}, Settling.{told_settles, says_settle}, Turning.sub_types_nothing}
 use Rattle.tn_server.proofs.Standings.{end_by_terms, says_by_terms}
 use Rattle.tn_server.proofs.Turning.{IsSound, with_all, still, settled_all, set_by, typed_by, unset, own_chars, unwished, mode_acked, quiet_says}
-use Rattle.tn_server.proofs.Turning.{sub_types_nothing}
 
 -- a wish by the mask that it asks for, where the item brings this payload
 pub wish_done : (old : End) (ed : Editing) (mask : Option ℕ) (payload : Option Payload) (terminal : Terminal) → mask_for old.terminal.settings.flags ed ≡ mask

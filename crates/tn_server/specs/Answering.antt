@@ -1,12 +1,9 @@
 -- What a piece of the stream does to a server end: all of it, or what came before a refusal.
 use Rattle.std.specs.Prelude.{◌≡◌, ◌≢◌, ℕ, true, List, [], ◌∷◌, ◌++◌}
 use Rattle.tn_linemode.specs.Prefixes.{WantsMemory}
-use Rattle.tn_nvt.specs.Feeding.{DecoderState, failed}
+use Rattle.tn_nvt.specs.{Feeding.{DecoderState, failed}, Spelling.spells, declared.items.Item.Item}
 use Rattle.tn_nvt.specs.Feeding as nvt
-use Rattle.tn_nvt.specs.Spelling.{spells}
-use Rattle.tn_nvt.specs.declared.items.Item.{Item}
-use Rattle.tn_server.specs.Calls.{End}
-use Rattle.tn_server.specs.Steps.{says_item, IsRefusedFor, end_after_items, says_items}
+use Rattle.tn_server.specs.{Calls.End, Steps.{says_item, IsRefusedFor, end_after_items, says_items}}
 use Rattle.tn_server.specs.declared.faults.ServerFault.{ServerFault}
 use Rattle.tn_server.specs.declared.faults.ServerFault.TheVariants as fault
 

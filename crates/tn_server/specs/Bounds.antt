@@ -1,13 +1,9 @@
 -- How much a server end sends at most, in bytes.
 use Rattle.std.specs.Prelude.{◌≡◌, ℕ, ◌+◌, ◌*◌, None, length, map}
 use Rattle.tn_discipline.specs.Characters.{AreAllowed, char_fault}
-use Rattle.tn_nvt.specs.Spelling.{spelling, spells}
-use Rattle.tn_nvt.specs.declared.items.Item.{Item}
-use Rattle.tn_nvt.specs.declared.items.Item.TheVariants.{Neg, Sub}
+use Rattle.tn_nvt.specs.{Spelling.{spelling, spells}, declared.items.Item.{Item, TheVariants.{Neg, Sub}}}
 use Rattle.tn_server.specs.Events.{Event, got, took, wrote, pulled, wished, char_set, echo_set, mask_set}
-use Rattle.tn_server.specs.Events.{History, begun, next}
-use Rattle.tn_server.specs.Replies.{data_of, items_said}
-use Rattle.tn_server.specs.Screen.{queue}
+use Rattle.tn_server.specs.{Events.{History, begun, next}, Replies.{data_of, items_said}, Screen.queue}
 use Rattle.tn_server.specs.Terms.{chars}
 
 -- What an item is answered by at most. An option word: by a word (3 bytes), the whole table (30), a MODE (7)

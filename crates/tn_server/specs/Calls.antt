@@ -1,17 +1,14 @@
 -- A server end as it is seen from outside, the end that a history leads to, and why a call is refused.
 use Rattle.std.specs.Prelude.{◌≡◌, ℕ, Bool, List, ◌++◌, length, Option, Some, None, option_map, if◌then◌else◌}
 use Rattle.tn_codes.specs.declared.codes.Func.{Func}
-use Rattle.tn_discipline.specs.Characters.{Characters, char_fault}
+use Rattle.tn_discipline.specs.{Characters.{Characters, char_fault}, declared.reads.Entry.Entry}
 use Rattle.tn_discipline.specs.Advancing as discipline
-use Rattle.tn_discipline.specs.declared.reads.Entry.{Entry}
 use Rattle.tn_linemode.specs.Modes.{Modes}
 use Rattle.tn_nvt.specs.Feeding.{DecoderState}
 use Rattle.tn_pty.specs.Terminal.{Terminal}
-use Rattle.tn_server.specs.Events.{History, limit}
+use Rattle.tn_server.specs.{Events.{History, limit}, Lines.{roles, entries, taken_count}}
 use Rattle.tn_server.specs.Terms.{Terms, terms, linemode, asked_mask, mode, settings, chars}
-use Rattle.tn_server.specs.Lines.{roles, entries, taken_count}
-use Rattle.tn_server.specs.Screen.{queue, due, size}
-use Rattle.tn_server.specs.declared.faults.ServerFault.{ServerFault}
+use Rattle.tn_server.specs.{Screen.{queue, due, size}, declared.faults.ServerFault.ServerFault}
 use Rattle.tn_server.specs.declared.faults.ServerFault.TheVariants as fault
 
 -- a server end, seen from outside

@@ -5,8 +5,7 @@ use Rattle.tn_nvt.specs.Feeding as nvt
 use Rattle.tn_nvt.specs.declared.items.Item.{Item}
 use Rattle.tn_linemode.specs.Prefixes.{IsRead}
 use Rattle.tn_server.specs.Events.{Event, got, wrote, pulled, History, begun, next, items, gets}
-use Rattle.tn_server.specs.Screen.{queue}
-use Rattle.tn_server.specs.Calls.{End, LeadsTo}
+use Rattle.tn_server.specs.{Screen.queue, Calls.{End, LeadsTo}}
 
 pub data Course : Type 0 where
   started : Canon → Course

@@ -1,9 +1,7 @@
 -- What happens at a server end: items come and calls are made.
 use Rattle.std.specs.Prelude.{ℕ, Bool, Option, List, [], ◌∷◌, ◌++◌}
-use Rattle.tn_codes.specs.declared.codes.Func.{Func}
-use Rattle.tn_codes.specs.declared.masks.Mask.{Mask}
-use Rattle.tn_discipline.specs.Canon.{Canon}
-use Rattle.tn_discipline.specs.declared.termios.Settings.{Settings}
+use Rattle.tn_codes.specs.declared.{codes.Func.Func, masks.Mask.Mask}
+use Rattle.tn_discipline.specs.{Canon.Canon, declared.termios.Settings.Settings}
 use Rattle.tn_linemode.specs.Folding.{after_all}
 use Rattle.tn_nvt.specs.declared.items.Item.{Item}
 use Rattle.tn_server.specs.declared.wishes.Editing.{Editing}

@@ -1,16 +1,12 @@
 -- Why calls are refused.
 use Rattle.std.specs.Prelude.{◌≡◌, ◌≢◌, ◌<◌, ◌⊎◌, IsTrue, Option, Some, None, [], length}
-use Rattle.tn_discipline.specs.HalfLine.{GivesText}
-use Rattle.tn_discipline.specs.Keys.{gives_entry}
+use Rattle.tn_discipline.specs.{HalfLine.GivesText, Keys.gives_entry}
 use Rattle.tn_nvt.specs.declared.items.Item.{Item}
 use Rattle.tn_pty.specs.Terminal.{max_waiting}
 use Rattle.tn_pty.specs.declared.pty.PtyFault.TheVariants as pty
 use Rattle.tn_linemode.specs.Words.{IsList}
-use Rattle.tn_server.specs.Events.{Event, got, History}
-use Rattle.tn_server.specs.Lines.{role_of_item, line, waiting}
-use Rattle.tn_server.specs.Replies.{replies}
-use Rattle.tn_server.specs.Terms.{options, payload_at}
-use Rattle.tn_server.specs.declared.faults.ServerFault.{ServerFault}
+use Rattle.tn_server.specs.{Events.{Event, got, History}, Replies.replies, Terms.{options, payload_at}}
+use Rattle.tn_server.specs.{Lines.{role_of_item, line, waiting}, declared.faults.ServerFault.ServerFault}
 use Rattle.tn_server.specs.declared.faults.ServerFault.TheVariants.{Pty, Memory, Failed, Char, NotOn}
 
 -- an event makes the server send something

@@ -1,13 +1,9 @@
 -- What a server end takes while it is lent to its decoder.
 use Rattle.std.specs.Prelude.{◌≡◌, ℕ, List, ◌∷◌, ◌++◌, map}
 use Rattle.tn_linemode.specs.Prefixes.{AppendsPrefix}
-use Rattle.tn_nvt.specs.Spelling.{spells}
-use Rattle.tn_nvt.specs.declared.items.Item.{Item}
-use Rattle.tn_nvt.specs.declared.items.Item.TheVariants.{Byte}
-use Rattle.tn_server.specs.Calls.{End}
-use Rattle.tn_server.specs.Steps.{IsShut, IsRefusedFor, end_after_items, says_item, says_items}
-use Rattle.tn_server.specs.declared.faults.ServerFault.{ServerFault}
-use Rattle.tn_server.specs.declared.taking.Lent.{Lent}
+use Rattle.tn_nvt.specs.{Spelling.spells, declared.items.Item.{Item, TheVariants.Byte}}
+use Rattle.tn_server.specs.{Calls.End, Steps.{IsShut, IsRefusedFor, end_after_items, says_item, says_items}}
+use Rattle.tn_server.specs.declared.{faults.ServerFault.ServerFault, taking.Lent.Lent}
 
 -- One of these bytes was refused, after those before it were done.
 pub record RefusesByte (old : End) (bytes : List ℕ) (fault : ServerFault) (new : End) : Type 0 where

@@ -1,18 +1,13 @@
 -- The entries and the half line of a server end, by the canonical definitions.
 use Rattle.std.specs.Prelude.{ℕ, ◌+◌, nat_lt, Bool, List, [], ◌++◌, length, drop, if◌then◌else◌}
-use Rattle.tn_discipline.specs.Keys.{role_of_key, literal_role, roles_from}
-use Rattle.tn_discipline.specs.Entries.{entries_of, half_of}
-use Rattle.tn_discipline.specs.HalfLine.{HalfLine}
-use Rattle.tn_discipline.specs.declared.keys.Role.{Role}
-use Rattle.tn_discipline.specs.declared.keys.Role.TheVariants as role
-use Rattle.tn_discipline.specs.declared.reads.Entry.{Entry}
+use Rattle.tn_discipline.specs.{Keys.{role_of_key, literal_role, roles_from}, Entries.{entries_of, half_of}}
+use Rattle.tn_discipline.specs.{HalfLine.HalfLine, declared.{keys.Role.Role, reads.Entry.Entry}}
 use Rattle.tn_discipline.specs.declared.termios.Settings.{Settings}
+use Rattle.tn_discipline.specs.declared.keys.Role.TheVariants as role
 use Rattle.tn_linemode.specs.Modes.{edits}
-use Rattle.tn_nvt.specs.declared.items.Item.{Item}
-use Rattle.tn_nvt.specs.declared.items.Item.TheVariants.{Byte, Newline, Cmd}
+use Rattle.tn_nvt.specs.declared.items.Item.{Item, TheVariants.{Byte, Newline, Cmd}}
 use Rattle.tn_pty.specs.Typing.{command_role}
-use Rattle.tn_server.specs.Events.{got, took, History, begun, next, limit}
-use Rattle.tn_server.specs.Terms.{settings, mode}
+use Rattle.tn_server.specs.{Events.{got, took, History, begun, next, limit}, Terms.{settings, mode}}
 
 -- the role of a byte: with EDIT the line was edited before, and only its closing byte is special
 abbrev pub role_of_byte : Settings → Bool → ℕ → Role

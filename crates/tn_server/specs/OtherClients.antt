@@ -2,19 +2,11 @@
 -- and of a line that was edited before and is sent whole.
 use Rattle.std.specs.Prelude.{◌≡◌, ℕ, IsTrue, false, IsFalse, Option, Some, List, [], ◌∷◌, ◌++◌, map}
 use Rattle.std.specs.List.{flat_map}
-use Rattle.tn_codes.specs.PayloadOf.{payload_of}
-use Rattle.tn_codes.specs.declared.payloads.Payload.{Payload}
-use Rattle.tn_codes.specs.declared.payloads.Payload.TheVariants.{Mode, Slc}
-use Rattle.tn_discipline.specs.Canon.{Canon}
-use Rattle.tn_discipline.specs.Characters.{Characters}
-use Rattle.tn_discipline.specs.Keys.{literal_role, roles_from}
-use Rattle.tn_discipline.specs.declared.keys.Role.{Role}
-use Rattle.tn_discipline.specs.declared.keys.Role.TheVariants.{Ordinary}
-use Rattle.tn_discipline.specs.declared.termios.Settings.{Settings}
-use Rattle.tn_linemode.specs.Exchange.{server_after}
-use Rattle.tn_linemode.specs.Modes.{edits, is_acknowledged}
-use Rattle.tn_nvt.specs.declared.items.Item.{Item}
-use Rattle.tn_nvt.specs.declared.items.Item.TheVariants.{Byte, Newline, Cmd, Sub}
+use Rattle.tn_codes.specs.{PayloadOf.payload_of, declared.payloads.Payload.{Payload, TheVariants.{Mode, Slc}}}
+use Rattle.tn_discipline.specs.{Canon.Canon, Characters.Characters, Keys.{literal_role, roles_from}}
+use Rattle.tn_discipline.specs.declared.{keys.Role.{Role, TheVariants.Ordinary}, termios.Settings.Settings}
+use Rattle.tn_linemode.specs.{Exchange.server_after, Modes.{edits, is_acknowledged}}
+use Rattle.tn_nvt.specs.declared.items.Item.{Item, TheVariants.{Byte, Newline, Cmd, Sub}}
 use Rattle.tn_server.specs.Events.{Event, got, char_set, History, begun, next, opening_settings, limit}
 use Rattle.tn_server.specs.Lines.{role_at}
 

@@ -2,32 +2,22 @@
 use Rattle.std.specs.Prelude.{ℕ, Bool, true, false, not, ◌&&◌, Option, Some, None, Result, Ok, Err, List, []}
 use Rattle.std.specs.Prelude.{◌∷◌, ◌++◌, map, take, if◌then◌else◌}
 use Rattle.tn_codes.specs.OptionCodes as option_code
-use Rattle.tn_codes.specs.declared.codes.Command.TheVariants.{Ga}
-use Rattle.tn_codes.specs.declared.codes.Func.{Func}
-use Rattle.tn_codes.specs.declared.codes.Verb.{Verb}
+use Rattle.tn_codes.specs.declared.{codes.{Command.TheVariants.Ga, Func.Func, Verb.Verb}, masks.Mask.Mask}
+use Rattle.tn_codes.specs.declared.payloads.Payload.{Payload, TheVariants.{ForwardOn, ForwardOff, Slc}}
 use Rattle.tn_codes.specs.declared.codes.Verb.TheVariants as verb
-use Rattle.tn_codes.specs.declared.masks.Mask.{Mask}
-use Rattle.tn_codes.specs.declared.payloads.Payload.{Payload}
-use Rattle.tn_codes.specs.declared.payloads.Payload.TheVariants.{ForwardOn, ForwardOff, Slc}
-use Rattle.tn_discipline.specs.Characters.{Characters, slot}
-use Rattle.tn_discipline.specs.declared.termios.Flags.{Flags}
+use Rattle.tn_discipline.specs.{Characters.{Characters, slot}, declared.termios.Flags.Flags}
 use Rattle.tn_discipline.specs.declared.echo.Symbol.{Symbol}
 use Rattle.tn_discipline.specs.declared.echo.Symbol.TheVariants as symbol
 use Rattle.tn_linemode.specs.Exchange.{announcement, server_answers, server_is_asked, is_same_value}
-use Rattle.tn_linemode.specs.Triples.{triple_of}
-use Rattle.tn_nvt.specs.declared.items.Item.{Item}
-use Rattle.tn_nvt.specs.declared.items.Item.TheVariants.{Byte, Newline, Cmd, Neg}
-use Rattle.tn_option.specs.Options.{Options, reply_to, answer_to}
-use Rattle.tn_option.specs.declared.q_method.AskFault.{AskFault}
+use Rattle.tn_linemode.specs.{Triples.triple_of, Words.{word_items, payload_items, mode_items, list_items}}
+use Rattle.tn_nvt.specs.declared.items.Item.{Item, TheVariants.{Byte, Newline, Cmd, Neg}}
+use Rattle.tn_option.specs.{Options.{Options, reply_to, answer_to}, declared.q_method.AskFault.AskFault}
 use Rattle.tn_option.specs.declared.q_method.Side.TheVariants.{Us}
 use Rattle.tn_server.specs.Events.{Event, got, took, wrote, pulled, wished, char_set, echo_set, mask_set}
-use Rattle.tn_server.specs.Events.{History, begun, next}
+use Rattle.tn_server.specs.{Events.{History, begun, next}, Terms.{is_echo_set, chars_after}}
 use Rattle.tn_server.specs.Terms.{Terms, terms, options, flags, chars, linemode, payload_at, options_after}
 use Rattle.tn_server.specs.Terms.{asked_mask_of, wish_after, wish_at, wants_echo, mask_told, asks_echo}
-use Rattle.tn_server.specs.Terms.{is_echo_set, chars_after}
-use Rattle.tn_server.specs.declared.wishes.Editing.{Editing}
-use Rattle.tn_linemode.specs.Words.{word_items, payload_items, mode_items, list_items}
-use Rattle.tn_server.specs.Screen.{sends_ga, none_waits, due, queue}
+use Rattle.tn_server.specs.{declared.wishes.Editing.Editing, Screen.{sends_ga, none_waits, due, queue}}
 
 -- a wish that is refused says nothing
 abbrev pub asked_word_items : Result (Option (Verb × ℕ)) AskFault → List Item

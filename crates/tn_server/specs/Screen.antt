@@ -1,22 +1,16 @@
 -- The symbols of a server end: first in, first out.
 use Rattle.std.specs.Prelude.{ℕ, nat_lt, Bool, false, not, ◌&&◌, ◌||◌, Option, Some, List, [], ◌++◌, length}
 use Rattle.std.specs.Prelude.{take, drop, if◌then◌else◌}
-use Rattle.tn_discipline.specs.HalfLine.{HalfLine}
-use Rattle.tn_discipline.specs.declared.echo.Symbol.{Symbol}
-use Rattle.tn_discipline.specs.declared.termios.Settings.{Settings}
+use Rattle.tn_discipline.specs.{HalfLine.HalfLine, declared.{echo.Symbol.Symbol, termios.Settings.Settings}}
 use Rattle.tn_linemode.specs.Modes.{edits}
-use Rattle.tn_nvt.specs.declared.items.Item.{Item}
-use Rattle.tn_nvt.specs.declared.items.Item.TheVariants.{Byte, Newline, Cmd}
-use Rattle.tn_option.specs.Options.{Options, state_of, is_yes}
-use Rattle.tn_option.specs.declared.q_method.Side.TheVariants.{Us}
+use Rattle.tn_nvt.specs.declared.items.Item.{Item, TheVariants.{Byte, Newline, Cmd}}
+use Rattle.tn_option.specs.{Options.{Options, state_of, is_yes}, declared.q_method.Side.TheVariants.Us}
 use Rattle.tn_pty.specs.Terminal.{queue_with, fitting_count, output_symbols}
 use Rattle.tn_pty.specs.Typing.{echo_symbols, command_shows}
-use Rattle.tn_server.specs.Events.{got, took, wrote, pulled, History, begun, next}
+use Rattle.tn_server.specs.{Events.{got, took, wrote, pulled, History, begun, next}, Terms.{settings, mode}}
+use Rattle.tn_server.specs.{Terms.{options, echoes, payload_at}, Lines.{line, taken_count, entries}}
 use Rattle.tn_codes.specs.OptionCodes as option_code
-use Rattle.tn_codes.specs.declared.payloads.Payload.{Payload}
-use Rattle.tn_codes.specs.declared.payloads.Payload.TheVariants.{Naws}
-use Rattle.tn_server.specs.Terms.{settings, mode, options, echoes, payload_at}
-use Rattle.tn_server.specs.Lines.{line, taken_count, entries}
+use Rattle.tn_codes.specs.declared.payloads.Payload.{Payload, TheVariants.Naws}
 
 -- a byte that was edited before was echoed before
 abbrev pub byte_shows : Settings → Bool → Bool → HalfLine → ℕ → List Symbol

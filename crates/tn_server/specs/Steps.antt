@@ -2,45 +2,28 @@
 -- `steps_stand` ties these steps to histories.
 use Rattle.std.specs.Prelude.{◌≡◌, ◌<◌, ◌≢◌, ◌⊎◌, ℕ, nat_lt, Bool, true, IsTrue, false, ◌||◌, Option, Some, None}
 use Rattle.std.specs.Prelude.{is_some, if◌then◌else◌, List, [], ◌∷◌, ◌++◌, length, map, take, drop, Vec}
-use Rattle.tn_codes.specs.declared.codes.Command.{Command}
-use Rattle.tn_codes.specs.declared.codes.Command.TheVariants.{Ga}
-use Rattle.tn_codes.specs.declared.codes.Verb.{Verb}
-use Rattle.tn_codes.specs.declared.payloads.Payload.{Payload}
+use Rattle.tn_codes.specs.declared.codes.{Command.{Command, TheVariants.Ga}, Verb.Verb}
+use Rattle.tn_codes.specs.declared.{payloads.Payload.Payload, triples.Triple.Triple}
 use Rattle.tn_codes.specs.declared.payloads.Payload.TheVariants as payload
-use Rattle.tn_codes.specs.declared.triples.Triple.{Triple}
-use Rattle.tn_discipline.specs.declared.termios.Settings.{Settings}
-use Rattle.tn_discipline.specs.Characters.{Characters, slot, with_slot}
-use Rattle.tn_discipline.specs.HalfLine.{GivesText}
-use Rattle.tn_discipline.specs.Keys.{gives_entry}
-use Rattle.tn_discipline.specs.declared.keys.Role.{Role}
-use Rattle.tn_discipline.specs.declared.reads.Entry.{Entry}
-use Rattle.tn_discipline.specs.declared.termios.Flags.{Flags}
-use Rattle.tn_linemode.specs.Folding.{after_all, said_all}
+use Rattle.tn_discipline.specs.{declared.termios.Settings.Settings, Characters.{Characters, slot, with_slot}}
+use Rattle.tn_discipline.specs.{HalfLine.GivesText, Keys.gives_entry, declared.keys.Role.Role}
+use Rattle.tn_discipline.specs.declared.{reads.Entry.Entry, termios.Flags.Flags}
+use Rattle.tn_linemode.specs.{Folding.{after_all, said_all}, Modes.wish_of_mask, Exchange.server_after}
 use Rattle.tn_linemode.specs.Modes.{Modes, no_mode, edits, mask_sent, modes_after_wish, modes_after_mode}
-use Rattle.tn_linemode.specs.Modes.{wish_of_mask}
-use Rattle.tn_linemode.specs.Exchange.{server_after}
 use Rattle.tn_linemode.specs.Words.{IsList, differ, word_items, mode_items, payload_items}
-use Rattle.tn_nvt.specs.Room.{LacksRoom}
-use Rattle.tn_nvt.specs.Spelling.{spells}
-use Rattle.tn_nvt.specs.declared.items.Item.{Item}
+use Rattle.tn_nvt.specs.{Room.LacksRoom, Spelling.spells, declared.items.Item.Item}
 use Rattle.tn_nvt.specs.declared.items.Item.TheVariants.{Byte, Newline, Cmd, Neg, Sub}
 use Rattle.tn_option.specs.Options.{options_after_word, reply_to}
 use Rattle.tn_pty.specs.Terminal.{Terminal, shut_terminal, max_waiting, fitting_count, output_symbols}
-use Rattle.tn_pty.specs.Typing.{terminal_after, command_role, command_shows}
-use Rattle.tn_pty.specs.declared.pty.PtyFault.{PtyFault}
+use Rattle.tn_pty.specs.{Typing.{terminal_after, command_role, command_shows}, declared.pty.PtyFault.PtyFault}
 use Rattle.tn_pty.specs.declared.pty.PtyFault.TheVariants as pty
 use Rattle.tn_server.specs.Events.{Event, got, took, wrote, pulled, wished, char_set, echo_set, mask_set}
 use Rattle.tn_server.specs.Terms.{payload_at, echoes, linemode, options_with_echo, wants_echo, mask_for}
-use Rattle.tn_server.specs.Terms.{editing}
-use Rattle.tn_server.specs.Lines.{role_at, role_of_byte}
-use Rattle.tn_server.specs.Screen.{byte_shows, sends_ga}
-use Rattle.tn_server.specs.Replies.{list_replies, new_table_items, echo_items, character_items}
-use Rattle.tn_server.specs.Replies.{forward_payload, data_of}
-use Rattle.tn_server.specs.Calls.{End}
-use Rattle.tn_server.specs.declared.faults.ServerFault.{ServerFault}
+use Rattle.tn_server.specs.{Terms.editing, Lines.{role_at, role_of_byte}, Screen.{byte_shows, sends_ga}}
+use Rattle.tn_server.specs.{Replies.{list_replies, new_table_items, echo_items, character_items}, Calls.End}
+use Rattle.tn_server.specs.{Replies.{forward_payload, data_of}, declared.faults.ServerFault.ServerFault}
+use Rattle.tn_server.specs.declared.{terms.Negotiation.Negotiation, wishes.Editing.Editing}
 use Rattle.tn_server.specs.declared.faults.ServerFault.TheVariants as fault
-use Rattle.tn_server.specs.declared.terms.Negotiation.{Negotiation}
-use Rattle.tn_server.specs.declared.wishes.Editing.{Editing}
 
 -- the masks and options of an end after LINEMODE changed, a wish was made or the flag ECHO was set, with the
 -- new options before the server's word for ECHO

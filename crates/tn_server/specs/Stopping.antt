@@ -1,15 +1,9 @@
 -- Where a piece of the stream leads that was refused.
 use Rattle.std.specs.Prelude.{◌≡◌, ℕ, List, ◌++◌, length}
-use Rattle.tn_nvt.specs.Spelling.{spells}
-use Rattle.tn_nvt.specs.declared.items.Item.{Item}
-use Rattle.tn_pty.specs.Terminal.{max_waiting}
-use Rattle.tn_pty.specs.declared.pty.PtyFault.TheVariants.{TooFarAhead}
-use Rattle.tn_server.specs.Events.{History, gets}
-use Rattle.tn_server.specs.Lines.{waiting}
-use Rattle.tn_server.specs.Replies.{items_said}
-use Rattle.tn_server.specs.Calls.{End, LeadsTo}
-use Rattle.tn_server.specs.declared.faults.ServerFault.{ServerFault}
-use Rattle.tn_server.specs.declared.faults.ServerFault.TheVariants.{Pty}
+use Rattle.tn_nvt.specs.{Spelling.spells, declared.items.Item.Item}
+use Rattle.tn_pty.specs.{Terminal.max_waiting, declared.pty.PtyFault.TheVariants.TooFarAhead}
+use Rattle.tn_server.specs.{Events.{History, gets}, Lines.waiting, Replies.items_said, Calls.{End, LeadsTo}}
+use Rattle.tn_server.specs.declared.faults.ServerFault.{ServerFault, TheVariants.Pty}
 
 -- The whole piece would have led from one history to the other. The end is where the first of the piece's
 -- items lead, so that entries, half line and mode are theirs; what was appended spells a prefix of what all

@@ -2,23 +2,17 @@
 use Rattle.std.specs.Prelude.{ℕ, Bool, true, false, not, ◌&&◌, ◌||◌, Option, Some, None, is_some, [], ◌∷◌}
 use Rattle.std.specs.Prelude.{if◌then◌else◌}
 use Rattle.tn_codes.specs.OptionCodes as option_code
-use Rattle.tn_codes.specs.declared.payloads.Payload.{Payload}
-use Rattle.tn_codes.specs.declared.payloads.Payload.TheVariants.{Mode, Slc}
-use Rattle.tn_discipline.specs.Characters.{Characters, with_slot}
-use Rattle.tn_discipline.specs.declared.termios.Flags.{Flags}
+use Rattle.tn_codes.specs.declared.payloads.Payload.{Payload, TheVariants.{Mode, Slc}}
+use Rattle.tn_discipline.specs.{Characters.{Characters, with_slot}, declared.termios.Flags.Flags}
 use Rattle.tn_discipline.specs.declared.termios.Settings.{Settings}
 use Rattle.tn_linemode.specs.Modes.{mode_of, is_acknowledged, edits, mask_sent, wish_of_mask}
-use Rattle.tn_linemode.specs.Exchange.{server_after}
-use Rattle.tn_nvt.specs.declared.items.Item.{Item}
-use Rattle.tn_nvt.specs.declared.items.Item.TheVariants.{Neg, Sub}
+use Rattle.tn_linemode.specs.{Exchange.server_after, Words.{payload_under, differ}}
+use Rattle.tn_nvt.specs.declared.items.Item.{Item, TheVariants.{Neg, Sub}}
 use Rattle.tn_option.specs.Options.{Options, new_options, options_after_word, options_after_wish, state_of}
-use Rattle.tn_option.specs.Options.{is_yes}
-use Rattle.tn_option.specs.declared.negotiation.Agree.{Agree}
+use Rattle.tn_option.specs.{Options.is_yes, declared.negotiation.Agree.Agree}
 use Rattle.tn_option.specs.declared.q_method.Side.TheVariants.{Us, Them}
-use Rattle.tn_linemode.specs.Words.{payload_under, differ}
 use Rattle.tn_server.specs.Events.{Event, got, wished, char_set, echo_set, History, begun, next}
-use Rattle.tn_server.specs.declared.wishes.Editing.{Editing}
-use Rattle.tn_server.specs.declared.wishes.Editing.TheVariants.{Remote, Local}
+use Rattle.tn_server.specs.declared.wishes.Editing.{Editing, TheVariants.{Remote, Local}}
 
 -- the client's LINEMODE, NAWS and SUPPRESS-GO-AHEAD are agreed to, and the server's own ECHO and
 -- SUPPRESS-GO-AHEAD

@@ -1,29 +1,21 @@
 //! The server end: the calls that its owner makes.
 
-ghost use Rattle.std.specs.Prelude.{◌≡◌, ◌≢◌, ◌↔◌, ◌&&◌, not, ℕ, List, true, IsTrue, false, IsFalse, Some, None};
-ghost use Rattle.std.specs.Prelude.{Err, []};
-ghost use Rattle.std.specs.Prelude.{◌++◌, ◌∷◌, ◌*◌, length, min, IfOk, IfErr, OnOk, OnErr, IsErrOf};
-ghost use Rattle.std.specs.Prelude.{MatchOption, option_copied, slice_get};
+ghost use Rattle.std.specs.Prelude.{◌≡◌, ◌≢◌, ◌↔◌, ◌&&◌, not, ℕ, List, true, IsTrue, false, IsFalse, Some};
+ghost use Rattle.std.specs.Prelude.{None, Err, [], ◌++◌, ◌∷◌, ◌*◌, length, min, IfOk, IfErr, OnOk, OnErr};
+ghost use Rattle.std.specs.Prelude.{IsErrOf, MatchOption, option_copied, slice_get};
 ghost use Rattle.tn_codes.specs.OptionCodes as option_code;
 ghost use Rattle.tn_discipline.specs.Characters.{char_fault};
-ghost use Rattle.tn_nvt.specs.Room.{LacksRoom};
-ghost use Rattle.tn_nvt.specs.Spelling.{spells};
+ghost use Rattle.tn_nvt.specs.{Room.LacksRoom, Spelling.spells};
 ghost use Rattle.tn_nvt.specs.Feeding as nvt;
-ghost use Rattle.tn_option.specs.Options.{state_of, is_yes};
-ghost use Rattle.tn_option.specs.declared.q_method.Side.TheVariants.{Us};
-ghost use Rattle.tn_pty.specs.Terminal.{fitting_count, first_signal};
-ghost use Rattle.tn_pty.specs.declared.pty.PtyFault.{PtyFault};
+ghost use Rattle.tn_option.specs.{Options.{state_of, is_yes}, declared.q_method.Side.TheVariants.Us};
+ghost use Rattle.tn_pty.specs.{Terminal.{fitting_count, first_signal}, declared.pty.PtyFault.PtyFault};
 ghost use Rattle.tn_pty.specs.declared.pty.PtyFault.TheVariants.{Closed};
 ghost use Rattle.tn_server.specs.Events.{History, begun, took, pulled, wished, char_set, echo_set, mask_set};
-ghost use Rattle.tn_server.specs.Lines.{half, waiting};
-ghost use Rattle.tn_server.specs.Screen.{size};
+ghost use Rattle.tn_server.specs.{Lines.{half, waiting}, Screen.size, Replies.opening, Steps.LacksRoomFor};
 ghost use Rattle.tn_server.specs.Terms.{mode, asked_mask, chars, settings, options};
-ghost use Rattle.tn_server.specs.Replies.{opening};
-ghost use Rattle.tn_server.specs.Faults.{IsOfItem, IsOfPiece, IsFault};
-ghost use Rattle.tn_server.specs.Answering.{Feeds, StopsWithin};
+ghost use Rattle.tn_server.specs.{Faults.{IsOfItem, IsOfPiece, IsFault}, Answering.{Feeds, StopsWithin}};
 ghost use Rattle.tn_server.specs.Calls.{LeadsTo, call_fault, char_fault_at, mask_fault};
 ghost use Rattle.tn_server.specs.Steps.{end_after, end_after_write, end_after_pull, says, sends_mode_now};
-ghost use Rattle.tn_server.specs.Steps.{LacksRoomFor};
 
 use crate::faults::ServerFault;
 use crate::screen::{SYMBOL_BYTES, spell_front};

@@ -1,18 +1,13 @@
 //! What a server end does with an item that came.
 
 ghost use Rattle.std.specs.Prelude.{◌≡◌, ◌≢◌, ◌≤◌, ◌++◌, ℕ, List, true, IsTrue, Some, [], length, map, IfOk};
-ghost use Rattle.std.specs.Prelude.{IfErr};
-ghost use Rattle.std.specs.Prelude.{OnOk, OnErr, IsErrOf};
+ghost use Rattle.std.specs.Prelude.{IfErr, OnOk, OnErr, IsErrOf};
 ghost use Rattle.tn_codes.specs.Payloads.{max_triples};
 ghost use Rattle.tn_codes.specs.declared.payloads.Payload.TheVariants as payload;
-ghost use Rattle.tn_nvt.specs.Room.{LacksRoom};
-ghost use Rattle.tn_nvt.specs.Spelling.{spells};
+ghost use Rattle.tn_nvt.specs.{Room.LacksRoom, Spelling.spells};
 ghost use Rattle.tn_nvt.specs.declared.items.Item.TheVariants as item;
-ghost use Rattle.tn_pty.specs.Typing.{command_role};
-ghost use Rattle.tn_pty.specs.declared.pty.PtyFault.{PtyFault};
-ghost use Rattle.tn_server.specs.Terms.{payload_at, mask_for};
-ghost use Rattle.tn_server.specs.Replies.{list_replies};
-ghost use Rattle.tn_server.specs.Lending.{RefusesByte};
+ghost use Rattle.tn_pty.specs.{Typing.command_role, declared.pty.PtyFault.PtyFault};
+ghost use Rattle.tn_server.specs.{Terms.{payload_at, mask_for}, Replies.list_replies, Lending.RefusesByte};
 ghost use Rattle.tn_server.specs.Steps.{end_after_item, says_item, end_after_items, IsRefusedFor};
 ghost use Rattle.tn_server.specs.Steps.{role_of_typed, end_after_byte, end_after_command, IsShut, IsKeyCause};
 ghost use Rattle.tn_server.specs.Steps.{MayWantMemory, end_after_word, says_words, end_after_wish};

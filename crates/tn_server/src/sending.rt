@@ -1,8 +1,7 @@
 //! What a server end says of its special characters and forward masks.
 
 ghost use Rattle.std.specs.Prelude.{◌≡◌, ◌++◌, IsTrue, length, OnOk, OnErr};
-ghost use Rattle.tn_nvt.specs.Room.{LacksRoom};
-ghost use Rattle.tn_nvt.specs.Spelling.{spells};
+ghost use Rattle.tn_nvt.specs.{Room.LacksRoom, Spelling.spells};
 ghost use Rattle.tn_server.specs.Replies.{triple_items, forward_payload};
 ghost use Rattle.tn_linemode.specs.Words.{payload_items};
 

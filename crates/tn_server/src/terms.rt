@@ -2,15 +2,12 @@
 
 ghost use Rattle.std.specs.Prelude.{◌≡◌, ◌≢◌, ◌≤◌, ◌⊎◌, [], ◌++◌, true, is_some, length, vec_capacity, IfOk};
 ghost use Rattle.std.specs.Prelude.{OnOk, OnErr};
-ghost use Rattle.tn_linemode.specs.Modes.{no_mode};
-ghost use Rattle.tn_nvt.specs.Room.{LacksRoom};
-ghost use Rattle.tn_nvt.specs.Spelling.{spells};
+ghost use Rattle.tn_linemode.specs.{Modes.no_mode, Words.list_items, Exchange.announcement};
+ghost use Rattle.tn_linemode.specs.Prefixes.{AppendsPrefix};
+ghost use Rattle.tn_nvt.specs.{Room.LacksRoom, Spelling.spells};
 ghost use Rattle.tn_server.specs.Terms.{opening_options, linemode, echoes, options_with_echo, wants_echo};
 ghost use Rattle.tn_server.specs.Replies.{new_table_items, echo_items};
-ghost use Rattle.tn_linemode.specs.Words.{list_items};
-ghost use Rattle.tn_linemode.specs.Exchange.{announcement};
 ghost use Rattle.tn_server.specs.Steps.{told_now, masks_by, negotiation_after, negotiation_items};
-ghost use Rattle.tn_linemode.specs.Prefixes.{AppendsPrefix};
 
 use std::alloc::{AllocError, Global};
 use tn_discipline::Flags;

@@ -3,9 +3,7 @@ use Rattle.std.proofs.Common.{◌≡◌, ◌≤◌, ◌||◌, Bool, true, false,
 use Rattle.std.proofs.Common.{length-append}
 use Rattle.crossbeam_channel.specs.Fifo.{Pushes, Pops, Forks, Learns}
 use Rattle.tn_workers.specs.Credits.{AnyTally, none_taken, one_given, one_taken, owed_one, piece_one, pieces_among, step_one, steps_among}
-use Rattle.tn_workers.specs.declared.credit.Credit.{Credit}
-use Rattle.tn_workers.specs.declared.credit.CreditTally.{CreditTally}
-use Rattle.tn_workers.specs.declared.mail.Mail.{Mail}
+use Rattle.tn_workers.specs.declared.{credit.{Credit.Credit, CreditTally.CreditTally}, mail.Mail.Mail}
 
 -- THE RULE
 

@@ -1,55 +1,28 @@
 -- What the run heard of the reader, and what the foreground job took where a hang-up ended the session.
 use Rattle.std.proofs.Common.{◌≡◌, ℕ, Bool, true, false, ◌&&◌, length, List, [], ◌∷◌, ◌++◌, Option, Some, None, refl, sym, ap, ◌∙◌, ⊎_elim, inl, inr, map}
-use Rattle.std.proofs.Common.{subst}
-use Rattle.std.proofs.Common.{append-nil, append_assoc}
-use Rattle.std.proofs.lemmas.List.{append_cancel_left}
-use Rattle.std.specs.Io.KnownBytes.{Consumes, IsAtEnd, prepend_known}
-use Rattle.std.specs.List.{concat}
+use Rattle.std.proofs.{Common.{subst, append-nil, append_assoc}, lemmas.List.append_cancel_left}
+use Rattle.std.specs.{Io.KnownBytes.{Consumes, IsAtEnd, prepend_known}, List.concat}
 use Rattle.tn_discipline.specs.declared.reads.Entry.{Entry}
-use Rattle.tn_jobs.specs.Jobs.{Jobs}
-use Rattle.tn_jobs.specs.declared.held_jobs.JobId.{JobId}
-use Rattle.tn_jobs.specs.declared.reactions.Reaction.{Reaction}
-use Rattle.tn_jobs.specs.declared.verdicts.After.TheVariants.{Stay}
-use Rattle.tn_server.specs.Events.{items}
-use Rattle.tn_server.specs.Lines.{entries}
-use Rattle.tn_session.proofs.Causes.{from_hit, from_miss, HasFailure, has_failure, failure_from, failure_last, never_and, write_failed}
-use Rattle.tn_session.proofs.Lefts.{same_self}
+use Rattle.tn_jobs.specs.{Jobs.Jobs, declared.{held_jobs.JobId.JobId, reactions.Reaction.Reaction, verdicts.After.TheVariants.Stay}}
+use Rattle.tn_server.specs.{Events.items, Lines.entries}
+use Rattle.tn_session.proofs.{Causes.{from_hit, from_miss, HasFailure, has_failure, failure_from, failure_last, never_and, write_failed}, Lefts.same_self}
 use Rattle.tn_session.proofs.Mailbox.{sender_share}
-use Rattle.tn_workers.proofs.lemmas.Readers.{IsSaid, closes_ending, if_said, is_said}
-use Rattle.tn_workers.specs.Acts.{JobActs}
-use Rattle.tn_session.specs.Facts.{SessionJobs, SessionResult, TermSettings}
-use Rattle.tn_workers.specs.Mailbox.{same, from, sender, mail}
-use Rattle.tn_queue.specs.Queue.{taker}
-use Rattle.tn_workers.specs.Reader.{SaysLast}
+use Rattle.tn_workers.proofs.lemmas.{Readers.{IsSaid, closes_ending, if_said, is_said}, Turning.{IsClose, is_close}}
+use Rattle.tn_workers.specs.{Acts.JobActs, Mailbox.{same, from, sender, mail}, Reader.SaysLast, Stepping.step_said, Turning.Holds, declared.channels.View.View}
 use Rattle.tn_workers.specs.Reading.{IsEnding, IsReadCause, max_reads, Telling, piece_told, size_told, control_told, told_messages, pieces_in}
-use Rattle.tn_session.specs.Session.{Schedule, HearsReader, TakesEntries}
-use Rattle.tn_workers.specs.Stepping.{step_said}
-use Rattle.tn_workers.specs.Turning.{Holds}
-use Rattle.tn_workers.proofs.lemmas.Turning.{IsClose, is_close}
-use Rattle.tn_workers.specs.Talk.{Closes, turns_said, entries_of, ends_done}
-use Rattle.tn_session.specs.Transcripts.{bytes_sent, came_by}
-use Rattle.tn_session.specs.Turns.{messages_of}
-use Rattle.tn_streams.specs.Writing.{max_writes}
-use Rattle.tn_workers.specs.declared.channels.View.{View}
-use Rattle.tn_workers.specs.EntryChannel.{EntryHand}
-use Rattle.tn_workers.specs.declared.mail.Mail.{Mail}
-use Rattle.tn_workers.specs.declared.mail.Sender.{Sender}
+use Rattle.tn_workers.specs.{Talk.{Closes, turns_said, entries_of, ends_done}, EntryChannel.EntryHand, declared.mail.{Mail.Mail, Sender.Sender}}
 use Rattle.tn_workers.specs.declared.mail.Sender.TheVariants.{Net, Desk, Back, Keys}
+use Rattle.tn_session.specs.{Facts.{SessionJobs, SessionResult, TermSettings}, Session.{Schedule, HearsReader, TakesEntries}, Transcripts.{bytes_sent, came_by}}
+use Rattle.tn_session.specs.Turns.{messages_of}
+use Rattle.tn_queue.specs.Queue.{taker}
+use Rattle.tn_streams.specs.{Writing.max_writes, Foretelling.WillFail, Known.{KnownReader, KnownWriting}, Telling.SomeFailed}
 use Rattle.tn_streams.proofs.lemmas.Telling.{some_failed}
-use Rattle.tn_streams.specs.Foretelling.{WillFail}
-use Rattle.tn_streams.specs.Known.{KnownReader, KnownWriting}
-use Rattle.tn_streams.specs.Telling.{SomeFailed}
 use Rattle.tn_machines.proofs.lemmas.server.Hearing.{entries_grow, entries_same}
-use Rattle.tn_machines.specs.server.Giving.{GivesPrefix, entries_put}
-use Rattle.tn_machines.specs.Pieces.{bytes_in}
-use Rattle.tn_machines.specs.server.Hearing.{heard, at_end_after, MayCome, MayAllCome, KeepsOn, AllKeepOn, Hears, HangsUp}
-use Rattle.tn_machines.specs.server.Ending.{IsEndedAt, IsFaultCause}
-use Rattle.tn_machines.specs.server.Marks.{no_writes_failed}
-use Rattle.tn_machines.specs.server.Run.{Run}
+use Rattle.tn_machines.specs.{server.{Giving.{GivesPrefix, entries_put}, Ending.{IsEndedAt, IsFaultCause}, Marks.no_writes_failed, Run.Run}, Pieces.bytes_in}
+use Rattle.tn_machines.specs.{server.Hearing.{heard, at_end_after, MayCome, MayAllCome, KeepsOn, AllKeepOn, Hears, HangsUp}, declared.messages.Message.Message}
+use Rattle.tn_machines.specs.declared.messages.Message.TheVariants.{Piece, HangUp, ReadFailed, Take, Said, Refused, Left, Resized, Asked}
 use Rattle.tn_machines.specs.declared.faults.Ended.TheVariants as ended
 use Rattle.tn_machines.specs.declared.faults.SessionFault.TheVariants as fault
-use Rattle.tn_machines.specs.declared.messages.Message.{Message}
-use Rattle.tn_machines.specs.declared.messages.Message.TheVariants.{Piece, HangUp, ReadFailed, Take, Said, Refused, Left, Resized, Asked}
 use Rattle.tn_linemode.specs.Prefixes.{IsRead}
 
 true_false : true ≡ false → ⊥

@@ -1,41 +1,23 @@
 -- What was written, and one message after another.
-use Rattle.std.proofs.Common.{◌≡◌, ℕ, ◌+◌, ◌≤◌, Bool, true, false, not, ◌||◌, ◌&&◌, ◌⊎◌, ⊎_elim, inl, inr, map, List, [], ◌∷◌, ◌++◌, Option, Some}
-use Rattle.std.proofs.Common.{refl, sym, ap, ◌∙◌, subst, append_assoc, append-nil, take-append-drop, arith, length, take, drop, zero, suc, nat_eq}
-use Rattle.std.proofs.lemmas.Bool.{false_from_ne_true, not-false, not-true}
-use Rattle.std.proofs.lemmas.Fn.{FoldsTo-push}
-use Rattle.std.proofs.lemmas.List.{map-append}
+use Rattle.std.proofs.Common.{◌≡◌, ℕ, ◌+◌, ◌≤◌, Bool, true, false, not, ◌||◌, ◌&&◌, ◌⊎◌, ⊎_elim, inl, inr, map, List, [], ◌∷◌, ◌++◌, Option, Some, refl, sym}
+use Rattle.std.proofs.Common.{ap, ◌∙◌, subst, append_assoc, append-nil, take-append-drop, arith, length, take, drop, zero, suc, nat_eq}
+use Rattle.std.proofs.lemmas.{Bool.{false_from_ne_true, not-false, not-true}, Fn.FoldsTo-push, List.map-append}
 use Rattle.std.specs.Io.KnownBytes.{Appends, Keeps}
 use Rattle.tn_discipline.specs.declared.reads.Entry.{Entry}
 use Rattle.tn_nvt.specs.Spelling.{spells}
 use Rattle.tn_server.specs.Replies.{items_said}
-use Rattle.tn_session.proofs.lemmas.Noting.{total-push}
-use Rattle.tn_session.proofs.Stopped.{stands_more}
-use Rattle.tn_session.proofs.Stopping.{term_stays}
-use Rattle.tn_session.specs.Notes.{Note, Noted, NotesWrite, NotesAll, notes, takes, writes}
-use Rattle.tn_session.specs.Stops.{StandsTold, has_left, term_stops}
-use Rattle.tn_session.specs.Transcripts.{IsStep}
+use Rattle.tn_session.proofs.{lemmas.Noting.total-push, Stopped.stands_more, Stopping.term_stays}
+use Rattle.tn_session.specs.{Notes.{Note, Noted, NotesWrite, NotesAll, notes, takes, writes}, Stops.{StandsTold, has_left, term_stops}, Transcripts.IsStep}
 use Rattle.tn_session.specs.Turns.{TurnsMessage, GoesOn, left_one, lefts_of, messages_of, says, is_over, is_marked_whole}
 use Rattle.tn_queue.specs.Queue.{putter}
-use Rattle.tn_workers.specs.EntryChannel.{EntryHand}
-use Rattle.tn_workers.specs.declared.mail.Mail.{Mail}
-use Rattle.tn_workers.specs.declared.mail.Sender.TheVariants.{Back}
-use Rattle.tn_streams.proofs.lemmas.Telling.{accounts_none, accounts_well, accounts_both}
-use Rattle.tn_streams.proofs.lemmas.Writing.{appends_more, appends_kept, appends_none}
-use Rattle.tn_streams.specs.Known.{KnownWriter, KnownWriting}
-use Rattle.tn_streams.specs.Telling.{Calls}
-use Rattle.tn_streams.specs.Writing.{Writes, Tells, max_writes}
-use Rattle.tn_machines.specs.server.Marks.{Runs, Turns, is_whole, all_whole, no_write_failed, no_writes_failed}
-use Rattle.tn_machines.specs.server.Reaching.{IsTurn, LeadsTo}
-use Rattle.tn_machines.specs.server.Run.{Run, fail, puts_of}
+use Rattle.tn_workers.specs.{EntryChannel.EntryHand, declared.mail.{Mail.Mail, Sender.TheVariants.Back}}
+use Rattle.tn_streams.proofs.lemmas.{Telling.{accounts_none, accounts_well, accounts_both}, Writing.{appends_more, appends_kept, appends_none}}
+use Rattle.tn_streams.specs.{Known.{KnownWriter, KnownWriting}, Telling.Calls, Writing.{Writes, Tells, max_writes}}
+use Rattle.tn_machines.specs.server.{Marks.{Runs, Turns, is_whole, all_whole, no_write_failed, no_writes_failed}, Reaching.{IsTurn, LeadsTo}}
+use Rattle.tn_machines.specs.{server.Run.{Run, fail, puts_of}, declared.server.messages.{Put.{Put, TheVariants.Nothing}, ServerMark.ServerMark}}
+use Rattle.tn_machines.specs.declared.{messages.Message.{Message, TheVariants.Left}, server.{progress.ServerProgress.ServerProgress, terminal.Term.Term}}
 use Rattle.tn_machines.specs.declared.faults.SessionFault.TheVariants as fault
-use Rattle.tn_machines.specs.declared.server.messages.Put.{Put}
-use Rattle.tn_machines.specs.declared.server.messages.Put.TheVariants.{Nothing}
-use Rattle.tn_machines.specs.declared.server.messages.ServerMark.{ServerMark}
 use Rattle.tn_machines.specs.declared.server.messages.ServerMark.TheVariants as mark
-use Rattle.tn_machines.specs.declared.messages.Message.{Message}
-use Rattle.tn_machines.specs.declared.messages.Message.TheVariants.{Left}
-use Rattle.tn_machines.specs.declared.server.progress.ServerProgress.{ServerProgress}
-use Rattle.tn_machines.specs.declared.server.terminal.Term.{Term}
 
 pub true_false : true ≡ false → ⊥
 true_false e = cc

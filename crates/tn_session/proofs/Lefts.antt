@@ -1,9 +1,6 @@
 -- Where each sender's list ends in its one Left, and all Lefts were handled, nothing is left over.
 use Rattle.std.proofs.Common.{◌≡◌, ◌+◌, ◌≤◌, ◌<◌, ℕ, Bool, true, false, List, [], ◌∷◌, ◌++◌, refl, sym, ap, ◌∙◌, subst, arith}
-use Rattle.tn_workers.specs.declared.mail.Sender.{Sender}
-use Rattle.tn_workers.specs.declared.mail.Sender.TheVariants.{Net, Desk, Back, Keys}
-use Rattle.tn_workers.specs.declared.mail.Mail.{Mail}
-use Rattle.tn_workers.specs.Mailbox.{same, from, four, Interleaves}
+use Rattle.tn_workers.specs.{declared.mail.{Sender.{Sender, TheVariants.{Net, Desk, Back, Keys}}, Mail.Mail}, Mailbox.{same, from, four, Interleaves}}
 use Rattle.tn_session.specs.Turns.{left_one, lefts_of}
 use Rattle.tn_session.proofs.Mailbox.{from-append}
 

@@ -2,8 +2,7 @@
 use Rattle.std.proofs.Common.{◌≡◌, ℕ, ◌+◌, ◌≤◌, Option, Some, None, IfSome, Ok, Err, List, [], ◌∷◌, ◌++◌, length, refl, sym, ap, ◌∙◌, subst, arith}
 use Rattle.std.proofs.lemmas.Fn.{FoldsTo-push}
 use Rattle.std.specs.List.{FoldsTo}
-use Rattle.tn_workers.specs.Turning.{EachFresh, ids_of, jobs_of}
-use Rattle.tn_workers.specs.declared.back.Runner.{Runner}
+use Rattle.tn_workers.specs.{Turning.{EachFresh, ids_of, jobs_of}, declared.back.Runner.Runner}
 use Rattle.tn_session.specs.Makers.{AreFresh, HasMade, MayBeDone, MayGoOn, MakesJob, AreAll, IsMakerFault}
 use Rattle.tn_machines.specs.declared.faults.SessionFault.{SessionFault}
 use Rattle.tn_machines.specs.declared.faults.SessionFault.TheVariants as fault

@@ -1,21 +1,13 @@
 -- The word to stop: how it is told and taken, and after which messages.
 use Rattle.std.proofs.Common.{◌≡◌, Bool, true, false, not, ◌||◌, ◌&&◌, List, [], ◌∷◌, ◌++◌, Option, Some, None, IfSome, refl, sym, ap, ◌∙◌, subst, map}
 use Rattle.std.proofs.Common.{append_assoc, arith}
-use Rattle.crossbeam_channel.specs.Claims.{IsSeatAt}
-use Rattle.crossbeam_channel.specs.Ends.{sends_on, receives_on}
-use Rattle.tn_machines.specs.declared.messages.Message.{Message}
-use Rattle.tn_machines.specs.declared.messages.Message.TheVariants.{Piece, HangUp, ReadFailed, Take, Said, Refused, Left, Resized, Asked}
+use Rattle.crossbeam_channel.specs.{Claims.IsSeatAt, Ends.{sends_on, receives_on}}
+use Rattle.tn_machines.specs.declared.messages.Message.{Message, TheVariants.{Piece, HangUp, ReadFailed, Take, Said, Refused, Left, Resized, Asked}}
 use Rattle.tn_queue.specs.Queue.{putter, put_more, joined_hands, one_of, LeftOver}
 use Rattle.tn_session.proofs.Lefts.{lefts_here, lefts_else}
-use Rattle.tn_workers.specs.Mailbox.{same, from, mail}
-use Rattle.tn_workers.specs.Stops.{StopHand, StopsStay, has_stopped, took_some}
-use Rattle.tn_session.specs.Stops.{IsTold, AreNewStops, LeavesAt, StandsTold, is_left, leaves, has_left}
-use Rattle.tn_session.specs.Turns.{left_one, lefts_of}
-use Rattle.tn_workers.specs.declared.mail.Mail.{Mail}
-use Rattle.tn_workers.specs.declared.mail.Sender.{Sender}
-use Rattle.tn_workers.specs.declared.mail.Sender.TheVariants.{Net, Desk, Back, Keys}
-use Rattle.tn_workers.specs.declared.stops.Stop.{Stop}
-use Rattle.tn_workers.specs.declared.stops.StopSeat.{StopSeat}
+use Rattle.tn_workers.specs.{Mailbox.{same, from, mail}, Stops.{StopHand, StopsStay, has_stopped, took_some}, declared.mail.{Mail.Mail, Sender.Sender}}
+use Rattle.tn_workers.specs.declared.{mail.Sender.TheVariants.{Net, Desk, Back, Keys}, stops.{Stop.Stop, StopSeat.StopSeat}}
+use Rattle.tn_session.specs.{Stops.{IsTold, AreNewStops, LeavesAt, StandsTold, is_left, leaves, has_left}, Turns.{left_one, lefts_of}}
 use Rattle.tn_session.specs.declared.stops.StopTeller.{StopTeller}
 
 false_true : false ≡ true → ⊥

@@ -5,19 +5,13 @@ use Rattle.tn_machines.specs.client.Marks as core_marks
 use Rattle.tn_machines.specs.client.Run as core_run
 use Rattle.tn_machines.specs.declared.client.messages.ClientMark as core_mark
 use Rattle.tn_machines.specs.declared.client.messages.ClientMark.TheVariants as core_is
-use Rattle.tn_machines.specs.declared.client.messages.Origin.{Origin}
-use Rattle.tn_machines.specs.declared.client.messages.Origin.TheVariants as origin
-use Rattle.tn_machines.specs.declared.client.messages.Told.{Told}
-use Rattle.tn_machines.specs.declared.client.progress.ClientProgress.{ClientProgress}
-use Rattle.tn_discipline.specs.declared.reads.Entry.{Entry}
-use Rattle.tn_jobs.specs.declared.verdicts.JobState.{JobState}
-use Rattle.tn_jobs.specs.declared.verdicts.JobState.TheVariants as job
-use Rattle.tn_jobs.specs.declared.verdicts.Verdict.{Verdict}
-use Rattle.tn_jobs.specs.declared.verdicts.Why.{Why}
-use Rattle.tn_machines.specs.declared.messages.Message.{Message}
+use Rattle.tn_machines.specs.declared.{client.{messages.{Origin.Origin, Told.Told}, progress.ClientProgress.ClientProgress}, messages.Message.Message}
 use Rattle.tn_machines.specs.declared.messages.Message.TheVariants.{Piece, HangUp, ReadFailed, Take, Said, Refused, Left, Resized, Asked}
-use Rattle.tn_server.specs.Events.{next, took}
-use Rattle.tn_server.specs.Lines.{waiting}
+use Rattle.tn_machines.specs.declared.client.messages.Origin.TheVariants as origin
+use Rattle.tn_discipline.specs.declared.reads.Entry.{Entry}
+use Rattle.tn_jobs.specs.declared.verdicts.{JobState.JobState, Verdict.Verdict, Why.Why}
+use Rattle.tn_jobs.specs.declared.verdicts.JobState.TheVariants as job
+use Rattle.tn_server.specs.{Events.{next, took}, Lines.waiting}
 use Rattle.tn_session.specs.Stops.{core_stops, term_stops}
 use Rattle.tn_machines.specs.server.Marks as term_marks
 use Rattle.tn_machines.specs.server.Run as term_run

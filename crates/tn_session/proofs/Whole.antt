@@ -1,56 +1,27 @@
 -- A whole session: its passes joined, and what its threads did.
 use Rattle.std.proofs.Common.{◌≡◌, ℕ, Bool, true, false, ◌&&◌, List, [], ◌∷◌, ◌++◌, Option, Some, None, refl, sym, ap, ◌∙◌, ⊎_elim, inl, inr, map, subst}
 use Rattle.std.proofs.Common.{append-nil, append_assoc, arith}
-use Rattle.std.specs.Io.KnownBytes.{Appends}
-use Rattle.std.specs.List.{FoldsTo}
-use Rattle.tn_discipline.specs.Canon.{Canon}
-use Rattle.tn_discipline.specs.declared.reads.Entry.{Entry}
-use Rattle.tn_jobs.specs.Jobs.{Jobs}
-use Rattle.tn_jobs.specs.declared.held_jobs.JobId.{JobId}
-use Rattle.tn_jobs.specs.declared.reactions.Reaction.{Reaction}
+use Rattle.std.specs.{Io.KnownBytes.Appends, List.FoldsTo}
+use Rattle.tn_discipline.specs.{Canon.Canon, declared.reads.Entry.Entry}
+use Rattle.tn_jobs.specs.{Jobs.Jobs, declared.{held_jobs.JobId.JobId, reactions.Reaction.Reaction}}
 use Rattle.tn_nvt.specs.Spelling.{spells}
-use Rattle.tn_server.specs.Replies.{items_said}
-use Rattle.tn_server.specs.declared.wishes.Editing.{Editing}
-use Rattle.tn_session.proofs.Going.{false_true, from_to}
-use Rattle.tn_session.proofs.Lefts.{none_over}
-use Rattle.tn_session.proofs.Mailbox.{all_woven}
-use Rattle.tn_session.proofs.Sent.{NoLeft, Sent, no_left-append, sent_by, reader_sent}
-use Rattle.tn_session.proofs.Stopped.{was_left, stopped_told}
-use Rattle.tn_workers.specs.Acts.{JobActs}
-use Rattle.tn_session.specs.Facts.{SessionJobs, SessionResult, SessionViews}
-use Rattle.tn_session.specs.Joining.{handler, AreSettled}
-use Rattle.tn_workers.specs.Mailbox.{Interleaves, from, four, sender, union, nobody, everyone, with_handled, mail, Total}
+use Rattle.tn_server.specs.{Replies.items_said, declared.wishes.Editing.Editing}
+use Rattle.tn_session.proofs.{Going.{false_true, from_to}, Lefts.none_over, Mailbox.all_woven, Sent.{NoLeft, Sent, no_left-append, sent_by, reader_sent}}
+use Rattle.tn_session.proofs.{Stopped.{was_left, stopped_told}, lemmas.{Noting.{IsUpTo, same_steps}, Sessions.server_stepped}}
+use Rattle.tn_workers.specs.{Acts.JobActs, Mailbox.{Interleaves, from, four, sender, union, nobody, everyone, with_handled, mail, Total}, Reader.ReaderSends}
+use Rattle.tn_workers.specs.{Stepping.{BackJobs, AreSteps, step_said}, Stops.StopHand, Talk.{IsJob, IsTalk, Closes, turns_said}, Turning.{Holds, queue_of}}
+use Rattle.tn_workers.specs.{declared.{channels.View.View, mail.{Mail.Mail, Sender.TheVariants.{Net, Desk, Back}}}, EntryChannel.EntryHand}
+use Rattle.tn_session.specs.{Facts.{SessionJobs, SessionResult, SessionViews}, Joining.{handler, AreSettled}, Notes.{Note, Noted, NotesAll, no_notes, notes}}
+use Rattle.tn_session.specs.{Session.{IsNoted, IsOpening, IsRun, OpensOrTurns, brings, brought_by, report_of}, Stops.{IsTold, term_stops}}
+use Rattle.tn_session.specs.{Transcripts.{Exchange, IsStep, Transcribes, exchange_of, total}, Turns.{HandlesAll, is_marked_whole, is_over, messages_of, says}}
 use Rattle.tn_queue.specs.Queue.{putter, taker, joined_hands, both_hands, no_hand, LeftOver}
-use Rattle.tn_workers.specs.Reader.{ReaderSends}
-use Rattle.tn_session.proofs.lemmas.Noting.{IsUpTo, same_steps}
-use Rattle.tn_session.proofs.lemmas.Sessions.{server_stepped}
-use Rattle.tn_session.specs.Notes.{Note, Noted, NotesAll, no_notes, notes}
 use Rattle.tn_session.specs.Session as of_server
-use Rattle.tn_session.specs.Session.{IsNoted, IsOpening, IsRun, OpensOrTurns, brings, brought_by, report_of}
-use Rattle.tn_session.specs.Transcripts.{Exchange, IsStep, Transcribes, exchange_of, total}
-use Rattle.tn_workers.specs.Stepping.{BackJobs, AreSteps, step_said}
 use Rattle.tn_workers.proofs.lemmas.Turning.{is_close}
-use Rattle.tn_workers.specs.Stops.{StopHand}
-use Rattle.tn_session.specs.Stops.{IsTold, term_stops}
-use Rattle.tn_workers.specs.Talk.{IsJob, IsTalk, Closes, turns_said}
-use Rattle.tn_workers.specs.Turning.{Holds, queue_of}
-use Rattle.tn_session.specs.Turns.{HandlesAll, is_marked_whole, is_over, messages_of, says}
-use Rattle.tn_streams.specs.Writing.{max_writes}
-use Rattle.tn_workers.specs.declared.channels.View.{View}
-use Rattle.tn_workers.specs.EntryChannel.{EntryHand}
-use Rattle.tn_workers.specs.declared.mail.Mail.{Mail}
-use Rattle.tn_workers.specs.declared.mail.Sender.TheVariants.{Net, Desk, Back}
-use Rattle.tn_streams.proofs.lemmas.Writing.{appends_more}
-use Rattle.tn_streams.proofs.lemmas.Telling.{accounts_both}
-use Rattle.tn_streams.specs.Known.{KnownReader, KnownWriter}
-use Rattle.tn_machines.specs.server.Marks.{Turns, run_after_opening, all_whole, no_writes_failed}
-use Rattle.tn_machines.specs.server.Run.{Run, start, opening}
-use Rattle.tn_machines.specs.declared.server.messages.ServerMark.{ServerMark}
-use Rattle.tn_machines.specs.declared.server.progress.ServerProgress.{ServerProgress}
-use Rattle.tn_machines.specs.Pieces.{bytes_in}
-use Rattle.tn_machines.specs.declared.messages.Message.{Message}
-use Rattle.tn_machines.specs.declared.messages.Message.TheVariants.{Take, Refused, Left}
-use Rattle.tn_machines.specs.declared.server.terminal.Term.{Term}
+use Rattle.tn_streams.specs.{Writing.max_writes, Known.{KnownReader, KnownWriter}}
+use Rattle.tn_streams.proofs.lemmas.{Writing.appends_more, Telling.accounts_both}
+use Rattle.tn_machines.specs.{server.{Marks.{Turns, run_after_opening, all_whole, no_writes_failed}, Run.{Run, start, opening}}, Pieces.bytes_in}
+use Rattle.tn_machines.specs.declared.{server.{messages.ServerMark.ServerMark, progress.ServerProgress.ServerProgress}, messages.Message.Message}
+use Rattle.tn_machines.specs.declared.{messages.Message.TheVariants.{Take, Refused, Left}, server.terminal.Term.Term}
 
 -- the passes are joined and cut again
 

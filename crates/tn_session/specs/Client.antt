@@ -1,50 +1,31 @@
 -- The running client session, of what its ports give back, for every schedule.
 use Rattle.std.specs.Prelude.{◌≡◌, ◌⊎◌, ℕ, Bool, IsTrue, false, IsFalse, Some, None, List, [], ◌++◌, length}
-use Rattle.std.specs.Prelude.{IfSome, map}
-use Rattle.std.specs.Io.KnownBytes.{Appends}
+use Rattle.std.specs.{Prelude.{IfSome, map}, Io.KnownBytes.Appends}
 use Rattle.crossbeam_channel.specs.Claims.{Pass, view, IsSeatAt}
 use Rattle.crossbeam_channel.specs.Ends.{sends_on, receives_on, ruled_capacity}
-use Rattle.tn_client.specs.Replies.{items_said}
-use Rattle.tn_client.specs.Screen.{text_shown}
-use Rattle.tn_machines.specs.client.Bringing.{Input, inputs_brought, keys_in, input_of, all_asked, brought_from}
-use Rattle.tn_machines.specs.client.Bringing.{brought, TakesInOrder}
-use Rattle.tn_machines.specs.client.Ending.{IsEndedAt}
+use Rattle.tn_client.specs.{Replies.items_said, Screen.text_shown}
+use Rattle.tn_machines.specs.client.Bringing.{Input, inputs_brought, keys_in, input_of, all_asked}
+use Rattle.tn_machines.specs.client.{Bringing.{brought_from, brought, TakesInOrder}, Ending.IsEndedAt}
 use Rattle.tn_machines.specs.client.Marks.{Turns, Runs, no_write_failed, no_show_failed, all_by, all_written}
-use Rattle.tn_machines.specs.client.Marks.{all_whole}
-use Rattle.tn_machines.specs.client.Reaching.{LeadsTo}
-use Rattle.tn_machines.specs.client.Run.{Run, start}
-use Rattle.tn_machines.specs.declared.client.machine.Core.{Core}
-use Rattle.tn_machines.specs.declared.client.messages.ClientMark.{ClientMark}
-use Rattle.tn_machines.specs.declared.client.messages.Origin.TheVariants as origin
-use Rattle.tn_machines.specs.declared.client.messages.Told.{Told}
+use Rattle.tn_machines.specs.client.{Marks.all_whole, Reaching.LeadsTo, Run.{Run, start}}
+use Rattle.tn_machines.specs.declared.client.{machine.Core.Core, messages.{ClientMark.ClientMark, Told.Told}}
 use Rattle.tn_machines.specs.declared.client.progress.ClientProgress.{ClientProgress}
+use Rattle.tn_machines.specs.declared.faults.{Ended.TheVariants.Fault, SessionFault.SessionFault}
+use Rattle.tn_machines.specs.declared.client.messages.Origin.TheVariants as origin
 use Rattle.tn_nvt.specs.Spelling.{spells}
 use Rattle.tn_queue.specs.Queue.{putter}
 use Rattle.tn_session.specs.CoreTurns as turns
-use Rattle.tn_session.specs.CoreTurns.{all_told, origin_of}
-use Rattle.tn_session.specs.Notes.{Note, notes, no_notes}
-use Rattle.tn_session.specs.Facts.{ClientResult, Window}
-use Rattle.tn_workers.specs.Mailbox.{Interleaves, four, sender}
-use Rattle.tn_workers.specs.Reader.{ReaderSends}
-use Rattle.tn_workers.specs.Reading.{max_reads, pieces_in, controls_in}
-use Rattle.tn_session.specs.Stops.{AreNewStops, IsTold, LeavesAt, core_stops}
+use Rattle.tn_session.specs.{CoreTurns.{all_told, origin_of}, Notes.{Note, notes, no_notes}}
+use Rattle.tn_session.specs.{Facts.{ClientResult, Window}, Stops.{AreNewStops, IsTold, LeavesAt, core_stops}}
 use Rattle.tn_session.specs.Transcripts.{Exchange, ReadsPrefix, Transcribes, all_read, all_wrote, came_by}
-use Rattle.tn_session.specs.Transcripts.{exchange_of}
-use Rattle.tn_streams.specs.Writing.{Tells, max_writes}
-use Rattle.tn_workers.specs.declared.channels.View.{View}
-use Rattle.tn_session.specs.declared.client.CoreEnds.{CoreEnds}
-use Rattle.tn_session.specs.declared.client.Mailbox.{Mailbox}
-use Rattle.tn_workers.specs.declared.mail.Mail.{Mail}
-use Rattle.tn_workers.specs.declared.mail.Sender.TheVariants.{Net, Keys}
-use Rattle.tn_session.specs.declared.parties.Report.{Report}
-use Rattle.tn_session.specs.declared.stops.StopTeller.{StopTeller}
+use Rattle.tn_session.specs.{Transcripts.exchange_of, declared.client.{CoreEnds.CoreEnds, Mailbox.Mailbox}}
+use Rattle.tn_session.specs.declared.{parties.Report.Report, stops.StopTeller.StopTeller}
 use Rattle.tn_session.specs.declared.threads.ReaderSays.{ReaderSays}
-use Rattle.tn_streams.specs.Foretelling.{WillFail}
-use Rattle.tn_streams.specs.Beside.{TellsFirst}
-use Rattle.tn_streams.specs.Known.{KnownReader, KnownTyping, KnownWriting}
-use Rattle.tn_streams.specs.Telling.{SomeFailed}
-use Rattle.tn_machines.specs.declared.faults.Ended.TheVariants.{Fault}
-use Rattle.tn_machines.specs.declared.faults.SessionFault.{SessionFault}
+use Rattle.tn_workers.specs.{Mailbox.{Interleaves, four, sender}, Reader.ReaderSends, declared.mail.Mail.Mail}
+use Rattle.tn_workers.specs.{Reading.{max_reads, pieces_in, controls_in}, declared.channels.View.View}
+use Rattle.tn_workers.specs.declared.mail.Sender.TheVariants.{Net, Keys}
+use Rattle.tn_streams.specs.{Writing.{Tells, max_writes}, Foretelling.WillFail, Beside.TellsFirst}
+use Rattle.tn_streams.specs.{Known.{KnownReader, KnownTyping, KnownWriting}, Telling.SomeFailed}
 use Rattle.tn_machines.specs.declared.faults.SessionFault.TheVariants as fault
 
 -- the view of the one that handles, in a session of two senders; nobody sends as Desk or Back

@@ -1,30 +1,18 @@
 -- The messages that the core of a client's session handled, and what was written and shown.
-use Rattle.std.specs.Prelude.{◌≡◌, ℕ, ◌≤◌, Bool, IsTrue, IsFalse, List, map}
-use Rattle.std.specs.List.{FoldsTo}
+use Rattle.std.specs.{Prelude.{◌≡◌, ℕ, ◌≤◌, Bool, IsTrue, IsFalse, List, map}, List.FoldsTo}
 use Rattle.std.specs.Io.KnownBytes.{Appends}
 use Rattle.tn_client.specs.Replies.{items_said}
 use Rattle.tn_machines.specs.client.Marks.{Turns, Runs, is_written, no_write_failed, no_show_failed, all_by}
-use Rattle.tn_machines.specs.client.Marks.{all_written, all_whole}
-use Rattle.tn_machines.specs.client.Reaching.{LeadsTo, IsTurn, SendsPrefix, ShowsPrefix}
-use Rattle.tn_machines.specs.client.Run.{Run}
-use Rattle.tn_machines.specs.declared.client.machine.Core.{Core}
-use Rattle.tn_machines.specs.declared.client.messages.ClientMark.{ClientMark}
-use Rattle.tn_machines.specs.declared.client.messages.Origin.{Origin}
+use Rattle.tn_machines.specs.{client.Marks.{all_written, all_whole}, declared.client.machine.Core.Core}
+use Rattle.tn_machines.specs.client.{Reaching.{LeadsTo, IsTurn, SendsPrefix, ShowsPrefix}, Run.Run}
+use Rattle.tn_machines.specs.declared.client.messages.{ClientMark.ClientMark, Origin.Origin, Told.Told}
 use Rattle.tn_machines.specs.declared.client.messages.Origin.TheVariants as origin
-use Rattle.tn_machines.specs.declared.client.messages.Told.{Told}
 use Rattle.tn_nvt.specs.Spelling.{spells}
-use Rattle.tn_workers.specs.Mailbox.{with_handled}
-use Rattle.tn_session.specs.Notes.{Noted, NotesAll, no_notes, writes}
-use Rattle.tn_workers.specs.Stops.{StopHand}
-use Rattle.tn_session.specs.Stops.{IsTold, StandsTold, core_stops}
-use Rattle.tn_session.specs.Transcripts.{IsStep, total}
-use Rattle.tn_session.specs.Turns.{lefts_of}
-use Rattle.tn_streams.specs.Writing.{Tells}
-use Rattle.tn_workers.specs.declared.channels.View.{View}
-use Rattle.tn_workers.specs.declared.mail.Mail.{Mail}
-use Rattle.tn_workers.specs.declared.mail.Sender.{Sender}
-use Rattle.tn_workers.specs.declared.mail.Sender.TheVariants.{Keys}
-use Rattle.tn_streams.specs.Known.{KnownWriting}
+use Rattle.tn_workers.specs.{Mailbox.with_handled, Stops.StopHand, declared.channels.View.View}
+use Rattle.tn_workers.specs.declared.mail.{Mail.Mail, Sender.{Sender, TheVariants.Keys}}
+use Rattle.tn_session.specs.{Notes.{Noted, NotesAll, no_notes, writes}, Transcripts.{IsStep, total}}
+use Rattle.tn_session.specs.{Stops.{IsTold, StandsTold, core_stops}, Turns.lefts_of}
+use Rattle.tn_streams.specs.{Writing.Tells, Known.KnownWriting}
 
 -- in a client's session all that is not from the keys is from the network
 abbrev pub origin_of : Sender → Origin

@@ -1,15 +1,11 @@
 -- The credits that a session gives: one at first and one for each piece that was handled, and one for
 -- each step.
 use Rattle.std.specs.Prelude.{◌≡◌, ◌+◌, ◌≤◌, List, length}
-use Rattle.crossbeam_channel.specs.Claims.{IsSeatAt}
-use Rattle.crossbeam_channel.specs.Ends.{sends_on, receives_on, ruled_capacity}
+use Rattle.crossbeam_channel.specs.{Claims.IsSeatAt, Ends.{sends_on, receives_on, ruled_capacity}}
 use Rattle.tn_session.specs.declared.credit.CreditGiver.{CreditGiver}
-use Rattle.tn_workers.specs.Credits.{pieces_among, steps_among}
-use Rattle.tn_workers.specs.Mailbox.{with_handled}
-use Rattle.tn_workers.specs.declared.channels.View.{View}
-use Rattle.tn_workers.specs.declared.credit.CreditTally.{CreditTally}
+use Rattle.tn_workers.specs.{Credits.{pieces_among, steps_among}, Mailbox.with_handled}
+use Rattle.tn_workers.specs.declared.{channels.View.View, credit.CreditTally.CreditTally, mail.Mail.Mail}
 use Rattle.tn_workers.specs.declared.credit.StepCredits.{StepCredits}
-use Rattle.tn_workers.specs.declared.mail.Mail.{Mail}
 
 -- one credit at most is given for each step that was handled
 abbrev pub GivesStepCredits : View → View → CreditTally → CreditTally → Type 0

@@ -1,20 +1,13 @@
 -- What is known of a session's jobs, its settings and what it gives back, each in one record.
 use Rattle.std.specs.Prelude.{ℕ, Bool, Option, List}
 use Rattle.crossbeam_channel.specs.Claims.{view}
-use Rattle.tn_discipline.specs.Canon.{Canon}
-use Rattle.tn_discipline.specs.declared.reads.Entry.{Entry}
-use Rattle.tn_jobs.specs.declared.held_jobs.JobId.{JobId}
-use Rattle.tn_jobs.specs.declared.reactions.Reaction.{Reaction}
+use Rattle.tn_discipline.specs.{Canon.Canon, declared.reads.Entry.Entry}
+use Rattle.tn_jobs.specs.declared.{held_jobs.JobId.JobId, reactions.Reaction.Reaction}
 use Rattle.tn_server.specs.declared.wishes.Editing.{Editing}
-use Rattle.tn_workers.specs.Acts.{JobActs, job_acts}
-use Rattle.tn_session.specs.Notes.{Noted, noted_of}
-use Rattle.tn_workers.specs.declared.back.Runner.{Runner}
-use Rattle.tn_workers.specs.declared.channels.View.{View}
-use Rattle.tn_workers.specs.EntryChannel.{EntryHand}
-use Rattle.tn_session.specs.declared.parties.ClientPorts.{ClientPorts}
-use Rattle.tn_session.specs.declared.parties.Ports.{Ports}
+use Rattle.tn_workers.specs.{Acts.{JobActs, job_acts}, declared.{back.Runner.Runner, channels.View.View}}
+use Rattle.tn_workers.specs.{EntryChannel.EntryHand, Stops.StopHand}
+use Rattle.tn_session.specs.{Notes.{Noted, noted_of}, declared.parties.{ClientPorts.ClientPorts, Ports.Ports}}
 use Rattle.tn_session.specs.declared.parties.Report.{Report}
-use Rattle.tn_workers.specs.Stops.{StopHand}
 
 -- of a type of jobs: how they act, and with which a session may begin, the first and then the others, in
 -- order

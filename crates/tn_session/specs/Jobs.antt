@@ -1,10 +1,8 @@
 -- The jobs of a session and their numbers.
 use Rattle.std.specs.Prelude.{◌≡◌, ◌≢◌, ℕ, Some, None, List}
-use Rattle.tn_jobs.specs.Jobs.{Jobs, state_at}
-use Rattle.tn_jobs.specs.declared.held_jobs.JobId.{JobId}
+use Rattle.tn_jobs.specs.{Jobs.{Jobs, state_at}, declared.held_jobs.JobId.JobId}
 use Rattle.tn_jobs.specs.declared.verdicts.JobState.TheVariants as job
-use Rattle.tn_workers.specs.Stepping.{IsIn}
-use Rattle.tn_workers.specs.Turning.{IsQueue, ids_of}
+use Rattle.tn_workers.specs.{Stepping.IsIn, Turning.{IsQueue, ids_of}}
 use Rattle.tn_session.specs.declared.making.Made.{Made}
 
 -- the first job is in the foreground, these others are in the background, and there are no more

@@ -1,16 +1,11 @@
 -- The passes of a session, ready and put together.
 use Rattle.std.specs.Prelude.{◌≡◌, List, Option, Some, None, [], ◌++◌}
-use Rattle.crossbeam_channel.specs.Claims.{view, IsSeatAt}
-use Rattle.crossbeam_channel.specs.Ends.{sends_on, receives_on, ruled_capacity}
+use Rattle.crossbeam_channel.specs.{Claims.{view, IsSeatAt}, Ends.{sends_on, receives_on, ruled_capacity}}
 use Rattle.tn_discipline.specs.declared.reads.Entry.{Entry}
-use Rattle.tn_session.specs.Credits.{AreNewCredits}
-use Rattle.tn_session.specs.Facts.{SessionViews}
-use Rattle.tn_workers.specs.Mailbox.{Interleaves, four, sender}
+use Rattle.tn_session.specs.{Credits.AreNewCredits, Facts.SessionViews, declared.session.Channels.Channels}
+use Rattle.tn_workers.specs.{Mailbox.{Interleaves, four, sender}, declared.channels.View.View}
+use Rattle.tn_workers.specs.declared.mail.{Mail.Mail, Sender.TheVariants.{Net, Desk, Back}}
 use Rattle.tn_queue.specs.Queue.{putter, taker}
-use Rattle.tn_workers.specs.declared.channels.View.{View}
-use Rattle.tn_workers.specs.declared.mail.Mail.{Mail}
-use Rattle.tn_workers.specs.declared.mail.Sender.TheVariants.{Net, Desk, Back}
-use Rattle.tn_session.specs.declared.session.Channels.{Channels}
 use Rattle.tn_streams.specs.Prefixes.{IsPrefixOf}
 
 -- the view of the one that handles, in a session of three senders; nobody sends as Keys

@@ -1,57 +1,31 @@
 -- The running session, of what its ports give back, for every schedule.
 use Rattle.std.specs.Prelude.{◌≡◌, ◌⊎◌, ℕ, Bool, IsTrue, false, IsFalse, ◌&&◌, Option, Some, None, List, []}
-use Rattle.std.specs.Prelude.{◌∷◌, ◌++◌, length, map}
-use Rattle.std.specs.Io.KnownBytes.{Appends, Consumes, IsAtEnd}
+use Rattle.std.specs.{Prelude.{◌∷◌, ◌++◌, length, map}, Io.KnownBytes.{Appends, Consumes, IsAtEnd}}
 use Rattle.tn_discipline.specs.declared.reads.Entry.{Entry}
-use Rattle.tn_jobs.specs.Jobs.{Jobs}
-use Rattle.tn_jobs.specs.declared.held_jobs.JobId.{JobId}
-use Rattle.tn_nvt.specs.Spelling.{spells}
-use Rattle.tn_nvt.specs.declared.items.Item.{Item}
-use Rattle.tn_server.specs.Events.{items}
-use Rattle.tn_server.specs.Lines.{entries}
-use Rattle.tn_server.specs.Replies.{items_said}
-use Rattle.tn_workers.specs.Acts.{JobActs}
-use Rattle.tn_session.specs.Facts.{JobFacts, SessionJobs, SessionResult, TermSettings}
-use Rattle.tn_session.specs.Jobs.{Numbered}
-use Rattle.tn_session.specs.Notes.{Noted, NotesWrite, no_notes, noted_of, notes}
-use Rattle.tn_streams.specs.Prefixes.{IsPrefixOf}
-use Rattle.tn_workers.specs.Mailbox.{Interleaves, four, sender}
-use Rattle.tn_queue.specs.Queue.{putter, taker}
-use Rattle.tn_session.specs.Makers.{AreAll}
-use Rattle.tn_workers.specs.Reader.{ReaderSends}
-use Rattle.tn_workers.specs.Reading.{max_reads, pieces_in}
-use Rattle.tn_workers.specs.Stepping.{AreSteps}
-use Rattle.tn_session.specs.Stops.{IsTold, LeavesAt, term_stops}
-use Rattle.tn_workers.specs.Talk.{IsJob, IsTalk}
+use Rattle.tn_jobs.specs.{Jobs.Jobs, declared.held_jobs.JobId.JobId}
+use Rattle.tn_nvt.specs.{Spelling.spells, declared.items.Item.Item}
+use Rattle.tn_server.specs.{Events.items, Lines.entries, Replies.items_said}
+use Rattle.tn_workers.specs.{Acts.JobActs, Mailbox.{Interleaves, four, sender}, Reader.ReaderSends}
+use Rattle.tn_workers.specs.{Reading.{max_reads, pieces_in}, Stepping.AreSteps, Talk.{IsJob, IsTalk}}
+use Rattle.tn_workers.specs.{Turning.{Holds, IsQueue, ids_of, jobs_of, queue_of}, declared.back.Runner.Runner}
+use Rattle.tn_workers.specs.declared.mail.{Mail.Mail, Sender.TheVariants.{Net, Desk, Back}}
+use Rattle.tn_session.specs.{Facts.{JobFacts, SessionJobs, SessionResult, TermSettings}, Jobs.Numbered}
+use Rattle.tn_session.specs.{Notes.{Noted, NotesWrite, no_notes, noted_of, notes}, Makers.AreAll}
+use Rattle.tn_session.specs.{Stops.{IsTold, LeavesAt, term_stops}, Transcripts.exchange_of, Turns.messages_of}
 use Rattle.tn_session.specs.Transcripts.{Exchange, ReadsPrefix, Transcribes, all_read, all_wrote, came_by}
-use Rattle.tn_session.specs.Transcripts.{exchange_of}
-use Rattle.tn_workers.specs.Turning.{Holds, IsQueue, ids_of, jobs_of, queue_of}
-use Rattle.tn_workers.specs.declared.back.Runner.{Runner}
+use Rattle.tn_session.specs.declared.{parties.Report.Report, session.Begun.Begun}
+use Rattle.tn_streams.specs.{Prefixes.IsPrefixOf, Writing.{Tells, max_writes}, Foretelling.WillFail}
+use Rattle.tn_streams.specs.{Known.{KnownReader, KnownWriter, KnownWriting}, Telling.SomeFailed}
+use Rattle.tn_queue.specs.Queue.{putter, taker}
 use Rattle.tn_session.specs.Turns as turns
-use Rattle.tn_session.specs.Turns.{messages_of}
-use Rattle.tn_streams.specs.Writing.{Tells, max_writes}
-use Rattle.tn_workers.specs.declared.mail.Mail.{Mail}
-use Rattle.tn_workers.specs.declared.mail.Sender.TheVariants.{Net, Desk, Back}
-use Rattle.tn_session.specs.declared.parties.Report.{Report}
-use Rattle.tn_session.specs.declared.session.Begun.{Begun}
-use Rattle.tn_streams.specs.Foretelling.{WillFail}
-use Rattle.tn_streams.specs.Known.{KnownReader, KnownWriter, KnownWriting}
-use Rattle.tn_streams.specs.Telling.{SomeFailed}
-use Rattle.tn_machines.specs.server.Ending.{IsFaultCause}
-use Rattle.tn_machines.specs.server.Giving.{GivesPrefix, entries_put}
-use Rattle.tn_machines.specs.server.Hearing.{entries_by}
+use Rattle.tn_machines.specs.server.{Ending.IsFaultCause, Giving.{GivesPrefix, entries_put}, Reaching.LeadsTo}
+use Rattle.tn_machines.specs.{server.{Hearing.entries_by, Run.{Run, start, opening}}, Pieces.bytes_in}
 use Rattle.tn_machines.specs.server.Marks.{Turns, Runs, run_after_opening, all_whole, no_writes_failed}
-use Rattle.tn_machines.specs.server.Reaching.{LeadsTo}
-use Rattle.tn_machines.specs.server.Run.{Run, start, opening}
-use Rattle.tn_machines.specs.Pieces.{bytes_in}
-use Rattle.tn_machines.specs.declared.faults.Ended.{Ended}
-use Rattle.tn_machines.specs.declared.faults.Ended.TheVariants.{HangUp, Fault}
-use Rattle.tn_machines.specs.declared.faults.SessionFault.{SessionFault}
-use Rattle.tn_machines.specs.declared.faults.SessionFault.TheVariants as fault
-use Rattle.tn_machines.specs.declared.server.messages.ServerMark.{ServerMark}
-use Rattle.tn_machines.specs.declared.messages.Message.{Message}
+use Rattle.tn_machines.specs.declared.faults.Ended.{Ended, TheVariants.{HangUp, Fault}}
+use Rattle.tn_machines.specs.declared.{faults.SessionFault.SessionFault, messages.Message.Message}
+use Rattle.tn_machines.specs.declared.server.{messages.ServerMark.ServerMark, terminal.Term.Term}
 use Rattle.tn_machines.specs.declared.server.progress.ServerProgress.{ServerProgress}
-use Rattle.tn_machines.specs.declared.server.terminal.Term.{Term}
+use Rattle.tn_machines.specs.declared.faults.SessionFault.TheVariants as fault
 use Rattle.tn_linemode.specs.Prefixes.{IsRead}
 
 abbrev pub report_of : ServerProgress → Report

@@ -1,21 +1,14 @@
 -- Why a thread stops that has more to do: it was told. It is told after the first message by which nothing
 -- has any effect any more, or nothing more comes from the network, unless it has left by then.
-use Rattle.std.specs.Prelude.{◌≡◌, Bool, true, IsTrue, false, IsFalse, ◌||◌, ◌&&◌, List}
-use Rattle.std.specs.Prelude.{[], ◌∷◌, ◌++◌, map}
-use Rattle.crossbeam_channel.specs.Claims.{view, IsSeatAt}
-use Rattle.crossbeam_channel.specs.Ends.{sends_on, receives_on}
+use Rattle.std.specs.Prelude.{◌≡◌, Bool, true, IsTrue, false, IsFalse, ◌||◌, ◌&&◌, List, [], ◌∷◌, ◌++◌, map}
+use Rattle.crossbeam_channel.specs.{Claims.{view, IsSeatAt}, Ends.{sends_on, receives_on}}
 use Rattle.tn_machines.specs.declared.client.progress.ClientProgress.{ClientProgress}
-use Rattle.tn_machines.specs.declared.messages.Message.{Message}
-use Rattle.tn_machines.specs.declared.messages.Message.TheVariants.{Left}
-use Rattle.tn_queue.specs.Queue.{putter, taker}
-use Rattle.tn_workers.specs.Mailbox.{same, mail}
-use Rattle.tn_workers.specs.Stops.{StopHand}
-use Rattle.tn_workers.specs.declared.mail.Mail.{Mail}
-use Rattle.tn_workers.specs.declared.mail.Sender.{Sender}
-use Rattle.tn_workers.specs.declared.stops.Stop.{Stop}
-use Rattle.tn_workers.specs.declared.stops.StopSeat.{StopSeat}
-use Rattle.tn_session.specs.declared.stops.StopTeller.{StopTeller}
+use Rattle.tn_machines.specs.declared.messages.Message.{Message, TheVariants.Left}
 use Rattle.tn_machines.specs.declared.server.progress.ServerProgress.{ServerProgress}
+use Rattle.tn_queue.specs.Queue.{putter, taker}
+use Rattle.tn_workers.specs.{Mailbox.{same, mail}, Stops.StopHand, declared.mail.{Mail.Mail, Sender.Sender}}
+use Rattle.tn_workers.specs.declared.stops.{Stop.Stop, StopSeat.StopSeat}
+use Rattle.tn_session.specs.declared.stops.StopTeller.{StopTeller}
 
 -- nobody was told
 pub record AreNewStops (teller : StopTeller) (seat : StopSeat) : Type 0 where

@@ -1,9 +1,7 @@
 -- What can be seen of a session on its connection: step by step, which bytes it read and which it wrote. Read
 -- `Exchange`, `all_read`, `all_wrote` and `came_by`; what follows ties them to a run.
 use Rattle.std.specs.Prelude.{◌≡◌, ◌⊎◌, ℕ, Bool, IsTrue, IsFalse, Option, Some, None, List, [], ◌∷◌, ◌++◌}
-use Rattle.std.specs.Prelude.{map}
-use Rattle.std.specs.Io.KnownBytes.{Consumes}
-use Rattle.std.specs.List.{FoldsTo}
+use Rattle.std.specs.{Prelude.map, Io.KnownBytes.Consumes, List.FoldsTo}
 use Rattle.tn_machines.specs.Pieces.{bytes_in}
 use Rattle.tn_session.specs.Notes.{Note}
 use Rattle.tn_workers.specs.declared.mail.Mail.{Mail}

@@ -1,34 +1,20 @@
 -- The messages that were handled, and what was put and written.
-use Rattle.std.specs.Prelude.{◌≡◌, ℕ, ◌+◌, ◌≤◌, Bool, IsTrue, IsFalse, Option, List, [], ◌∷◌}
-use Rattle.std.specs.Prelude.{◌++◌, map}
-use Rattle.std.specs.List.{FoldsTo}
-use Rattle.std.specs.Io.KnownBytes.{Appends}
+use Rattle.std.specs.Prelude.{◌≡◌, ℕ, ◌+◌, ◌≤◌, Bool, IsTrue, IsFalse, Option, List, [], ◌∷◌, ◌++◌, map}
+use Rattle.std.specs.{List.FoldsTo, Io.KnownBytes.Appends}
 use Rattle.tn_discipline.specs.declared.reads.Entry.{Entry}
 use Rattle.tn_nvt.specs.Spelling.{spells}
 use Rattle.tn_server.specs.Replies.{items_said}
-use Rattle.tn_workers.specs.Mailbox.{with_handled}
-use Rattle.tn_session.specs.Notes.{Noted, NotesAll, writes}
-use Rattle.tn_queue.specs.Queue.{putter}
-use Rattle.tn_workers.specs.Stops.{StopHand}
-use Rattle.tn_session.specs.Stops.{IsTold, StandsTold, term_stops}
+use Rattle.tn_workers.specs.{Mailbox.with_handled, Stops.StopHand, declared.channels.View.View}
+use Rattle.tn_workers.specs.{EntryChannel.EntryHand, declared.mail.{Mail.Mail, Sender.TheVariants.Back}}
+use Rattle.tn_session.specs.{Notes.{Noted, NotesAll, writes}, Stops.{IsTold, StandsTold, term_stops}}
 use Rattle.tn_session.specs.Transcripts.{IsStep, total}
-use Rattle.tn_workers.specs.declared.channels.View.{View}
-use Rattle.tn_workers.specs.EntryChannel.{EntryHand}
-use Rattle.tn_workers.specs.declared.mail.Mail.{Mail}
-use Rattle.tn_workers.specs.declared.mail.Sender.TheVariants.{Back}
-use Rattle.tn_streams.specs.Known.{KnownWriting}
-use Rattle.tn_streams.specs.Writing.{Tells}
+use Rattle.tn_queue.specs.Queue.{putter}
+use Rattle.tn_streams.specs.{Known.KnownWriting, Writing.Tells}
 use Rattle.tn_machines.specs.server.Marks.{Turns, Runs, is_whole, all_whole, no_write_failed}
-use Rattle.tn_machines.specs.server.Marks.{no_writes_failed}
-use Rattle.tn_machines.specs.server.Reaching.{LeadsTo, IsTurn}
-use Rattle.tn_machines.specs.server.Run.{Run, puts_of}
-use Rattle.tn_machines.specs.server.Welcoming.{too_far_ahead}
-use Rattle.tn_machines.specs.declared.server.messages.ServerMark.{ServerMark}
-use Rattle.tn_machines.specs.declared.server.messages.Put.{Put}
-use Rattle.tn_machines.specs.declared.faults.Ended.{Ended}
-use Rattle.tn_machines.specs.declared.messages.Message.{Message}
-use Rattle.tn_machines.specs.declared.messages.Message.TheVariants.{Left}
-use Rattle.tn_machines.specs.declared.server.terminal.Term.{Term}
+use Rattle.tn_machines.specs.server.{Marks.no_writes_failed, Reaching.{LeadsTo, IsTurn}, Run.{Run, puts_of}}
+use Rattle.tn_machines.specs.{server.Welcoming.too_far_ahead, declared.server.messages.ServerMark.ServerMark}
+use Rattle.tn_machines.specs.declared.{server.messages.Put.Put, faults.Ended.Ended, messages.Message.Message}
+use Rattle.tn_machines.specs.declared.{messages.Message.TheVariants.Left, server.terminal.Term.Term}
 
 -- what is said on the network by now
 abbrev pub says : Run → List ℕ

@@ -1,15 +1,11 @@
 //! A running client session, from its first key to its report.
 
 ghost use Rattle.std.specs.Prelude.{◌≡◌, IfOk, IfErr, IfSome};
-ghost use Rattle.crossbeam_channel.specs.Claims.{view, IsSeatAt};
-ghost use Rattle.crossbeam_channel.specs.Ends.{sends_on};
+ghost use Rattle.crossbeam_channel.specs.{Claims.{view, IsSeatAt}, Ends.sends_on};
 ghost use Rattle.tn_session.specs.Client.{IsReadyForTwo, StandsBeside, AreTwoSettled, IsClientRun};
-ghost use Rattle.tn_session.specs.Client.{RunningClient, client_report};
-ghost use Rattle.tn_session.specs.Facts.{client_result};
-ghost use Rattle.tn_session.specs.Session.{IsRefusal};
-ghost use Rattle.tn_session.specs.Stops.{AreNewStops};
-ghost use Rattle.tn_streams.specs.Known.{known_reader, known_typing, known_writing};
-ghost use Rattle.tn_streams.specs.Sending.{IsFinished};
+ghost use Rattle.tn_session.specs.{Client.{RunningClient, client_report}, Facts.client_result};
+ghost use Rattle.tn_session.specs.{Session.IsRefusal, Stops.AreNewStops};
+ghost use Rattle.tn_streams.specs.{Known.{known_reader, known_typing, known_writing}, Sending.IsFinished};
 
 use crate::client_loop::run_core;
 use crate::parties::{ClientPorts, Report};

@@ -1,16 +1,13 @@
 //! The core of a client's session: mails are handled until both senders have left.
 
 ghost use Rattle.std.specs.Prelude.{◌≡◌, ◌&&◌, ◌||◌, not, true, IsTrue, Some, [], IfSome};
-ghost use Rattle.crossbeam_channel.specs.Claims.{view, IsSeatAt};
-ghost use Rattle.crossbeam_channel.specs.Ends.{receives_on, sends_on};
+ghost use Rattle.crossbeam_channel.specs.{Claims.{view, IsSeatAt}, Ends.{receives_on, sends_on}};
 ghost use Rattle.tn_machines.specs.client.Marks.{is_whole};
 ghost use Rattle.tn_queue.specs.Queue.{putter};
-ghost use Rattle.tn_session.specs.Notes.{noted_of};
-ghost use Rattle.tn_session.specs.CoreTurns.{TurnsTold, CoreHandles, origin_of, told_of};
+ghost use Rattle.tn_session.specs.{Notes.noted_of, CoreTurns.{TurnsTold, CoreHandles, origin_of, told_of}};
 ghost use Rattle.tn_session.specs.Stops.{core_stops, leaves as leaves_of};
 ghost use Rattle.tn_workers.specs.declared.mail.Sender.TheVariants.{Keys};
-ghost use Rattle.tn_streams.specs.Known.{known_writing};
-ghost use Rattle.tn_streams.specs.Sending.{StaysOpen, IsFinished};
+ghost use Rattle.tn_streams.specs.{Known.known_writing, Sending.{StaysOpen, IsFinished}};
 
 use crate::closing::finish_once;
 use crate::stops::Watched;

@@ -1,7 +1,6 @@
 //! The writer is told that an end has said all.
 
-ghost use Rattle.std.specs.Prelude.{◌≡◌};
-ghost use Rattle.std.specs.Io.KnownBytes.{Keeps};
+ghost use Rattle.std.specs.{Prelude.◌≡◌, Io.KnownBytes.Keeps};
 ghost use Rattle.tn_session.specs.Closing.{Closes};
 
 use tn_streams::Finish;

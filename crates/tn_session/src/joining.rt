@@ -1,13 +1,10 @@
 //! The passes of a session are joined, compared, and split again.
 
 ghost use Rattle.std.specs.Prelude.{◌≡◌, ◌≢◌, List, [], IsTrue, IfSome};
-ghost use Rattle.crossbeam_channel.specs.Claims.{view, IsSeatAt};
-ghost use Rattle.crossbeam_channel.specs.Ends.{sends_on};
-ghost use Rattle.tn_session.specs.Facts.{views_of};
+ghost use Rattle.crossbeam_channel.specs.{Claims.{view, IsSeatAt}, Ends.sends_on};
+ghost use Rattle.tn_session.specs.{Facts.views_of, Joining.AreSettled};
 ghost use Rattle.tn_queue.specs.Queue.{putter};
-ghost use Rattle.tn_session.specs.Joining.{AreSettled};
-ghost use Rattle.tn_workers.specs.Stops.{has_stopped};
-ghost use Rattle.tn_workers.specs.declared.stops.Stop.{Stop as StopT};
+ghost use Rattle.tn_workers.specs.{Stops.has_stopped, declared.stops.Stop.Stop as StopT};
 
 use crate::parties::Ports;
 use crate::stops::StopTeller;

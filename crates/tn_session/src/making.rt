@@ -1,8 +1,7 @@
 //! The jobs of a session are made, and a table holds them.
 
 ghost use Rattle.std.specs.Prelude.{◌≡◌, ◌+◌, [], ◌∷◌, ◌++◌, length, IfOk, IfErr};
-ghost use Rattle.tn_session.specs.Jobs.{IsMade};
-ghost use Rattle.tn_session.specs.Makers.{AreAll, GivesJobs, IsMakerFault};
+ghost use Rattle.tn_session.specs.{Jobs.IsMade, Makers.{AreAll, GivesJobs, IsMakerFault}};
 ghost use Rattle.tn_workers.specs.Turning.{ids_of, jobs_of};
 
 use crate::parties::Maker;

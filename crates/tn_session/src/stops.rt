@@ -2,12 +2,10 @@
 //! background jobs before its next step.
 
 ghost use Rattle.std.specs.Prelude.{◌≡◌, ◌≢◌, ◌||◌, List, [], IsTrue, IfOk, IfSome};
-ghost use Rattle.crossbeam_channel.specs.Claims.{view, IsSeatAt};
-ghost use Rattle.crossbeam_channel.specs.Ends.{sends_on};
+ghost use Rattle.crossbeam_channel.specs.{Claims.{view, IsSeatAt}, Ends.sends_on};
 ghost use Rattle.tn_queue.specs.Queue.{putter};
-ghost use Rattle.tn_workers.specs.Stops.{has_stopped};
+ghost use Rattle.tn_workers.specs.{Stops.has_stopped, declared.stops.Stop.Stop as StopT};
 ghost use Rattle.tn_session.specs.Stops.{AreNewStops, IsTold};
-ghost use Rattle.tn_workers.specs.declared.stops.Stop.{Stop as StopT};
 
 use crossbeam_channel::bounded_with;
 use std::alloc::{AllocError, Global};

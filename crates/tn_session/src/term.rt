@@ -1,22 +1,16 @@
 //! The thread of the terminal: mails are handled until all senders have left.
 
 ghost use Rattle.std.specs.Prelude.{◌≡◌, ◌≤◌, ◌&&◌, ◌||◌, not, ◌++◌, ◌∷◌, List, Option, Some, [], true};
-ghost use Rattle.std.specs.Prelude.{IsTrue, false, IfOk, IfSome};
-ghost use Rattle.std.specs.Io.KnownBytes.{Keeps};
-ghost use Rattle.crossbeam_channel.specs.Claims.{view, IsSeatAt};
-ghost use Rattle.crossbeam_channel.specs.Ends.{sends_on, receives_on};
+ghost use Rattle.std.specs.{Prelude.{IsTrue, false, IfOk, IfSome}, Io.KnownBytes.Keeps};
+ghost use Rattle.crossbeam_channel.specs.{Claims.{view, IsSeatAt}, Ends.{sends_on, receives_on}};
 ghost use Rattle.tn_discipline.specs.declared.reads.Entry.{Entry as EntryT};
-ghost use Rattle.tn_session.specs.Closing.{Closes};
-ghost use Rattle.tn_session.specs.Credits.{GivesCredits, GivesStepCredits};
-ghost use Rattle.tn_queue.specs.Queue.{putter};
-ghost use Rattle.tn_session.specs.Notes.{noted_of};
+ghost use Rattle.tn_session.specs.{Closing.Closes, Credits.{GivesCredits, GivesStepCredits}, Notes.noted_of};
 ghost use Rattle.tn_session.specs.Stops.{term_stops, leaves as leaves_of};
 ghost use Rattle.tn_session.specs.Turns.{HandlesAll, StaysInReach, TurnsMessage, left_one};
+ghost use Rattle.tn_queue.specs.Queue.{putter};
 ghost use Rattle.tn_workers.specs.declared.mail.Sender.TheVariants.{Back};
-ghost use Rattle.tn_streams.specs.Known.{known_writing};
-ghost use Rattle.tn_streams.specs.Sending.{StaysOpen, IsFinished};
-ghost use Rattle.tn_machines.specs.server.Marks.{is_whole};
-ghost use Rattle.tn_machines.specs.server.Run.{puts_of};
+ghost use Rattle.tn_streams.specs.{Known.known_writing, Sending.{StaysOpen, IsFinished}};
+ghost use Rattle.tn_machines.specs.server.{Marks.is_whole, Run.puts_of};
 
 use crate::closing::finish_once;
 use crate::credit::{CreditGiver, give_credit, is_piece};

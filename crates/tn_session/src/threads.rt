@@ -1,18 +1,12 @@
 //! The threads of a session are started, each with a promise of what it gives back, and joined.
 
 ghost use Rattle.std.specs.Prelude.{◌≡◌, [], false, None, Some, IfSome};
-ghost use Rattle.crossbeam_channel.specs.Claims.{view, IsSeatAt};
-ghost use Rattle.crossbeam_channel.specs.Ends.{sends_on, receives_on};
-ghost use Rattle.tn_workers.specs.Acts.{job_acts};
-ghost use Rattle.tn_workers.specs.Credits.{IsSeated};
-ghost use Rattle.tn_workers.specs.Mailbox.{sender};
-ghost use Rattle.tn_queue.specs.Queue.{taker};
-ghost use Rattle.tn_workers.specs.Reader.{TypingSends};
-ghost use Rattle.tn_workers.specs.Stepping.{AreSteps};
-ghost use Rattle.tn_workers.specs.Stops.{StopsStay, has_stopped};
-ghost use Rattle.tn_workers.specs.Talk.{IsJob, IsTalk};
+ghost use Rattle.crossbeam_channel.specs.{Claims.{view, IsSeatAt}, Ends.{sends_on, receives_on}};
+ghost use Rattle.tn_workers.specs.{Acts.job_acts, Credits.IsSeated, Mailbox.sender, Reader.TypingSends};
+ghost use Rattle.tn_workers.specs.{Stepping.AreSteps, Stops.{StopsStay, has_stopped}, Talk.{IsJob, IsTalk}};
 ghost use Rattle.tn_workers.specs.Turning.{Holds, IsQueue, queue_of};
 ghost use Rattle.tn_workers.specs.declared.mail.Sender.TheVariants.{Desk, Back};
+ghost use Rattle.tn_queue.specs.Queue.{taker};
 ghost use Rattle.tn_streams.specs.Known.{known_typing};
 
 use crate::waiting::Waiting;
@@ -51,10 +45,8 @@ pub(crate) struct ReaderSays<Rd> {
 
 impl<Rd: Source> Promise<Option<ThreadLeft>> for ReaderSays<Rd> {
     ghost use Rattle.std.specs.Prelude.{IfSome};
-    ghost use Rattle.crossbeam_channel.specs.Claims.{view, IsSeatAt};
-    ghost use Rattle.crossbeam_channel.specs.Ends.{sends_on};
-    ghost use Rattle.tn_workers.specs.Reader.{TypingSends};
-    ghost use Rattle.tn_workers.specs.Stops.{StopsStay, has_stopped};
+    ghost use Rattle.crossbeam_channel.specs.{Claims.{view, IsSeatAt}, Ends.sends_on};
+    ghost use Rattle.tn_workers.specs.{Reader.TypingSends, Stops.{StopsStay, has_stopped}};
     ghost use Rattle.tn_streams.specs.Known.{known_typing};
 
     ghost kept_by = { λ p r.
@@ -76,10 +68,8 @@ pub(crate) struct DeskSays<J> {
 
 impl<J: Job> Promise<Option<(MailPass, EntryPass)>> for DeskSays<J> {
     ghost use Rattle.std.specs.Prelude.{IfSome};
-    ghost use Rattle.crossbeam_channel.specs.Claims.{view, IsSeatAt};
-    ghost use Rattle.crossbeam_channel.specs.Ends.{sends_on, receives_on};
-    ghost use Rattle.tn_workers.specs.Acts.{job_acts};
-    ghost use Rattle.tn_workers.specs.Talk.{IsJob, IsTalk};
+    ghost use Rattle.crossbeam_channel.specs.{Claims.{view, IsSeatAt}, Ends.{sends_on, receives_on}};
+    ghost use Rattle.tn_workers.specs.{Acts.job_acts, Talk.{IsJob, IsTalk}};
 
     ghost kept_by = { λ p r.
         IfSome r (λ x. IsSeatAt (sends_on p.to.value) x.0 × IsSeatAt (receives_on p.from.value) x.1 ×
@@ -98,11 +88,8 @@ pub(crate) struct BackSays<J> {
 
 impl<J: Job> Promise<Option<ThreadLeft>> for BackSays<J> {
     ghost use Rattle.std.specs.Prelude.{IfSome};
-    ghost use Rattle.crossbeam_channel.specs.Claims.{view, IsSeatAt};
-    ghost use Rattle.crossbeam_channel.specs.Ends.{sends_on};
-    ghost use Rattle.tn_workers.specs.Acts.{job_acts};
-    ghost use Rattle.tn_workers.specs.Stepping.{AreSteps};
-    ghost use Rattle.tn_workers.specs.Stops.{StopsStay, has_stopped};
+    ghost use Rattle.crossbeam_channel.specs.{Claims.{view, IsSeatAt}, Ends.sends_on};
+    ghost use Rattle.tn_workers.specs.{Acts.job_acts, Stepping.AreSteps, Stops.{StopsStay, has_stopped}};
     ghost use Rattle.tn_workers.specs.Turning.{Holds, queue_of};
 
     ghost kept_by = { λ p r.

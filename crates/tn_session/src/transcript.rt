@@ -1,13 +1,10 @@
 //! What the core of a session does, noted as it does it.
 
 ghost use Rattle.std.specs.Prelude.{◌≡◌, ◌∷◌, [], List, Some, IfSome, IsTrue};
-ghost use Rattle.crossbeam_channel.specs.Claims.{view, IsSeatAt};
-ghost use Rattle.crossbeam_channel.specs.Ends.{receives_on};
-ghost use Rattle.tn_workers.specs.Mailbox.{handed};
+ghost use Rattle.crossbeam_channel.specs.{Claims.{view, IsSeatAt}, Ends.receives_on};
+ghost use Rattle.tn_workers.specs.{Mailbox.handed, declared.mail.Mail.Mail as MailT};
 ghost use Rattle.tn_session.specs.Notes.{NotesWrite, no_notes, noted_of, takes, writes};
-ghost use Rattle.tn_streams.specs.Writing.{Tells};
-ghost use Rattle.tn_workers.specs.declared.mail.Mail.{Mail as MailT};
-ghost use Rattle.tn_streams.specs.Sending.{StaysOpen};
+ghost use Rattle.tn_streams.specs.{Writing.Tells, Sending.StaysOpen};
 
 use std::alloc::Global;
 use std::mem;

@@ -1,15 +1,11 @@
 //! The calls of a session's threads, over their channels.
 
 ghost use Rattle.std.specs.Prelude.{◌≡◌, ◌+◌, List, Option, [], ◌++◌, ◌∷◌, IfSome, length};
-ghost use Rattle.crossbeam_channel.specs.Claims.{view, IsSeatAt};
-ghost use Rattle.crossbeam_channel.specs.Ends.{sends_on, receives_on};
+ghost use Rattle.crossbeam_channel.specs.{Claims.{view, IsSeatAt}, Ends.{sends_on, receives_on}};
 ghost use Rattle.tn_discipline.specs.declared.reads.Entry.{Entry as EntryT};
 ghost use Rattle.tn_queue.specs.Queue.{taker};
-ghost use Rattle.tn_workers.specs.Mailbox.{sender};
-ghost use Rattle.tn_workers.specs.Mailbox.{mail as mail_of};
-ghost use Rattle.tn_workers.specs.Stops.{TakesStop};
-ghost use Rattle.tn_workers.specs.declared.mail.Mail.{Mail as MailT};
-ghost use Rattle.tn_workers.specs.declared.stops.Stop.{Stop as StopT};
+ghost use Rattle.tn_workers.specs.{Mailbox.{sender, mail as mail_of}, Stops.TakesStop};
+ghost use Rattle.tn_workers.specs.declared.{mail.Mail.Mail as MailT, stops.Stop.Stop as StopT};
 
 use std::sync::Wait;
 use tn_discipline::Entry;

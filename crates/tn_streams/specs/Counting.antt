@@ -1,7 +1,6 @@
 -- Calls that are counted, and what the count tells.
 use Rattle.std.specs.Prelude.{ℕ, ◌+◌, nat_lt, ◌&&◌, min, Bool, true, false, Option, Some, None}
-use Rattle.tn_streams.specs.Telling.{Calls}
-use Rattle.tn_streams.specs.declared.tally.Tally.{Tally}
+use Rattle.tn_streams.specs.{Telling.Calls, declared.tally.Tally.Tally}
 
 abbrev pub no_calls : Option Calls
 no_calls = Some (record { made = 0; failed = 0 })

@@ -1,8 +1,6 @@
 -- What a reader foretells of its calls, as it foretells the bytes that it will give.
 use Rattle.std.specs.Prelude.{◌≡◌, ◌≢◌, ℕ, ◌+◌, ◌<◌, ◌≤◌, Option, Some, None, Result, Ok, Err, ⊤, ◌⊎◌}
-use Rattle.std.specs.IoError.{error_kind}
-use Rattle.std.specs.declared.io.Error.{Error}
-use Rattle.std.specs.declared.io.ErrorKind.TheVariants.{Interrupted}
+use Rattle.std.specs.{IoError.error_kind, declared.io.{Error.Error, ErrorKind.TheVariants.Interrupted}}
 
 -- how many of the calls to come will fail, and how many a signal will interrupt
 pub record Failures : Type 0 where

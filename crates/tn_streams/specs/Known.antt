@@ -1,8 +1,6 @@
 -- What is known of a reader and of a writer.
 use Rattle.std.specs.Prelude.{ℕ, Option, List}
-use Rattle.tn_streams.specs.Foretelling.{Failures}
-use Rattle.tn_streams.specs.Telling.{Calls}
-use Rattle.tn_streams.specs.declared.control.Control.{Control}
+use Rattle.tn_streams.specs.{Foretelling.Failures, Telling.Calls, declared.control.Control.Control}
 use Rattle.tn_streams.specs.declared.window.WindowSize.{WindowSize}
 
 -- a reader: the bytes that it gives, what it foretells of its calls, the sizes of its window, and what its

@@ -1,8 +1,6 @@
 -- What a reader or a writer tells of its calls.
 use Rattle.std.specs.Prelude.{◌≡◌, ◌≢◌, ℕ, ◌+◌, ◌<◌, ◌≤◌, Bool, IsFalse, List, length, Option, Some, None}
-use Rattle.std.specs.Prelude.{Result, Ok, Err, ⊤, ◌⊎◌}
-use Rattle.std.specs.IoError.{error_kind}
-use Rattle.std.specs.declared.io.Error.{Error}
+use Rattle.std.specs.{Prelude.{Result, Ok, Err, ⊤, ◌⊎◌}, IoError.error_kind, declared.io.Error.Error}
 use Rattle.std.specs.declared.io.ErrorKind.TheVariants.{Interrupted}
 
 -- how many calls were made, and how many of them failed

@@ -1,6 +1,5 @@
 -- What a call leaves that writes bytes one write after another.
-use Rattle.std.specs.Prelude.{◌≡◌, ℕ, Bool, true, false, List, ◌++◌, Option}
-use Rattle.std.specs.Io.KnownBytes.{Appends}
+use Rattle.std.specs.{Prelude.{◌≡◌, ℕ, Bool, true, false, List, ◌++◌, Option}, Io.KnownBytes.Appends}
 use Rattle.tn_streams.specs.Telling.{Calls, AccountsFor}
 
 -- all of these bytes were written, or the first of them

@@ -18,15 +18,13 @@
 #![tactic(auto)]
 
 ghost use Rattle.std.specs.Prelude.{◌≡◌, ◌≢◌, ℕ, List, [], None, Some, Option, true, IsTrue, false, IsFalse};
-ghost use Rattle.std.specs.IoError.{error_kind};
-ghost use Rattle.std.specs.Io.{ReadsAtMost, WritesAtMost};
+ghost use Rattle.std.specs.{IoError.error_kind, Io.{ReadsAtMost, WritesAtMost}};
 ghost use Rattle.std.specs.Io.KnownBytes.{ReadConsumes, WriteAppends, Keeps};
-ghost use Rattle.tn_streams.specs.Foretelling.{Failures, ForetellsCall};
-ghost use Rattle.tn_streams.specs.Sending.{Sending, written_on, finished_on};
-ghost use Rattle.tn_streams.specs.Beside.{IsOneOf, TellsNext, no_words};
+ghost use Rattle.tn_streams.specs.{Foretelling.{Failures, ForetellsCall}, Sending.{Sending, written_on}};
+ghost use Rattle.tn_streams.specs.{Sending.finished_on, Beside.{IsOneOf, TellsNext, no_words}};
 ghost use Rattle.tn_streams.specs.declared.control.Control.{Control as ControlT};
-ghost use Rattle.tn_streams.specs.declared.window.WindowSize.{WindowSize as WindowSizeT};
-ghost use Rattle.tn_streams.specs.Telling.{Calls, TellsCall, CountsRead, CountsWrite};
+ghost use Rattle.tn_streams.specs.{declared.window.WindowSize.WindowSize as WindowSizeT, Telling.Calls};
+ghost use Rattle.tn_streams.specs.Telling.{TellsCall, CountsRead, CountsWrite};
 
 pub use control::Control;
 use std::io::{Error, ErrorKind, Read, Result, Write};

@@ -1,9 +1,7 @@
 //! Bytes are written one write after another, as far as a writer takes them.
 
-ghost use Rattle.std.specs.Prelude.{◌≡◌, ◌≤◌, ◌==◌, [], take, length, IsTrue};
-ghost use Rattle.std.specs.Io.KnownBytes.{Appends};
-ghost use Rattle.tn_streams.specs.Sending.{StaysOpen};
-ghost use Rattle.tn_streams.specs.Writing.{Tells, Writes};
+ghost use Rattle.std.specs.{Prelude.{◌≡◌, ◌≤◌, ◌==◌, [], take, length, IsTrue}, Io.KnownBytes.Appends};
+ghost use Rattle.tn_streams.specs.{Sending.StaysOpen, Writing.{Tells, Writes}};
 
 use crate::{Drain, is_interrupted};
 

@@ -2,10 +2,8 @@
 use Rattle.std.proofs.Common.{◌≡◌, ◌⊎◌, inl, inr, ℕ, List, [], ◌∷◌, ◌++◌, refl, sym, ap, ◌∙◌, map, append_assoc, length, suc}
 use Rattle.std.specs.List.{FoldsTo}
 use Rattle.tn_discipline.specs.Canon.{Canon}
-use Rattle.tn_two_sessions.specs.Answers.{AreAnswered, AnswersOfServer, AnswersOfClient}
-use Rattle.tn_two_sessions.specs.Transcripts.{Served, Connected}
-use Rattle.tn_session.specs.Facts.{JobFacts}
-use Rattle.tn_session.specs.Transcripts.{Exchange, Point, IsExchange, Transcribes, all_wrote}
+use Rattle.tn_two_sessions.specs.{Answers.{AreAnswered, AnswersOfServer, AnswersOfClient}, Transcripts.{Served, Connected}}
+use Rattle.tn_session.specs.{Facts.JobFacts, Transcripts.{Exchange, Point, IsExchange, Transcribes, all_wrote}}
 
 both : {A : Type 0} (a b : A) (us vs : List A) → a ∷ us ≡ b ∷ vs → (a ≡ b) × (us ≡ vs)
 both a b us vs e = (cc, cc)

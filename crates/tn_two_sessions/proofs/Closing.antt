@@ -3,28 +3,17 @@ use Rattle.std.proofs.Common.{◌≡◌, ℕ, Bool, true, false, Option, List, [
 use Rattle.tn_client.specs.Events.{History, next, resized, gets}
 use Rattle.tn_client.specs.Events as client
 use Rattle.tn_machines.proofs.lemmas.client.Bringing.{inputs-gets}
-use Rattle.tn_machines.specs.client.Bringing.{inputs}
-use Rattle.tn_machines.specs.client.Commands.{event_of}
-use Rattle.tn_machines.specs.client.Counting.{after_message}
-use Rattle.tn_machines.specs.client.Marks.{Turns, Runs}
-use Rattle.tn_machines.specs.client.Run.{Run, Acts, ActsUnless, types, sent_after, start}
-use Rattle.tn_machines.specs.declared.client.messages.ClientMark.{ClientMark}
+use Rattle.tn_machines.specs.{client.{Bringing.inputs, Commands.event_of, Counting.after_message, Marks.{Turns, Runs}}, declared.client.messages.Origin.Origin}
+use Rattle.tn_machines.specs.{client.Run.{Run, Acts, ActsUnless, types, sent_after, start}, declared.client.messages.{ClientMark.ClientMark, Told.Told}}
+use Rattle.tn_machines.specs.declared.{client.{messages.Origin.TheVariants.{Keys, Net}, progress.ClientProgress.ClientProgress}, messages.Message.Message}
+use Rattle.tn_machines.specs.declared.messages.Message.TheVariants.{Piece, HangUp, ReadFailed, Take, Said, Refused, Left, Resized, Asked}
 use Rattle.tn_machines.specs.declared.client.messages.ClientMark.TheVariants as mark
-use Rattle.tn_machines.specs.declared.client.messages.Origin.{Origin}
-use Rattle.tn_machines.specs.declared.client.messages.Origin.TheVariants.{Keys, Net}
-use Rattle.tn_machines.specs.declared.client.messages.Told.{Told}
-use Rattle.tn_machines.specs.declared.client.progress.ClientProgress.{ClientProgress}
-use Rattle.tn_session.proofs.lemmas.ClientTurns.{opens, sent_latest}
-use Rattle.tn_session.proofs.lemmas.Plain.{PlainlyCloses}
+use Rattle.tn_session.proofs.lemmas.{ClientTurns.{opens, sent_latest}, Plain.PlainlyCloses}
 use Rattle.tn_session.specs.CoreTurns.{all_told}
-use Rattle.tn_workers.specs.Mailbox.{from, mail}
-use Rattle.tn_workers.specs.Reading.{IsEnding, Telling, piece_told, size_told, control_told, told_messages, pieces_in}
-use Rattle.tn_workers.specs.declared.mail.Mail.{Mail}
-use Rattle.tn_workers.specs.declared.mail.Sender.{Sender}
+use Rattle.tn_workers.specs.{Mailbox.{from, mail}, Reading.{IsEnding, Telling, piece_told, size_told, control_told, told_messages, pieces_in}}
+use Rattle.tn_workers.specs.declared.mail.{Mail.Mail, Sender.Sender}
 use Rattle.tn_workers.specs.declared.mail.Sender.TheVariants as sender
 use Rattle.tn_streams.specs.Foretelling.{Failures}
-use Rattle.tn_machines.specs.declared.messages.Message.{Message}
-use Rattle.tn_machines.specs.declared.messages.Message.TheVariants.{Piece, HangUp, ReadFailed, Take, Said, Refused, Left, Resized, Asked}
 
 -- nothing that is typed
 abbrev pub NoInput : List Message → Type 0

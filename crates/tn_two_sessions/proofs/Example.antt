@@ -1,61 +1,37 @@
 -- Two sessions whose transcripts a socket carries: a line is typed, heard and taken, and both hang up.
 use Rattle.std.proofs.Common.{◌≡◌, ℕ, zero, suc, inl, true, false, Option, Some, None, List, [], ◌∷◌, ◌++◌, refl, sym, ap, ◌∙◌, subst, map, append-nil}
-use Rattle.std.proofs.Common.{append_assoc, arith, lit<}
-use Rattle.std.proofs.lemmas.List.Elements.{All-nil, All-cons}
+use Rattle.std.proofs.{Common.{append_assoc, arith, lit<}, lemmas.List.Elements.{All-nil, All-cons}}
 use Rattle.tn_client.specs.Screen.{text_shown}
 use Rattle.tn_machines.proofs.lemmas.client.Bringing.{in_order}
-use Rattle.tn_machines.specs.client.Bringing.{Input, key_typed}
+use Rattle.tn_machines.specs.{client.Bringing.{Input, key_typed}, declared.{client.messages.{Origin.Origin, Told.Told}, faults.SessionFault.SessionFault}}
+use Rattle.tn_machines.specs.declared.messages.Message.{Message, TheVariants.{Piece, HangUp, Take, Said, Left}}
 use Rattle.tn_machines.specs.client.Counting as client_counting
 use Rattle.tn_machines.specs.client.Marks as core
 use Rattle.tn_machines.specs.client.Run as core_run
 use Rattle.tn_machines.specs.declared.client.messages.ClientMark as core_mark
 use Rattle.tn_machines.specs.declared.client.messages.ClientMark.TheVariants as core_is
-use Rattle.tn_machines.specs.declared.client.messages.Origin.{Origin}
 use Rattle.tn_machines.specs.declared.client.messages.Origin.TheVariants as origin
-use Rattle.tn_machines.specs.declared.client.messages.Told.{Told}
-use Rattle.tn_discipline.specs.declared.reads.Entry.{Entry}
-use Rattle.tn_discipline.specs.declared.reads.Entry.TheVariants.{Text}
-use Rattle.tn_jobs.specs.Jobs.{Jobs, state_at}
-use Rattle.tn_jobs.specs.declared.held_jobs.JobId.{JobId}
-use Rattle.tn_jobs.specs.declared.reactions.Reaction.{Reaction}
-use Rattle.tn_jobs.specs.declared.verdicts.After.TheVariants.{Stay}
+use Rattle.tn_discipline.specs.declared.reads.Entry.{Entry, TheVariants.Text}
+use Rattle.tn_jobs.specs.{Jobs.{Jobs, state_at}, declared.{held_jobs.JobId.JobId, reactions.Reaction.Reaction, verdicts.After.TheVariants.Stay}}
 use Rattle.tn_jobs.specs.declared.verdicts.JobState.TheVariants.{Foreground}
 use Rattle.tn_two_sessions.specs.Example as example
 use Rattle.tn_two_sessions.specs.Transcripts.{Step, served, told, server_steps, client_steps, IsCarried, Served, Connected, HasKey}
 use Rattle.tn_machines.specs.declared.faults.Ended.TheVariants as ended
-use Rattle.tn_machines.specs.declared.faults.SessionFault.{SessionFault}
-use Rattle.tn_machines.specs.declared.messages.Message.{Message}
-use Rattle.tn_machines.specs.declared.messages.Message.TheVariants.{Piece, HangUp, Take, Said, Left}
-use Rattle.tn_nvt.specs.Stream.{spelled, IsPartial}
-use Rattle.tn_nvt.specs.declared.items.Item.{Item}
-use Rattle.tn_nvt.specs.declared.items.Item.TheVariants.{Byte}
-use Rattle.tn_option.specs.Options.{state_of, options_after_wish, new_options}
-use Rattle.tn_option.specs.QMethod.{cell}
+use Rattle.tn_nvt.specs.{Stream.{spelled, IsPartial}, declared.items.Item.{Item, TheVariants.Byte}}
+use Rattle.tn_option.specs.{Options.{state_of, options_after_wish, new_options}, QMethod.cell}
 use Rattle.tn_server.specs.declared.wishes.Editing.{Editing}
 use Rattle.tn_session.proofs.lemmas.Sessions.{ServerTranscript, ClientTranscript, server_transcript, server_reads, server_noted, client_transcript}
 use Rattle.tn_session.proofs.lemmas.Sessions.{client_reads, client_noted}
-use Rattle.tn_session.specs.Notes.{Note, Noted, no_notes, notes}
-use Rattle.tn_session.specs.Transcripts.{exchange_of}
+use Rattle.tn_session.specs.{Notes.{Note, Noted, no_notes, notes}, Transcripts.{exchange_of, Exchange, all_read, all_wrote}, CoreTurns.all_told}
+use Rattle.tn_session.specs.{Stops.{IsTold, LeavesAt, core_stops, term_stops}, Turns.messages_of, Client.RunningClient}
+use Rattle.tn_session.specs.{Facts.{SessionJobs, SessionResult, TermSettings, ClientResult, Window}, Session.{Schedule, RunningSession, report_of}}
 use Rattle.tn_session.specs.Client as of_client
-use Rattle.tn_session.specs.CoreTurns.{all_told}
-use Rattle.tn_session.specs.Stops.{IsTold, LeavesAt, core_stops, term_stops}
-use Rattle.tn_session.specs.Turns.{messages_of}
-use Rattle.tn_workers.specs.declared.stops.Stop.{Stop}
-use Rattle.tn_session.specs.Client.{RunningClient}
+use Rattle.tn_workers.specs.{declared.stops.Stop.Stop, Mailbox.{from, four, mail, nobody, sender}, Reader.ReaderSends, Reading.{IsPiece, piece_told}}
+use Rattle.tn_workers.specs.declared.mail.{Mail.Mail, Sender.Sender}
 use Rattle.tn_queue.specs.Queue.{putter, taker}
-use Rattle.tn_session.specs.Facts.{SessionJobs, SessionResult, TermSettings, ClientResult, Window}
-use Rattle.tn_workers.specs.Mailbox.{from, four, mail, nobody, sender}
-use Rattle.tn_workers.specs.Reader.{ReaderSends}
-use Rattle.tn_workers.specs.Reading.{IsPiece, piece_told}
 use Rattle.tn_session.specs.Session as of_server
-use Rattle.tn_session.specs.Session.{Schedule, RunningSession, report_of}
-use Rattle.tn_session.specs.Transcripts.{Exchange, all_read, all_wrote}
-use Rattle.tn_workers.specs.declared.mail.Mail.{Mail}
-use Rattle.tn_workers.specs.declared.mail.Sender.{Sender}
 use Rattle.tn_workers.specs.declared.mail.Sender.TheVariants as who
-use Rattle.tn_streams.specs.Beside.{no_words}
-use Rattle.tn_streams.specs.Known.{KnownReader, KnownTyping, KnownWriting}
-use Rattle.tn_streams.specs.Prefixes.{IsPrefixOf}
+use Rattle.tn_streams.specs.{Beside.no_words, Known.{KnownReader, KnownTyping, KnownWriting}, Prefixes.IsPrefixOf}
 use Rattle.tn_machines.specs.server.Marks as term
 use Rattle.tn_machines.specs.server.Run as term_run
 use Rattle.tn_machines.specs.declared.server.messages.ServerMark as term_mark

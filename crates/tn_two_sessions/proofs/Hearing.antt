@@ -2,9 +2,7 @@
 use Rattle.std.proofs.Common.{◌≡◌, ℕ, List, [], sym, subst}
 use Rattle.std.specs.Prelude.{All}
 use Rattle.tn_nvt.proofs.lemmas.Reading.{reads_on, reads_spelled, one_reading}
-use Rattle.tn_nvt.specs.Spelling.{spells, Fits}
-use Rattle.tn_nvt.specs.Stream.{Reading}
-use Rattle.tn_nvt.specs.declared.items.Item.{Item}
+use Rattle.tn_nvt.specs.{Spelling.{spells, Fits}, Stream.Reading, declared.items.Item.Item}
 use Rattle.tn_linemode.specs.Prefixes.{IsRead}
 use Rattle.tn_streams.specs.Prefixes.{IsPrefixOf}
 

@@ -4,17 +4,15 @@ use Rattle.tn_client.specs.Replies as client_says
 use Rattle.tn_machines.specs.client.Marks as core
 use Rattle.tn_machines.specs.client.Run as core_run
 use Rattle.tn_machines.specs.declared.client.messages.ClientMark as core_mark
-use Rattle.tn_machines.specs.declared.client.messages.Told.{Told}
+use Rattle.tn_machines.specs.declared.{client.messages.Told.Told, messages.Message.Message}
 use Rattle.tn_discipline.specs.Canon.{Canon, typed_entries}
 use Rattle.tn_jobs.specs.Jobs.{Jobs}
 use Rattle.tn_nvt.specs.Spelling.{spells}
-use Rattle.tn_server.specs.Lines.{entries}
+use Rattle.tn_server.specs.{Lines.entries, declared.wishes.Editing.Editing}
 use Rattle.tn_server.specs.Replies as server_says
-use Rattle.tn_server.specs.declared.wishes.Editing.{Editing}
 use Rattle.tn_machines.specs.server.Marks as term
 use Rattle.tn_machines.specs.server.Run as term_run
 use Rattle.tn_machines.specs.declared.server.messages.ServerMark as term_mark
-use Rattle.tn_machines.specs.declared.messages.Message.{Message}
 use Rattle.tn_streams.specs.Prefixes.{IsPrefixOf}
 use Rattle.tn_world.proofs.lemmas.Histories.{keys_typed}
 

@@ -1,34 +1,19 @@
 -- Of keys and commands, those that a reader gives and those that were read, and what more of them add.
 use Rattle.std.proofs.Common.{◌≡◌, ℕ, Bool, true, All, Option, Some, None, option_to_list, List, [], ◌∷◌, ◌++◌, map, refl, sym, ap, ◌∙◌, subst, append_assoc}
-use Rattle.std.proofs.Common.{append-nil}
-use Rattle.std.proofs.lemmas.Grind.{flat_map-append}
-use Rattle.std.proofs.lemmas.List.Elements.{All-nil, All-cons, All-head, All-tail, All-pop}
+use Rattle.std.proofs.{Common.append-nil, lemmas.{Grind.flat_map-append, List.Elements.{All-nil, All-cons, All-head, All-tail, All-pop}}}
 use Rattle.std.specs.Io.KnownBytes.{Consumes}
-use Rattle.tn_client.specs.Events.{History, begun, next, got, resized, proposed}
+use Rattle.tn_client.specs.{Events.{History, begun, next, got, resized, proposed}, declared.commands.UserCommand.UserCommand}
 use Rattle.tn_client.specs.Events as client
-use Rattle.tn_client.specs.declared.commands.UserCommand.{UserCommand}
 use Rattle.tn_client.specs.declared.commands.UserCommand.TheVariants as user
 use Rattle.tn_machines.specs.client.Bringing.{Input, key_typed, command_sent, line_entered, keys_in, all_asked, input_of, inputs}
 use Rattle.tn_nvt.specs.Spelling.{lf}
-use Rattle.tn_discipline.proofs.lemmas.Histories.{entries-all}
-use Rattle.tn_discipline.proofs.lemmas.KeyRoles.{roles_of-append}
-use Rattle.tn_discipline.specs.Canon.{Canon, typed_entries}
-use Rattle.tn_discipline.specs.Entries.{entries_of, half_of}
-use Rattle.tn_discipline.specs.Characters.{Characters, standard_characters}
-use Rattle.tn_discipline.specs.Keys.{roles_of, role_by_signal}
-use Rattle.tn_discipline.specs.declared.reads.Sig.TheVariants.{Int}
-use Rattle.tn_discipline.specs.declared.termios.Flags.{Flags}
-use Rattle.tn_discipline.specs.Steps.{gain_all}
-use Rattle.tn_discipline.specs.declared.keys.Role.{Role}
-use Rattle.tn_discipline.specs.declared.termios.Settings.{Settings}
+use Rattle.tn_discipline.proofs.lemmas.{Histories.entries-all, KeyRoles.roles_of-append}
+use Rattle.tn_discipline.specs.{Canon.{Canon, typed_entries}, Entries.{entries_of, half_of}, Characters.{Characters, standard_characters}, Steps.gain_all}
+use Rattle.tn_discipline.specs.{Keys.{roles_of, role_by_signal}, declared.{reads.Sig.TheVariants.Int, termios.{Flags.Flags, Settings.Settings}, keys.Role.Role}}
 use Rattle.tn_two_sessions.specs.Transcripts.{HasKey, key_of, keys_of}
-use Rattle.tn_workers.specs.Mailbox.{sender}
-use Rattle.tn_workers.specs.declared.channels.View.{View}
-use Rattle.tn_workers.specs.declared.mail.Mail.{Mail}
+use Rattle.tn_workers.specs.{Mailbox.sender, declared.{channels.View.View, mail.Mail.Mail}}
 use Rattle.tn_workers.specs.declared.mail.Sender.TheVariants as who
-use Rattle.tn_streams.specs.Beside.{TellsFirst}
-use Rattle.tn_streams.specs.Prefixes.{IsPrefixOf}
-use Rattle.tn_streams.specs.declared.control.Control.{Control}
+use Rattle.tn_streams.specs.{Beside.TellsFirst, Prefixes.IsPrefixOf, declared.control.Control.Control}
 use Rattle.tn_world.proofs.lemmas.Histories.{AreTypeable, keys_typed}
 use Rattle.tn_world.specs.Commands.{IsTypeable, key_for, key_if, interrupt_key}
 

@@ -1,64 +1,43 @@
 -- What one loop brings about: after each event all bytes are carried, in one order.
 use Rattle.std.proofs.Common.{◌≡◌, ◌⊎◌, inl, inr, ℕ, All, Bool, true, false, Option, Some, None, List, [], ◌∷◌, ◌++◌, refl, sym, ap, ◌∙◌, subst, map}
-use Rattle.std.proofs.Common.{append_assoc, append-nil}
-use Rattle.std.proofs.lemmas.List.{map-append}
-use Rattle.std.proofs.lemmas.Fn.{FoldsTo-push}
+use Rattle.std.proofs.{Common.{append_assoc, append-nil}, lemmas.{List.map-append, Fn.FoldsTo-push}}
 use Rattle.std.specs.List.{FoldsTo}
 use Rattle.tn_client.specs.Replies as client_says
 use Rattle.tn_client.proofs.lemmas.Fitting.{sent-fits}
-use Rattle.tn_machines.proofs.lemmas.client.Bringing.{in_order}
-use Rattle.tn_machines.specs.client.Bringing.{Input, brought_from, inputs, inputs_brought, inputs_from}
+use Rattle.tn_machines.proofs.lemmas.{client.Bringing.in_order, server.{Giving.{puts_are_front, puts_are_given}, Hearing.hears}}
+use Rattle.tn_machines.specs.{client.Bringing.{Input, brought_from, inputs, inputs_brought, inputs_from}, declared.client.messages.{Origin.Origin, Told.Told}}
+use Rattle.tn_machines.specs.{declared.{client.machine.Core.Core, messages.Message.Message}, Pieces.bytes_in, server.{Giving.entries_put, Hearing.heard}}
+use Rattle.tn_machines.specs.{server.Run.puts_of, declared.server.terminal.Term.Term}
 use Rattle.tn_machines.specs.client.Marks as core
 use Rattle.tn_machines.specs.client.Reaching as core_reach
 use Rattle.tn_machines.specs.client.Run as core_run
 use Rattle.tn_machines.specs.declared.client.messages.ClientMark as core_mark
 use Rattle.tn_machines.specs.declared.client.messages.ClientMark.TheVariants as core_is
-use Rattle.tn_machines.specs.declared.client.messages.Origin.{Origin}
 use Rattle.tn_machines.specs.declared.client.messages.Origin.TheVariants as origin
-use Rattle.tn_machines.specs.declared.client.messages.Told.{Told}
-use Rattle.tn_machines.specs.declared.client.machine.Core.{Core}
 use Rattle.tn_machines.specs.declared.client.progress.ClientProgress as core_progress
-use Rattle.tn_discipline.specs.Canon.{Canon, typed_entries}
-use Rattle.tn_discipline.specs.Characters.{standard_characters}
-use Rattle.tn_discipline.specs.declared.reads.Entry.{Entry}
+use Rattle.tn_discipline.specs.{Canon.{Canon, typed_entries}, Characters.standard_characters, declared.reads.Entry.Entry}
 use Rattle.tn_jobs.specs.Jobs.{Jobs}
-use Rattle.tn_two_sessions.proofs.Closing.{LeftLast, keys_messages, run_typed, tolds}
-use Rattle.tn_two_sessions.proofs.Hearing.{heard_all}
-use Rattle.tn_two_sessions.proofs.Joint.{Both}
+use Rattle.tn_two_sessions.proofs.{Closing.{LeftLast, keys_messages, run_typed, tolds}, Hearing.heard_all, Joint.Both, Tying.{AreTied, ties}}
 use Rattle.tn_two_sessions.proofs.Keys.{HaveKeys, first_of_all, keys_of-append, more_entries, typeable, typed_as}
 use Rattle.tn_two_sessions.proofs.Transcripts.{client-append, holds, one_read, one_wrote, server-append}
-use Rattle.tn_two_sessions.proofs.Tying.{AreTied, ties}
 use Rattle.tn_two_sessions.specs.OneLoop.{Happens, IsStart, LoopReads, ReadsAll, ServesOne, TellsOne, from_network, from_user, inputs_by, inputs_of}
 use Rattle.tn_two_sessions.specs.Transcripts.{HasKey, Step, served, told, server_steps, client_steps, IsCarried, IsInTime, keys_of}
-use Rattle.tn_two_sessions.specs.declared.one_loop.LoopEvent.{LoopEvent}
-use Rattle.tn_two_sessions.specs.declared.one_loop.LoopEvent.TheVariants.{Typed, Asked, ToServer, ToClient, Take, Said}
-use Rattle.tn_two_sessions.specs.declared.one_loop.Joined.{Joined}
-use Rattle.tn_machines.specs.Pieces.{bytes_in}
-use Rattle.tn_machines.specs.declared.messages.Message.{Message}
+use Rattle.tn_two_sessions.specs.declared.one_loop.{LoopEvent.{LoopEvent, TheVariants.{Typed, Asked, ToServer, ToClient, Take, Said}}, Joined.Joined}
 use Rattle.tn_machines.specs.declared.messages.Message.TheVariants as message
 use Rattle.tn_server.specs.Events as server
-use Rattle.tn_server.specs.Lines.{entries, waiting}
-use Rattle.tn_server.specs.declared.wishes.Editing.{Editing}
-use Rattle.tn_session.proofs.lemmas.Noting.{IsUpTo}
-use Rattle.tn_session.proofs.lemmas.Sessions.{client_stepped, server_stepped}
-use Rattle.tn_session.proofs.lemmas.Transcribing.{prefix_trans}
+use Rattle.tn_server.specs.{Lines.{entries, waiting}, declared.wishes.Editing.Editing}
+use Rattle.tn_session.proofs.lemmas.{Noting.IsUpTo, Sessions.{client_stepped, server_stepped}, Transcribing.prefix_trans}
 use Rattle.tn_session.specs.Client as of_client
 use Rattle.tn_session.specs.CoreTurns as cores
 use Rattle.tn_session.specs.Session as of_server
 use Rattle.tn_session.specs.Transcripts.{Exchange, IsStep, all_read, all_wrote, total}
 use Rattle.tn_session.specs.Turns as terms
 use Rattle.tn_streams.specs.Prefixes.{IsPrefixOf}
-use Rattle.tn_machines.proofs.lemmas.server.Giving.{puts_are_front, puts_are_given}
-use Rattle.tn_machines.proofs.lemmas.server.Hearing.{hears}
-use Rattle.tn_machines.specs.server.Giving.{entries_put}
-use Rattle.tn_machines.specs.server.Hearing.{heard}
 use Rattle.tn_machines.specs.server.Marks as term
 use Rattle.tn_machines.specs.server.Reaching as term_reach
 use Rattle.tn_machines.specs.server.Run as term_run
-use Rattle.tn_machines.specs.server.Run.{puts_of}
 use Rattle.tn_machines.specs.declared.server.messages.ServerMark as term_mark
 use Rattle.tn_machines.specs.declared.server.progress.ServerProgress as term_progress
-use Rattle.tn_machines.specs.declared.server.terminal.Term.{Term}
 use Rattle.tn_world.proofs.lemmas.Histories as histories
 use Rattle.tn_world.proofs.lemmas.Histories.{TiedHistories, keys_typed}
 

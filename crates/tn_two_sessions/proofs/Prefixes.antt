@@ -1,10 +1,9 @@
 -- The steps of each of two runs, in two parts of an order.
 use Rattle.std.proofs.Common.{◌≡◌, List, [], ◌∷◌, ◌++◌, refl, ap}
 use Rattle.tn_machines.specs.declared.client.messages.ClientMark as core_mark
-use Rattle.tn_machines.specs.declared.client.messages.Told.{Told}
+use Rattle.tn_machines.specs.declared.{client.messages.Told.Told, messages.Message.Message}
 use Rattle.tn_two_sessions.proofs.Joint.{Step, served, told, server_steps, client_steps}
 use Rattle.tn_machines.specs.declared.server.messages.ServerMark as term_mark
-use Rattle.tn_machines.specs.declared.messages.Message.{Message}
 
 pub server-append : (xs ys : List Step) → server_steps (xs ++ ys) ≡ server_steps xs ++ server_steps ys
 server-append [] ys = refl

@@ -4,29 +4,18 @@ use Rattle.std.specs.Io.KnownBytes.{Consumes}
 use Rattle.tn_client.specs.Events as client
 use Rattle.tn_client.specs.Replies as client_says
 use Rattle.tn_client.proofs.lemmas.Fitting.{sent-fits}
-use Rattle.tn_machines.specs.client.Bringing.{Input, inputs}
-use Rattle.tn_discipline.specs.Canon.{Canon, typed_entries}
-use Rattle.tn_discipline.specs.Characters.{standard_characters}
-use Rattle.tn_discipline.specs.declared.reads.Entry.{Entry}
-use Rattle.tn_two_sessions.proofs.Closing.{inputs_sent}
-use Rattle.tn_two_sessions.proofs.Hearing.{heard_all}
+use Rattle.tn_machines.specs.{client.Bringing.{Input, inputs}, declared.faults.Ended.TheVariants.HangUp}
+use Rattle.tn_discipline.specs.{Canon.{Canon, typed_entries}, Characters.standard_characters, declared.reads.Entry.Entry}
+use Rattle.tn_two_sessions.proofs.{Closing.inputs_sent, Hearing.heard_all, Transcripts.holds, Tying.{AreTied, ties}, Whole.goes_on_to_end}
 use Rattle.tn_two_sessions.proofs.Keys.{given_first, more_entries, one_list, keys_of-append, HaveKeys, typed_as, typeable, first_of_all, only_keys, none_told}
-use Rattle.tn_two_sessions.proofs.Transcripts.{holds}
-use Rattle.tn_two_sessions.proofs.Tying.{AreTied, ties}
-use Rattle.tn_two_sessions.proofs.Whole.{goes_on_to_end}
 use Rattle.tn_two_sessions.proofs.Joint.{Both, LinesAreLocal, client_said}
 use Rattle.tn_two_sessions.specs.Transcripts.{Served, Connected, IsCarried, RanToTheEnd, Headline, HasKey, keys_of, keys_at}
-use Rattle.tn_machines.specs.declared.faults.Ended.TheVariants.{HangUp}
 use Rattle.tn_server.specs.Events as server
 use Rattle.tn_server.specs.Lines.{entries}
-use Rattle.tn_session.proofs.lemmas.Plain.{plainly}
-use Rattle.tn_session.proofs.lemmas.Transcribing.{prefix_trans}
-use Rattle.tn_session.specs.Facts.{JobFacts}
-use Rattle.tn_workers.specs.Mailbox.{mail}
-use Rattle.tn_workers.specs.Reading.{pieces_in, told_messages}
-use Rattle.tn_session.specs.Transcripts.{all_wrote}
+use Rattle.tn_session.proofs.lemmas.{Plain.plainly, Transcribing.prefix_trans}
+use Rattle.tn_session.specs.{Facts.JobFacts, Transcripts.all_wrote, declared.parties.Report.Report}
+use Rattle.tn_workers.specs.{Mailbox.mail, Reading.{pieces_in, told_messages}}
 use Rattle.tn_workers.specs.declared.mail.Sender.TheVariants as who
-use Rattle.tn_session.specs.declared.parties.Report.{Report}
 use Rattle.tn_streams.specs.Prefixes.{IsPrefixOf}
 use Rattle.tn_machines.proofs.lemmas.server.Hearing.{hears}
 use Rattle.tn_world.proofs.lemmas.Histories as histories

@@ -2,21 +2,17 @@
 use Rattle.std.proofs.Common.{◌≡◌, ℕ, Bool, Option, Some, None, List, [], ◌∷◌, ◌++◌, refl, sym, ap, ◌∙◌, subst, map, append_assoc, append-nil}
 use Rattle.std.specs.List.{FoldsTo}
 use Rattle.tn_client.specs.Events as client
-use Rattle.tn_machines.proofs.lemmas.client.Bringing.{in_order}
-use Rattle.tn_machines.specs.client.Bringing.{brought}
+use Rattle.tn_machines.proofs.lemmas.{client.Bringing.in_order, server.Hearing.hears}
+use Rattle.tn_machines.specs.{client.Bringing.brought, declared.{client.messages.Told.Told, messages.Message.Message}, Pieces.bytes_in, server.Hearing.heard}
 use Rattle.tn_machines.specs.client.Marks as core
 use Rattle.tn_machines.specs.client.Run as core_run
 use Rattle.tn_machines.specs.declared.client.messages.ClientMark as core_mark
 use Rattle.tn_machines.specs.declared.client.messages.Origin.TheVariants as origin
-use Rattle.tn_machines.specs.declared.client.messages.Told.{Told}
 use Rattle.tn_discipline.specs.Canon.{Canon}
 use Rattle.tn_jobs.specs.Jobs.{Jobs}
-use Rattle.tn_two_sessions.proofs.Walking.{Ties, At, first, server_goes, client_goes, more_served, more_told, begun_at}
+use Rattle.tn_two_sessions.proofs.{Walking.{Ties, At, first, server_goes, client_goes, more_served, more_told, begun_at}, Joint.{Both, Runs}}
 use Rattle.tn_two_sessions.proofs.Joint as runs
-use Rattle.tn_two_sessions.proofs.Joint.{Both, Runs}
 use Rattle.tn_two_sessions.specs.Transcripts.{Step, served, told, server_steps, client_steps, IsInTime, IsCarried}
-use Rattle.tn_machines.specs.Pieces.{bytes_in}
-use Rattle.tn_machines.specs.declared.messages.Message.{Message}
 use Rattle.tn_server.specs.Events as server
 use Rattle.tn_server.specs.declared.wishes.Editing.{Editing}
 use Rattle.tn_session.proofs.lemmas.Transcribing.{prefix_trans, all_read-append, all_wrote-append}
@@ -24,8 +20,6 @@ use Rattle.tn_session.specs.Client as of_client
 use Rattle.tn_session.specs.Session as of_server
 use Rattle.tn_session.specs.Transcripts.{Exchange, Point, IsExchange, Transcribes, all_read, all_wrote}
 use Rattle.tn_streams.specs.Prefixes.{IsPrefixOf}
-use Rattle.tn_machines.proofs.lemmas.server.Hearing.{hears}
-use Rattle.tn_machines.specs.server.Hearing.{heard}
 use Rattle.tn_machines.specs.server.Run as term_run
 use Rattle.tn_machines.specs.declared.server.messages.ServerMark as term_mark
 

@@ -2,12 +2,10 @@
 -- key.
 use Rattle.std.proofs.Common.{◌≡◌, ℕ, length}
 use Rattle.tn_client.specs.Events as client
-use Rattle.tn_discipline.specs.Canon.{Canon}
-use Rattle.tn_discipline.specs.Characters.{standard_characters}
+use Rattle.tn_discipline.specs.{Canon.Canon, Characters.standard_characters}
 use Rattle.tn_two_sessions.proofs.Walking.{Ties}
 use Rattle.tn_server.specs.Events as server
-use Rattle.tn_server.specs.Screen.{queue}
-use Rattle.tn_server.specs.declared.wishes.Editing.{Editing}
+use Rattle.tn_server.specs.{Screen.queue, declared.wishes.Editing.Editing}
 use Rattle.tn_world.proofs.lemmas.Histories as histories
 use Rattle.tn_world.proofs.lemmas.Histories.{AreTypeable, TiedHistories}
 

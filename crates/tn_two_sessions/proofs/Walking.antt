@@ -5,28 +5,24 @@ use Rattle.tn_client.proofs.lemmas.Fitting.{sent-fits}
 use Rattle.tn_client.specs.Events as client
 use Rattle.tn_client.specs.Replies as client_says
 use Rattle.tn_client.specs.declared.commands.UserCommand.{UserCommand}
-use Rattle.tn_machines.proofs.lemmas.client.Bringing.{in_order}
+use Rattle.tn_machines.proofs.lemmas.{client.Bringing.in_order, server.Hearing.hears}
 use Rattle.tn_machines.specs.client.Marks as core
 use Rattle.tn_machines.specs.client.Run as core_run
 use Rattle.tn_machines.specs.declared.client.messages.ClientMark as core_mark
-use Rattle.tn_machines.specs.declared.client.messages.Told.{Told}
+use Rattle.tn_machines.specs.declared.{client.messages.Told.Told, messages.Message.Message}
 use Rattle.tn_discipline.specs.Canon.{Canon}
 use Rattle.tn_jobs.specs.Jobs.{Jobs}
-use Rattle.tn_session.proofs.lemmas.ClientTurns.{ClientAt, client_turns}
-use Rattle.tn_two_sessions.proofs.Prefixes.{server-append, client-append}
-use Rattle.tn_two_sessions.proofs.Hearing.{heard_first}
-use Rattle.tn_session.proofs.lemmas.ServerTurns.{server_turns}
+use Rattle.tn_session.proofs.lemmas.{ClientTurns.{ClientAt, client_turns}, ServerTurns.server_turns}
+use Rattle.tn_two_sessions.proofs.{Prefixes.{server-append, client-append}, Hearing.heard_first}
 use Rattle.tn_two_sessions.proofs.Joint.{Step, served, told, server_steps, client_steps, Both, began, Runs, IsInTime}
 use Rattle.tn_nvt.specs.declared.items.Item.{Item}
 use Rattle.tn_server.proofs.lemmas.Fitting.{sent-fit}
 use Rattle.tn_server.specs.Events as server
 use Rattle.tn_server.specs.Replies as server_says
 use Rattle.tn_server.specs.declared.wishes.Editing.{Editing}
-use Rattle.tn_machines.proofs.lemmas.server.Hearing.{hears}
 use Rattle.tn_machines.specs.server.Marks as term
 use Rattle.tn_machines.specs.server.Run as term_run
 use Rattle.tn_machines.specs.declared.server.messages.ServerMark as term_mark
-use Rattle.tn_machines.specs.declared.messages.Message.{Message}
 use Rattle.tn_streams.specs.Prefixes.{IsPrefixOf}
 
 -- WHAT IS NEEDED OF TWO HISTORIES: these hold of the opening, and each event of a terminal or a core keeps them, an

@@ -1,19 +1,12 @@
 -- Where a client's session ends without a fault, nothing stopped having its effect.
 use Rattle.std.proofs.Common.{◌≡◌, ℕ, Bool, true, false, List, [], ◌∷◌, refl, sym, ap, ◌∙◌, subst}
-use Rattle.tn_machines.specs.client.Marks.{Turns, Runs}
-use Rattle.tn_machines.specs.client.Run.{Run, Acts, ActsUnless, start}
-use Rattle.tn_machines.specs.declared.client.messages.ClientMark.{ClientMark}
-use Rattle.tn_machines.specs.declared.client.messages.ClientMark.TheVariants as mark
-use Rattle.tn_machines.specs.declared.client.messages.Origin.{Origin}
-use Rattle.tn_machines.specs.declared.client.messages.Origin.TheVariants.{Keys, Net}
-use Rattle.tn_machines.specs.declared.client.messages.Told.{Told}
-use Rattle.tn_machines.specs.Counting.{first_end}
-use Rattle.tn_machines.specs.declared.faults.Ended.{Ended}
-use Rattle.tn_machines.specs.declared.faults.Ended.TheVariants as ended
-use Rattle.tn_machines.specs.declared.faults.SessionFault.{SessionFault}
-use Rattle.tn_machines.specs.declared.faults.SessionFault.TheVariants as fault
-use Rattle.tn_machines.specs.declared.messages.Message.{Message}
+use Rattle.tn_machines.specs.{client.{Marks.{Turns, Runs}, Run.{Run, Acts, ActsUnless, start}}, declared.client.messages.{ClientMark.ClientMark, Origin.Origin}}
+use Rattle.tn_machines.specs.{declared.{client.messages.{Origin.TheVariants.{Keys, Net}, Told.Told}, faults.Ended.Ended}, Counting.first_end}
+use Rattle.tn_machines.specs.declared.{faults.SessionFault.SessionFault, messages.Message.Message}
 use Rattle.tn_machines.specs.declared.messages.Message.TheVariants.{Piece, HangUp, ReadFailed, Take, Said, Refused, Left, Resized, Asked}
+use Rattle.tn_machines.specs.declared.client.messages.ClientMark.TheVariants as mark
+use Rattle.tn_machines.specs.declared.faults.Ended.TheVariants as ended
+use Rattle.tn_machines.specs.declared.faults.SessionFault.TheVariants as fault
 
 -- WHAT FAILED IS TOLD
 abbrev ended_of : Run → Ended

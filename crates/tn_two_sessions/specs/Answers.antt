@@ -1,14 +1,12 @@
 -- When answers are written.
-use Rattle.std.specs.Prelude.{◌≡◌, ◌⊎◌, ℕ, None, Some, List, [], ◌∷◌, ◌++◌, length, map}
-use Rattle.std.specs.List.{FoldsTo}
+use Rattle.std.specs.{Prelude.{◌≡◌, ◌⊎◌, ℕ, None, Some, List, [], ◌∷◌, ◌++◌, length, map}, List.FoldsTo}
 use Rattle.tn_machines.specs.client.Marks as core
 use Rattle.tn_machines.specs.client.Run as core_run
 use Rattle.tn_discipline.specs.Canon.{Canon}
 use Rattle.tn_two_sessions.specs.Transcripts.{Served, Connected}
 use Rattle.tn_session.specs.Client as of_client
-use Rattle.tn_session.specs.Facts.{JobFacts}
+use Rattle.tn_session.specs.{Facts.JobFacts, Transcripts.{Exchange, all_wrote}}
 use Rattle.tn_session.specs.Session as of_server
-use Rattle.tn_session.specs.Transcripts.{Exchange, all_wrote}
 use Rattle.tn_machines.specs.server.Marks.{run_after_opening}
 use Rattle.tn_machines.specs.server.Run as term_run
 

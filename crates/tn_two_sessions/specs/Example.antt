@@ -1,11 +1,8 @@
 -- Two sessions that meet every premise of `Headline`, and have an entry: a line is typed at the client and
 -- taken at the server.
 use Rattle.std.specs.Prelude.{◌≡◌, All, [], ◌∷◌}
-use Rattle.tn_discipline.specs.Canon.{Canon}
-use Rattle.tn_discipline.specs.Characters.{standard_characters}
-use Rattle.tn_discipline.specs.Keys.{standard_flags}
-use Rattle.tn_discipline.specs.Limits.{standard_limit}
-use Rattle.tn_discipline.specs.declared.reads.Entry.TheVariants.{Text}
+use Rattle.tn_discipline.specs.{Canon.Canon, Characters.standard_characters, Keys.standard_flags}
+use Rattle.tn_discipline.specs.{Limits.standard_limit, declared.reads.Entry.TheVariants.Text}
 use Rattle.tn_two_sessions.specs.Transcripts.{Served, Connected, IsCarried, RanToTheEnd, HasKey}
 use Rattle.tn_server.specs.declared.wishes.Editing.{Editing}
 use Rattle.tn_session.specs.Facts.{JobFacts, job_facts}

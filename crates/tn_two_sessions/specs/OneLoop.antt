@@ -4,35 +4,25 @@ use Rattle.std.specs.Prelude.{◌≡◌, ◌<◌, ◌⊎◌, ℕ, IsFalse, All, 
 use Rattle.std.specs.List.{FoldsTo}
 use Rattle.tn_machines.specs.client.Reaching as core
 use Rattle.tn_machines.specs.client.Run as core_run
-use Rattle.tn_machines.specs.declared.client.machine.Core.{Core}
+use Rattle.tn_machines.specs.{declared.client.{machine.Core.Core, messages.Told.Told}, server.Run.puts_of}
+use Rattle.tn_machines.specs.{client.Bringing.{Input, inputs_in}, declared.messages.Message.Message}
+use Rattle.tn_machines.specs.{server.Giving.entries_put, declared.server.messages.Put.Put}
+use Rattle.tn_machines.specs.declared.server.terminal.Term.{Term}
 use Rattle.tn_machines.specs.declared.client.messages.ClientMark as core_mark
 use Rattle.tn_machines.specs.declared.client.messages.Origin.TheVariants as origin
-use Rattle.tn_machines.specs.declared.client.messages.Told.{Told}
-use Rattle.tn_discipline.specs.Canon.{Canon, typed_entries}
-use Rattle.tn_discipline.specs.Characters.{standard_characters}
+use Rattle.tn_discipline.specs.{Canon.{Canon, typed_entries}, Characters.standard_characters}
 use Rattle.tn_jobs.specs.Jobs.{Jobs}
-use Rattle.tn_machines.specs.client.Bringing.{Input, inputs_in}
-use Rattle.tn_two_sessions.specs.Transcripts.{HasKey, IsCarried, keys_of}
-use Rattle.tn_two_sessions.specs.declared.one_loop.LoopEvent.{LoopEvent}
+use Rattle.tn_two_sessions.specs.{Transcripts.{HasKey, IsCarried, keys_of}, declared.one_loop.Joined.Joined}
+use Rattle.tn_two_sessions.specs.declared.one_loop.LoopEvent.{LoopEvent, TheVariants.{Take, Said}}
 use Rattle.tn_two_sessions.specs.declared.one_loop.LoopEvent.TheVariants.{Typed, Asked, ToServer, ToClient}
-use Rattle.tn_two_sessions.specs.declared.one_loop.LoopEvent.TheVariants.{Take}
-use Rattle.tn_two_sessions.specs.declared.one_loop.LoopEvent.TheVariants.{Said}
-use Rattle.tn_two_sessions.specs.declared.one_loop.Joined.{Joined}
-use Rattle.tn_machines.specs.declared.messages.Message.{Message}
 use Rattle.tn_machines.specs.declared.messages.Message.TheVariants as message
 use Rattle.tn_nvt.specs.Spelling.{spells}
-use Rattle.tn_server.specs.Lines.{waiting}
-use Rattle.tn_server.specs.Replies.{items_said}
-use Rattle.tn_server.specs.declared.wishes.Editing.{Editing}
+use Rattle.tn_server.specs.{Lines.waiting, Replies.items_said, declared.wishes.Editing.Editing}
 use Rattle.tn_session.specs.Transcripts.{Exchange, all_read, all_wrote}
 use Rattle.tn_streams.specs.Prefixes.{IsPrefixOf}
-use Rattle.tn_machines.specs.server.Giving.{entries_put}
 use Rattle.tn_machines.specs.server.Reaching as term
 use Rattle.tn_machines.specs.server.Run as term_run
-use Rattle.tn_machines.specs.server.Run.{puts_of}
 use Rattle.tn_machines.specs.declared.server.messages.ServerMark as term_mark
-use Rattle.tn_machines.specs.declared.server.messages.Put.{Put}
-use Rattle.tn_machines.specs.declared.server.terminal.Term.{Term}
 
 -- both were started: the opening words are on their way to the client
 pub record IsStart (canon : Canon) (editing : Editing) (jobs : Jobs) (width height : ℕ)

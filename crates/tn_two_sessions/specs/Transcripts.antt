@@ -5,18 +5,14 @@ use Rattle.std.specs.Prelude.{◌≡◌, ℕ, IsTrue, ⊤, All, Option, Some, Li
 use Rattle.std.specs.Prelude.{option_to_list}
 use Rattle.tn_client.specs.declared.commands.UserCommand.TheVariants.{Brk, Ip}
 use Rattle.tn_machines.specs.client.Bringing.{Input, key_typed, command_sent, line_entered}
-use Rattle.tn_nvt.specs.Spelling.{lf}
-use Rattle.tn_discipline.specs.Canon.{Canon, typed_entries}
-use Rattle.tn_discipline.specs.Characters.{standard_characters}
-use Rattle.tn_discipline.specs.declared.termios.Settings.{Settings}
 use Rattle.tn_machines.specs.declared.faults.Ended.TheVariants.{HangUp}
+use Rattle.tn_nvt.specs.Spelling.{lf}
+use Rattle.tn_discipline.specs.{Canon.{Canon, typed_entries}, Characters.standard_characters}
+use Rattle.tn_discipline.specs.declared.termios.Settings.{Settings}
 use Rattle.tn_server.specs.declared.wishes.Editing.{Editing}
-use Rattle.tn_session.specs.Client.{RunningClient}
-use Rattle.tn_session.specs.Facts.{ClientResult, JobFacts, SessionResult}
-use Rattle.tn_session.specs.Session.{RunningSession}
-use Rattle.tn_session.specs.Transcripts.{Exchange, all_read, all_wrote}
-use Rattle.tn_streams.specs.Known.{KnownReader, KnownTyping, KnownWriting}
-use Rattle.tn_streams.specs.Prefixes.{IsPrefixOf}
+use Rattle.tn_session.specs.{Client.RunningClient, Facts.{ClientResult, JobFacts, SessionResult}}
+use Rattle.tn_session.specs.{Session.RunningSession, Transcripts.{Exchange, all_read, all_wrote}}
+use Rattle.tn_streams.specs.{Known.{KnownReader, KnownTyping, KnownWriting}, Prefixes.IsPrefixOf}
 
 -- A server's session that ran, with a terminal of this canon: what `serve_session` promises of what it
 -- returned.

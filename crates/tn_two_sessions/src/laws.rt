@@ -2,12 +2,10 @@
 
 ghost use Rattle.std.specs.Prelude.{ℕ};
 ghost use Rattle.tn_discipline.specs.Canon.{Canon};
-ghost use Rattle.tn_two_sessions.specs.Answers.{AnswersOfServer, AnswersOfClient};
+ghost use Rattle.tn_two_sessions.specs.{Answers.{AnswersOfServer, AnswersOfClient}, OneLoop.LoopReads};
 ghost use Rattle.tn_two_sessions.specs.Example.{SessionsCarryALine};
-ghost use Rattle.tn_two_sessions.specs.OneLoop.{LoopReads};
 ghost use Rattle.tn_two_sessions.specs.Transcripts.{Headline, Served, Connected};
-ghost use Rattle.tn_session.specs.Facts.{job_facts};
-ghost use Rattle.tn_session.specs.Makers.{begins};
+ghost use Rattle.tn_session.specs.{Facts.job_facts, Makers.begins};
 ghost use Rattle.tn_server.specs.declared.wishes.Editing.{Editing};
 
 use tn_session::Maker;

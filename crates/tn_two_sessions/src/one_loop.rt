@@ -8,8 +8,7 @@
 //! joined.happen(alloc, Event::Take)?; // the entries that the foreground job gets are put in `puts`
 //! ```
 
-ghost use Rattle.std.specs.Prelude.{◌≡◌, ◌<◌, ◌++◌, OnErr, OnOk, IfOk, IfErr, length};
-ghost use Rattle.std.specs.List.{FoldsTo};
+ghost use Rattle.std.specs.{Prelude.{◌≡◌, ◌<◌, ◌++◌, OnErr, OnOk, IfOk, IfErr, length}, List.FoldsTo};
 ghost use Rattle.tn_two_sessions.specs.OneLoop.{Happens, IsRefused, IsStart, ServesNone, ServesOne, StopsIn};
 ghost use Rattle.tn_two_sessions.specs.OneLoop.{TellsNone, TellsOne, TakesFirst};
 ghost use Rattle.tn_machines.specs.server.Run.{puts_of};

@@ -1,20 +1,11 @@
 -- The thread that reads takes a credit for each piece, and that of the background jobs uses one for each step.
 use Rattle.std.proofs.Common.{◌≡◌, ℕ, ◌+◌, List, [], ◌∷◌, ◌++◌, Option, Some, None, refl, sym, ap, ◌∙◌, subst, arith, length, length-append, map}
 use Rattle.std.proofs.lemmas.List.{map-append}
-use Rattle.tn_jobs.specs.declared.held_jobs.JobId.{JobId}
-use Rattle.tn_jobs.specs.declared.reactions.Reaction.{Reaction}
-use Rattle.tn_machines.specs.declared.messages.Message.{Message}
-use Rattle.tn_machines.specs.declared.messages.Message.TheVariants.{Piece, HangUp, ReadFailed, Take, Said, Refused, Left, Resized, Asked}
-use Rattle.tn_workers.specs.Credits.{HaveUsed, HaveTaken, piece_one, pieces_among, steps_among}
-use Rattle.tn_workers.specs.Mailbox.{mail, sender}
-use Rattle.tn_workers.specs.Reader.{SaysAll, sends}
-use Rattle.tn_workers.specs.Reading.{IsEnding, Telling, piece_told, size_told, control_told, told_messages, pieces_in}
-use Rattle.tn_workers.specs.Stepping.{step_said}
-use Rattle.tn_workers.specs.declared.channels.View.{View}
-use Rattle.tn_workers.specs.declared.credit.CreditSeat.{CreditSeat}
-use Rattle.tn_workers.specs.declared.credit.StepCredits.{StepCredits}
-use Rattle.tn_workers.specs.declared.mail.Mail.{Mail}
-use Rattle.tn_workers.specs.declared.mail.Sender.{Sender}
+use Rattle.tn_jobs.specs.declared.{held_jobs.JobId.JobId, reactions.Reaction.Reaction}
+use Rattle.tn_machines.specs.declared.messages.Message.{Message, TheVariants.{Piece, HangUp, ReadFailed, Take, Said, Refused, Left, Resized, Asked}}
+use Rattle.tn_workers.specs.{Credits.{HaveUsed, HaveTaken, piece_one, pieces_among, steps_among}, Mailbox.{mail, sender}, Reader.{SaysAll, sends}}
+use Rattle.tn_workers.specs.{Reading.{IsEnding, Telling, piece_told, size_told, control_told, told_messages, pieces_in}, Stepping.step_said}
+use Rattle.tn_workers.specs.declared.{channels.View.View, credit.{CreditSeat.CreditSeat, StepCredits.StepCredits}, mail.{Mail.Mail, Sender.Sender}}
 use Rattle.tn_workers.specs.declared.mail.Sender.TheVariants.{Net, Desk, Back, Keys}
 use Rattle.tn_workers.proofs.lemmas.Readers.{IsSaid, Says, if_said, said, said_all, said_piece, pieces-push}
 

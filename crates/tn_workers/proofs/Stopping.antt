@@ -1,9 +1,7 @@
 -- The seat of one that may be told to stop, before and after it is looked at.
 use Rattle.std.proofs.Common.{◌≡◌, Bool, true, Option, Some, None, refl, sym, ap, ◌∙◌, subst}
-use Rattle.crossbeam_channel.specs.Claims.{view, IsSeatAt}
-use Rattle.crossbeam_channel.specs.Ends.{receives_on}
-use Rattle.tn_workers.specs.Stops.{StopHand, StopsStay, TakesStop, has_stopped, took_some}
-use Rattle.tn_workers.specs.declared.stops.StopSeat.{StopSeat}
+use Rattle.crossbeam_channel.specs.{Claims.{view, IsSeatAt}, Ends.receives_on}
+use Rattle.tn_workers.specs.{Stops.{StopHand, StopsStay, TakesStop, has_stopped, took_some}, declared.stops.StopSeat.StopSeat}
 
 -- after it was looked at
 pub seat_stays : (old : Option StopSeat) (seat new : StopSeat) (took : Bool) → old ≡ Some seat → new.from ≡ seat.from → IsSeatAt (receives_on new.from) new.pass

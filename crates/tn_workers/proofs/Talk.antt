@@ -1,13 +1,8 @@
 -- The desk's turns, one after another.
-use Rattle.std.proofs.Common.{◌≡◌, List, [], ◌∷◌, ◌++◌, Some}
-use Rattle.std.proofs.lemmas.List.{map-append}
-use Rattle.std.proofs.lemmas.Grind.{flat_map-append}
-use Rattle.std.proofs.lemmas.Fn.{FoldsTo-push}
+use Rattle.std.proofs.{Common.{◌≡◌, List, [], ◌∷◌, ◌++◌, Some}, lemmas.{List.map-append, Grind.flat_map-append, Fn.FoldsTo-push}}
 use Rattle.tn_discipline.specs.declared.reads.Entry.{Entry}
-use Rattle.tn_jobs.specs.declared.reactions.Reaction.{Reaction}
-use Rattle.tn_jobs.specs.declared.verdicts.After.TheVariants.{Done}
+use Rattle.tn_jobs.specs.declared.{reactions.Reaction.Reaction, verdicts.After.TheVariants.Done, held_jobs.JobId.JobId}
 use Rattle.tn_machines.specs.declared.messages.Message.TheVariants.{Take, Said}
-use Rattle.tn_jobs.specs.declared.held_jobs.JobId.{JobId}
 use Rattle.tn_workers.specs.Talk.{turn_said, turns_said, Answers, entries_of, ends_done}
 
 pub turns_said-push : (id : JobId) (turns : List (Entry × Reaction)) (e : Entry) (r : Reaction)

@@ -1,28 +1,17 @@
 -- Where a thread that reads stands, between two of its reads.
 use Rattle.std.proofs.Common.{◌≡◌, ℕ, ◌+◌, Bool, true, All, Option, Some, None, List, [], ◌∷◌, ◌++◌, length, refl, sym, subst, ◌∙◌, ◌⊎◌, ⊎_elim}
 use Rattle.std.proofs.lemmas.List.Elements.{All-nil, All-push}
-use Rattle.std.specs.Io.KnownBytes.{Consumes}
-use Rattle.std.specs.List.{concat}
-use Rattle.tn_workers.proofs.Counting.{taken_none, taken_piece, paid_ends, paid_stops}
-use Rattle.tn_workers.proofs.Reading.{consumes_piece, consumes_end, come_piece, come_interrupted, cause_on}
-use Rattle.tn_workers.proofs.lemmas.Readers.{Says, said_piece, said_beside, beside, pieces-beside, sizes-beside, controls-beside, pieces-push, sizes-push}
-use Rattle.tn_workers.proofs.lemmas.Readers.{controls-push, is_said, tells_none, tells_next, reader_ends, reader_stops}
+use Rattle.std.specs.{Io.KnownBytes.Consumes, List.concat}
+use Rattle.tn_workers.proofs.{Counting.{taken_none, taken_piece, paid_ends, paid_stops}, Reading.{consumes_piece, consumes_end, come_piece, come_interrupted}}
+use Rattle.tn_workers.proofs.{Reading.cause_on, lemmas.Readers.{Says, said_piece, said_beside, beside, pieces-beside, sizes-beside, controls-beside}}
+use Rattle.tn_workers.proofs.lemmas.Readers.{pieces-push, sizes-push, controls-push, is_said, tells_none, tells_next, reader_ends, reader_stops}
 use Rattle.tn_jobs.specs.declared.held_jobs.JobId.{JobId}
-use Rattle.tn_workers.specs.Credits.{HaveTaken, pieces_among}
-use Rattle.tn_workers.specs.Mailbox.{sender}
-use Rattle.tn_workers.specs.Reader.{TypingSends, SaysBeside, SaysEnd, SaysLast, sends}
+use Rattle.tn_workers.specs.{Credits.{HaveTaken, pieces_among}, Mailbox.sender, Reader.{TypingSends, SaysBeside, SaysEnd, SaysLast, sends}}
 use Rattle.tn_workers.specs.Reading.{IsEnding, IsPiece, IsReadCause, max_reads, Telling, piece_told, told_messages, pieces_in, sizes_in, controls_in}
-use Rattle.tn_workers.specs.declared.channels.View.{View}
-use Rattle.tn_workers.specs.declared.credit.CreditSeat.{CreditSeat}
-use Rattle.tn_workers.specs.declared.mail.Mail.{Mail}
-use Rattle.tn_workers.specs.declared.mail.Sender.{Sender}
-use Rattle.tn_machines.specs.declared.messages.Message.{Message}
-use Rattle.tn_machines.specs.declared.messages.Message.TheVariants.{Piece, ReadFailed, Refused, Left}
+use Rattle.tn_workers.specs.declared.{channels.View.View, credit.CreditSeat.CreditSeat, mail.{Mail.Mail, Sender.Sender}}
+use Rattle.tn_machines.specs.declared.messages.Message.{Message, TheVariants.{Piece, ReadFailed, Refused, Left}}
 use Rattle.tn_streams.proofs.lemmas.Foretelling.{come_none, come_passed}
-use Rattle.tn_streams.specs.Foretelling.{Failures, HasCome}
-use Rattle.tn_streams.specs.Beside.{TellsList}
-use Rattle.tn_streams.specs.Known.{KnownTyping}
-use Rattle.tn_streams.specs.declared.control.Control.{Control}
+use Rattle.tn_streams.specs.{Foretelling.{Failures, HasCome}, Beside.TellsList, Known.KnownTyping, declared.control.Control.Control}
 use Rattle.tn_streams.specs.declared.window.WindowSize.{WindowSize}
 
 -- After so many reads: what the thread told of what its reader gave, and the credits that it took.

@@ -2,16 +2,10 @@
 -- sends, and the one of the background jobs uses one for each step that it says.
 use Rattle.std.specs.Prelude.{◌≡◌, ℕ, Bool, true, false, ◌+◌, ◌≤◌, List, Option, Some, None, [], ◌∷◌, ◌++◌}
 use Rattle.std.specs.Prelude.{length, ⊤}
-use Rattle.crossbeam_channel.specs.Claims.{view, IsSeatAt}
-use Rattle.crossbeam_channel.specs.Ends.{receives_on}
-use Rattle.tn_machines.specs.declared.messages.Message.{Message}
-use Rattle.tn_machines.specs.declared.messages.Message.TheVariants.{Piece, Said}
-use Rattle.tn_workers.specs.declared.credit.Credit.{Credit}
-use Rattle.tn_workers.specs.declared.credit.CreditSeat.{CreditSeat}
-use Rattle.tn_workers.specs.declared.credit.StepCredits.{StepCredits}
-use Rattle.tn_workers.specs.declared.credit.CreditTally.{CreditTally}
-use Rattle.tn_workers.specs.declared.mail.Mail.{Mail}
-use Rattle.tn_workers.specs.declared.mail.Sender.{Sender}
+use Rattle.crossbeam_channel.specs.{Claims.{view, IsSeatAt}, Ends.receives_on}
+use Rattle.tn_machines.specs.declared.messages.Message.{Message, TheVariants.{Piece, Said}}
+use Rattle.tn_workers.specs.declared.credit.{Credit.Credit, CreditSeat.CreditSeat, StepCredits.StepCredits}
+use Rattle.tn_workers.specs.declared.{credit.CreditTally.CreditTally, mail.{Mail.Mail, Sender.Sender}}
 use Rattle.tn_workers.specs.declared.mail.Sender.TheVariants.{Back}
 
 abbrev pub none_taken : CreditTally

@@ -1,10 +1,8 @@
 -- Interleavings, and the rule of the mailbox.
 use Rattle.std.specs.Prelude.{◌≡◌, Bool, true, false, List, Option, Some, None, [], ◌∷◌, ◌++◌, filter}
-use Rattle.tn_workers.specs.declared.mail.Sender.{Sender}
-use Rattle.tn_workers.specs.declared.mail.Sender.TheVariants.{Net, Desk, Back, Keys}
-use Rattle.tn_machines.specs.declared.messages.Message.{Message}
-use Rattle.tn_workers.specs.declared.mail.Mail.{Mail}
+use Rattle.tn_workers.specs.declared.mail.{Sender.{Sender, TheVariants.{Net, Desk, Back, Keys}}, Mail.Mail}
 use Rattle.tn_workers.specs.declared.channels.View.{View}
+use Rattle.tn_machines.specs.declared.messages.Message.{Message}
 
 abbrev pub same : Sender → Sender → Bool
 same Net Net = true

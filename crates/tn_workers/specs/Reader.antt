@@ -1,23 +1,13 @@
 -- What a thread that reads sends, whichever it is.
 use Rattle.std.specs.Prelude.{◌≡◌, ◌≢◌, ℕ, Bool, IsTrue, List, Option, None, Some, [], ◌∷◌, ◌++◌, ◌⊎◌, length}
-use Rattle.std.specs.Prelude.{map}
-use Rattle.std.specs.Prelude.{option_to_list, All}
-use Rattle.std.specs.Io.KnownBytes.{Consumes}
-use Rattle.std.specs.List.{concat}
-use Rattle.tn_jobs.specs.declared.held_jobs.JobId.{JobId}
-use Rattle.tn_jobs.specs.declared.verdicts.After.TheVariants.{Stay}
-use Rattle.tn_workers.specs.Mailbox.{mail, sender}
-use Rattle.tn_workers.specs.Reading.{IsEnding, IsPiece, IsReadCause, Telling, size_told, control_told}
-use Rattle.tn_workers.specs.Reading.{told_messages, pieces_in, sizes_in, controls_in}
-use Rattle.tn_workers.specs.declared.channels.View.{View}
-use Rattle.tn_workers.specs.declared.mail.Sender.{Sender}
-use Rattle.tn_streams.specs.Beside.{IsOneOf, TellsNext, TellsFirst}
-use Rattle.tn_streams.specs.Known.{KnownReader, KnownTyping}
-use Rattle.tn_workers.specs.declared.mail.Mail.{Mail}
-use Rattle.tn_streams.specs.declared.control.Control.{Control}
-use Rattle.tn_streams.specs.declared.window.WindowSize.{WindowSize}
-use Rattle.tn_machines.specs.declared.messages.Message.{Message}
-use Rattle.tn_machines.specs.declared.messages.Message.TheVariants.{HangUp, Said, Refused, Left}
+use Rattle.std.specs.{Prelude.{map, option_to_list, All}, Io.KnownBytes.Consumes, List.concat}
+use Rattle.tn_jobs.specs.declared.{held_jobs.JobId.JobId, verdicts.After.TheVariants.Stay}
+use Rattle.tn_workers.specs.{Mailbox.{mail, sender}, Reading.{IsEnding, IsPiece, IsReadCause, Telling}}
+use Rattle.tn_workers.specs.Reading.{size_told, control_told, told_messages, pieces_in, sizes_in, controls_in}
+use Rattle.tn_workers.specs.declared.{channels.View.View, mail.{Sender.Sender, Mail.Mail}}
+use Rattle.tn_streams.specs.{Beside.{IsOneOf, TellsNext, TellsFirst}, Known.{KnownReader, KnownTyping}}
+use Rattle.tn_streams.specs.declared.{control.Control.Control, window.WindowSize.WindowSize}
+use Rattle.tn_machines.specs.declared.messages.Message.{Message, TheVariants.{HangUp, Said, Refused, Left}}
 
 -- a text that is said as this job's, or none
 abbrev pub said_by : JobId → List ℕ → List Message

@@ -1,14 +1,11 @@
 -- What a thread that reads takes from its reader.
 use Rattle.std.specs.Prelude.{ℕ, ◌<◌, ◌≤◌, List, Option, [], ◌∷◌, length, map, ⊤}
 use Rattle.std.specs.Io.KnownBytes.{Consumes, IsAtEnd}
-use Rattle.tn_streams.specs.Foretelling.{Failures, HasCome, WillFail}
-use Rattle.tn_workers.specs.declared.reader.Got.{Got}
-use Rattle.tn_workers.specs.declared.reader.Got.TheVariants.{Bytes, Again, Last}
-use Rattle.tn_machines.specs.declared.messages.Message.{Message}
-use Rattle.tn_machines.specs.declared.messages.Message.TheVariants.{Piece, HangUp, ReadFailed, Refused}
-use Rattle.tn_machines.specs.declared.messages.Message.TheVariants.{Resized, Asked}
-use Rattle.tn_streams.specs.declared.control.Control.{Control}
+use Rattle.tn_streams.specs.{Foretelling.{Failures, HasCome, WillFail}, declared.control.Control.Control}
 use Rattle.tn_streams.specs.declared.window.WindowSize.{WindowSize}
+use Rattle.tn_workers.specs.declared.reader.Got.{Got, TheVariants.{Bytes, Again, Last}}
+use Rattle.tn_machines.specs.declared.messages.Message.{Message, TheVariants.{Resized, Asked}}
+use Rattle.tn_machines.specs.declared.messages.Message.TheVariants.{Piece, HangUp, ReadFailed, Refused}
 
 -- how the reading ended; after a hang-up nothing is left
 abbrev pub IsEnding : Message → Option (List ℕ) → Type 0

@@ -1,19 +1,12 @@
 -- What the thread of the background jobs sends.
 use Rattle.std.specs.Prelude.{◌≡◌, ℕ, ◌==◌, Bool, true, IsTrue, false, Option, Some, None, List, [], ◌∷◌}
-use Rattle.std.specs.Prelude.{◌++◌, ◌⊎◌, map, if◌then◌else◌}
-use Rattle.std.specs.List.{FoldsTo}
-use Rattle.tn_jobs.specs.Judging.{judged}
-use Rattle.tn_jobs.specs.declared.held_jobs.JobId.{JobId}
-use Rattle.tn_jobs.specs.declared.reactions.Reaction.{Reaction}
-use Rattle.tn_jobs.specs.declared.verdicts.JobState.{JobState}
+use Rattle.std.specs.{Prelude.{◌++◌, ◌⊎◌, map, if◌then◌else◌}, List.FoldsTo}
+use Rattle.tn_jobs.specs.{Judging.judged, declared.{held_jobs.JobId.JobId, reactions.Reaction.Reaction}}
+use Rattle.tn_jobs.specs.declared.verdicts.{JobState.JobState, Verdict.Verdict}
 use Rattle.tn_jobs.specs.declared.verdicts.JobState.TheVariants as job
-use Rattle.tn_jobs.specs.declared.verdicts.Verdict.{Verdict}
-use Rattle.tn_workers.specs.declared.mail.Sender.TheVariants.{Back}
-use Rattle.tn_workers.specs.declared.channels.View.{View}
-use Rattle.tn_workers.specs.Acts.{JobActs}
+use Rattle.tn_workers.specs.{declared.{mail.Sender.TheVariants.Back, channels.View.View}, Acts.JobActs}
 use Rattle.tn_workers.specs.Mailbox.{mail, sender}
-use Rattle.tn_machines.specs.server.Run.{has_text}
-use Rattle.tn_machines.specs.declared.messages.Message.{Message}
+use Rattle.tn_machines.specs.{server.Run.has_text, declared.messages.Message.Message}
 use Rattle.tn_machines.specs.declared.messages.Message.TheVariants.{Said, Refused, Left}
 
 -- a job's number, and what it did

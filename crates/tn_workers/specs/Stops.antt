@@ -1,11 +1,8 @@
 -- The word to stop, as the one that is told it takes it.
 use Rattle.std.specs.Prelude.{◌≡◌, Bool, true, IsTrue, false, Option, Some, None, List, ◌∷◌, ⊤}
-use Rattle.crossbeam_channel.specs.Claims.{view, IsSeatAt}
-use Rattle.crossbeam_channel.specs.Ends.{receives_on}
-use Rattle.tn_queue.specs.Queue.{taker}
-use Rattle.tn_queue.specs.declared.Hand.{Hand}
-use Rattle.tn_workers.specs.declared.stops.Stop.{Stop}
-use Rattle.tn_workers.specs.declared.stops.StopSeat.{StopSeat}
+use Rattle.crossbeam_channel.specs.{Claims.{view, IsSeatAt}, Ends.receives_on}
+use Rattle.tn_queue.specs.{Queue.taker, declared.Hand.Hand}
+use Rattle.tn_workers.specs.declared.stops.{Stop.Stop, StopSeat.StopSeat}
 
 abbrev pub StopHand : Type 0
 StopHand = Hand Stop

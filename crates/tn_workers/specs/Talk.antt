@@ -2,17 +2,12 @@
 use Rattle.std.specs.Prelude.{◌≡◌, List, Option, Some, None, [], ◌∷◌, ◌++◌, ◌⊎◌, map, flat_map}
 use Rattle.std.specs.List.{FoldsTo}
 use Rattle.tn_discipline.specs.declared.reads.Entry.{Entry}
-use Rattle.tn_jobs.specs.declared.reactions.Reaction.{Reaction}
-use Rattle.tn_jobs.specs.declared.held_jobs.JobId.{JobId}
-use Rattle.tn_machines.specs.declared.messages.Message.{Message}
-use Rattle.tn_machines.specs.declared.messages.Message.TheVariants.{Take, Said, Refused, Left}
-use Rattle.tn_workers.specs.declared.mail.Sender.TheVariants.{Desk}
+use Rattle.tn_jobs.specs.declared.{reactions.Reaction.Reaction, held_jobs.JobId.JobId}
 use Rattle.tn_jobs.specs.declared.verdicts.After.TheVariants.{Done}
-use Rattle.tn_workers.specs.declared.channels.View.{View}
-use Rattle.tn_workers.specs.EntryChannel.{EntryHand}
+use Rattle.tn_machines.specs.declared.messages.Message.{Message, TheVariants.{Take, Said, Refused, Left}}
+use Rattle.tn_workers.specs.{declared.{mail.Sender.TheVariants.Desk, channels.View.View}, Acts.JobActs}
+use Rattle.tn_workers.specs.{EntryChannel.EntryHand, Mailbox.{mail, sender}}
 use Rattle.tn_queue.specs.Queue.{taker}
-use Rattle.tn_workers.specs.Acts.{JobActs}
-use Rattle.tn_workers.specs.Mailbox.{mail, sender}
 
 -- an entry, and what the job answered
 abbrev pub turn_said : JobId → Entry × Reaction → List Message

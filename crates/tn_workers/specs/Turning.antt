@@ -1,12 +1,9 @@
 -- The background jobs that run, in a queue.
 use Rattle.std.specs.Prelude.{◌≡◌, ℕ, Bool, true, IsTrue, false, None, List, [], ◌∷◌, ◌++◌, ◌⊎◌}
 use Rattle.std.specs.List.{FoldsTo}
-use Rattle.tn_jobs.specs.declared.held_jobs.JobId.{JobId}
-use Rattle.tn_workers.specs.Acts.{JobActs}
-use Rattle.tn_workers.specs.declared.back.Runner.{Runner}
-use Rattle.tn_workers.specs.declared.back.Turn.{Turn}
+use Rattle.tn_jobs.specs.declared.{held_jobs.JobId.JobId, reactions.Reaction.Reaction}
+use Rattle.tn_workers.specs.{Acts.JobActs, declared.back.{Runner.Runner, Turn.Turn}}
 use Rattle.tn_workers.specs.declared.back.Turn.TheVariants.{Idle, Refused, Did}
-use Rattle.tn_jobs.specs.declared.reactions.Reaction.{Reaction}
 use Rattle.tn_workers.specs.Stepping.{IsIn, AreBy, Steps, BackJobs, LeavesLast, reactions_of, stays}
 
 abbrev pub ids_of : {J : Type 0} → List (Runner J) → List ℕ

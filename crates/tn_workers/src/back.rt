@@ -1,18 +1,13 @@
 //! The thread of the background jobs: each steps in turn.
 
 ghost use Rattle.std.specs.Prelude.{◌≡◌, List, [], ◌++◌, ◌∷◌, IfSome};
-ghost use Rattle.crossbeam_channel.specs.Claims.{view, IsSeatAt};
-ghost use Rattle.crossbeam_channel.specs.Ends.{sends_on, receives_on};
-ghost use Rattle.tn_workers.specs.Acts.{job_acts};
-ghost use Rattle.tn_workers.specs.Credits.{HaveUsed, steps_among};
-ghost use Rattle.tn_workers.specs.Mailbox.{sender};
-ghost use Rattle.tn_workers.specs.Stepping.{AreSteps, is_background, leaves_in_background};
-ghost use Rattle.tn_workers.specs.Stops.{StopsStay, has_stopped};
+ghost use Rattle.crossbeam_channel.specs.{Claims.{view, IsSeatAt}, Ends.{sends_on, receives_on}};
+ghost use Rattle.tn_workers.specs.{Acts.job_acts, Turning.{Holds, IsQueue, queue_of, TakesTurn}};
+ghost use Rattle.tn_workers.specs.{Credits.{HaveUsed, steps_among}, Stops.{StopsStay, has_stopped}};
+ghost use Rattle.tn_workers.specs.{Mailbox.sender, Stepping.{AreSteps, is_background, leaves_in_background}};
+ghost use Rattle.tn_workers.specs.declared.mail.{Mail.Mail as MailT, Sender.TheVariants.Back};
 ghost use Rattle.tn_jobs.specs.Judging.{judged};
 ghost use Rattle.tn_jobs.specs.declared.verdicts.JobState.TheVariants as state;
-ghost use Rattle.tn_workers.specs.Turning.{Holds, IsQueue, queue_of, TakesTurn};
-ghost use Rattle.tn_workers.specs.declared.mail.Mail.{Mail as MailT};
-ghost use Rattle.tn_workers.specs.declared.mail.Sender.TheVariants.{Back};
 
 use crate::channels::MailSeat;
 use crate::credit::StepCredits;

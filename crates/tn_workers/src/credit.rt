@@ -1,8 +1,7 @@
 //! A thread takes a credit for each piece that it sends, or for each step that it says.
 
 ghost use Rattle.std.specs.Prelude.{◌≡◌, IfSome};
-ghost use Rattle.crossbeam_channel.specs.Claims.{IsSeatAt};
-ghost use Rattle.crossbeam_channel.specs.Ends.{receives_on};
+ghost use Rattle.crossbeam_channel.specs.{Claims.IsSeatAt, Ends.receives_on};
 ghost use Rattle.tn_workers.specs.Credits.{AnyTally, HaveTaken, HaveUsed, IsSeated, none_taken};
 ghost use Rattle.tn_workers.specs.Credits.{one_given, one_taken};
 

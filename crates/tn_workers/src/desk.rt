@@ -1,14 +1,11 @@
 //! The thread of the foreground job.
 
 ghost use Rattle.std.specs.Prelude.{◌≡◌, List, Option, [], ◌++◌, ◌∷◌, IfSome, Some, None, map};
-ghost use Rattle.crossbeam_channel.specs.Claims.{view, IsSeatAt};
-ghost use Rattle.crossbeam_channel.specs.Ends.{sends_on, receives_on};
+ghost use Rattle.crossbeam_channel.specs.{Claims.{view, IsSeatAt}, Ends.{sends_on, receives_on}};
 ghost use Rattle.tn_discipline.specs.declared.reads.Entry.{Entry as EntryT};
-ghost use Rattle.tn_workers.specs.Acts.{job_acts};
-ghost use Rattle.tn_workers.specs.Mailbox.{sender};
-ghost use Rattle.tn_queue.specs.Queue.{taker};
-ghost use Rattle.tn_workers.specs.Talk.{IsJob, IsTalk};
+ghost use Rattle.tn_workers.specs.{Acts.job_acts, Mailbox.sender, Talk.{IsJob, IsTalk}};
 ghost use Rattle.tn_workers.specs.declared.mail.Sender.TheVariants.{Desk};
+ghost use Rattle.tn_queue.specs.Queue.{taker};
 
 use crate::channels::MailSeat;
 use crate::entries::EntrySeat;

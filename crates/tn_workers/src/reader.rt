@@ -1,15 +1,11 @@
 //! The threads that read: one from the network, and in a client's session one the keys.
 
 ghost use Rattle.std.specs.Prelude.{◌≡◌, ◌⊎◌, List, [], IfOk, IfSome, option_to_list};
-ghost use Rattle.crossbeam_channel.specs.Claims.{view, IsSeatAt};
-ghost use Rattle.crossbeam_channel.specs.Ends.{sends_on};
-ghost use Rattle.tn_workers.specs.Credits.{HaveTaken, IsSeated, pieces_among};
-ghost use Rattle.tn_workers.specs.Mailbox.{sender};
-ghost use Rattle.tn_workers.specs.Reader.{TypingSends, SaysSize, SaysControl, SaysBeside};
-ghost use Rattle.tn_workers.specs.Reader.{SaysAll, SaysEnd, SaysLast};
-ghost use Rattle.tn_workers.specs.Reading.{Gives, IsForetold};
-ghost use Rattle.tn_workers.specs.Stops.{StopsStay, has_stopped};
-ghost use Rattle.tn_workers.specs.declared.mail.Mail.{Mail as MailT};
+ghost use Rattle.crossbeam_channel.specs.{Claims.{view, IsSeatAt}, Ends.sends_on};
+ghost use Rattle.tn_workers.specs.{Credits.{HaveTaken, IsSeated, pieces_among}, Mailbox.sender};
+ghost use Rattle.tn_workers.specs.Reader.{TypingSends, SaysSize, SaysControl, SaysBeside, SaysAll, SaysEnd};
+ghost use Rattle.tn_workers.specs.{Reader.SaysLast, Reading.{Gives, IsForetold}};
+ghost use Rattle.tn_workers.specs.{Stops.{StopsStay, has_stopped}, declared.mail.Mail.Mail as MailT};
 ghost use Rattle.tn_streams.specs.Known.{known_typing};
 
 use crate::channels::{MailPass, MailSeat, MailSender};

@@ -1,19 +1,13 @@
 -- Where nothing is in flight and no end has failed, the options of both ends agree.
 use Rattle.std.proofs.Common.{◌≡◌, ℕ, Some, List, [], refl, subst}
 use Rattle.tn_nvt.specs.declared.items.Item.{Item}
-use Rattle.tn_option.specs.EnginePair.{LeadTo}
-use Rattle.tn_option.specs.Options.{known_option}
-use Rattle.tn_option.specs.declared.known.Known.{Known}
-use Rattle.tn_option.specs.declared.known.Known.TheVariants.{Echo, SuppressGoAhead, Naws, Linemode}
+use Rattle.tn_option.specs.{EnginePair.LeadTo, Options.known_option, declared.known.Known.{Known, TheVariants.{Echo, SuppressGoAhead, Naws, Linemode}}}
 use Rattle.tn_option.specs.declared.q_method.Side.{Side}
 use Rattle.tn_option.proofs.lemmas.Agreement.{LeadTo-agree, moves-LeadTo}
 use Rattle.tn_server.proofs.lemmas.Words.{opening_leads}
 use Rattle.tn_server.specs.Terms as server_terms
 use Rattle.tn_client.specs.Terms as client_terms
-use Rattle.tn_world.specs.Agreement.{AgreeOn, OptionsAgree}
-use Rattle.tn_world.specs.Flight.{InFlight}
-use Rattle.tn_world.specs.Headline.{NoneFailed, NothingInFlight}
-use Rattle.tn_world.specs.Past.{HasPast, engines, opening_pair}
+use Rattle.tn_world.specs.{Agreement.{AgreeOn, OptionsAgree}, Flight.InFlight, Headline.{NoneFailed, NothingInFlight}, Past.{HasPast, engines, opening_pair}}
 use Rattle.tn_world.specs.Worlds.{World}
 use Rattle.tn_world.proofs.Cut.{no_items}
 

@@ -1,39 +1,29 @@
 -- The invariant of a world after each event, in the words of the calls that it makes.
 use Rattle.std.proofs.Common.{◌++◌, ◌≡◌, ◌≢◌, inl, ℕ, Bool, true, false, if◌then◌else◌, Some, None, List, [], take, drop, Vec, refl, sym, ap, ◌∙◌, subst}
 use Rattle.std.proofs.lemmas.List.Elements.{All-nil}
-use Rattle.tn_discipline.specs.Canon.{Canon}
-use Rattle.tn_discipline.specs.declared.reads.Entry.{Entry}
-use Rattle.tn_nvt.specs.Spelling.{spells}
-use Rattle.tn_nvt.specs.Feeding.{LeadsTo}
+use Rattle.tn_discipline.specs.{Canon.Canon, declared.reads.Entry.Entry}
+use Rattle.tn_nvt.specs.{Spelling.spells, Feeding.LeadsTo}
 use Rattle.tn_option.specs.Options.{Options, new_options}
 use Rattle.tn_option.proofs.lemmas.Agreement.{same-Moves}
 use Rattle.tn_linemode.specs.OptionWords.{words_in}
 use Rattle.tn_server.specs.Course as server_courses
-use Rattle.tn_server.specs.Terms.{Terms, opening_options}
+use Rattle.tn_server.specs.{Terms.{Terms, opening_options}, Replies.opening, declared.faults.ServerFault.ServerFault}
 use Rattle.tn_client.specs.Terms as client_terms
 use Rattle.tn_server.specs.Events as server_calls
-use Rattle.tn_server.specs.Replies.{opening}
 use Rattle.tn_server.specs.Answering as server_answers
 use Rattle.tn_server.specs.Calls as server
 use Rattle.tn_server.specs.Steps as server_steps
 use Rattle.tn_server.specs.Faults as faults
-use Rattle.tn_server.specs.declared.faults.ServerFault.{ServerFault}
 use Rattle.tn_server.specs.declared.faults.ServerFault.TheVariants as server_faults
-use Rattle.tn_server.proofs.lemmas.Fitting.{sent-fit}
-use Rattle.tn_server.proofs.lemmas.Wanting.{says_something}
+use Rattle.tn_server.proofs.lemmas.{Fitting.sent-fit, Wanting.says_something}
 use Rattle.tn_client.specs.Course as client_courses
 use Rattle.tn_client.specs.Events as client_calls
 use Rattle.tn_client.specs.Calls as client
 use Rattle.tn_client.specs.Answering as answers
-use Rattle.tn_client.specs.Steps.{end_after, says, SaysOrShows}
-use Rattle.tn_client.specs.declared.commands.UserCommand.{UserCommand}
-use Rattle.tn_client.specs.declared.faults.ClientFault.{ClientFault}
+use Rattle.tn_client.specs.{Steps.{end_after, says, SaysOrShows}, declared.{commands.UserCommand.UserCommand, faults.ClientFault.ClientFault}}
 use Rattle.tn_client.specs.declared.faults.ClientFault.TheVariants as client_faults
-use Rattle.tn_world.specs.Past.{HasPast, opening_pair, WishesNothing}
-use Rattle.tn_world.specs.Flight.{InFlight}
-use Rattle.tn_world.specs.Opened.{IsOpened}
+use Rattle.tn_world.specs.{Past.{HasPast, opening_pair, WishesNothing}, Flight.InFlight, Opened.IsOpened, declared.events.Event.TheVariants.Resize}
 use Rattle.tn_world.specs.Worlds.{World, server_fault, client_fault, ServerRefusesCall, ClientRefusesCall, ClientRefusesEvent}
-use Rattle.tn_world.specs.declared.events.Event.TheVariants.{Resize}
 use Rattle.tn_world.proofs.Cut.{said_behind, start}
 use Rattle.tn_world.proofs.Soundness.{Lead, made, asked_sound, told_sound, sound_as, sound_reaches, sound_returns, propose_goes_on, breaks_sound, again_sound}
 

@@ -2,44 +2,22 @@
 -- is in flight to it, and the client.
 use Rattle.std.proofs.Common.{◌≡◌, ◌≤◌, inl, inr, ℕ, ◌+◌, ◌==◌, Bool, true, false, not, ◌&&◌, Option, Some, None, List, [], ◌∷◌, ◌++◌, length, refl, sym, ap, ◌∙◌, if◌then◌else◌, subst}
 use Rattle.std.proofs.Common.{arith, append-nil, append_assoc, length-append}
-use Rattle.tn_codes.specs.declared.codes.Command.TheVariants.{Ip}
-use Rattle.tn_codes.specs.declared.codes.Verb.TheVariants.{Will}
+use Rattle.tn_codes.specs.declared.{codes.{Command.TheVariants.Ip, Verb.TheVariants.Will}, masks.Mask.Mask}
 use Rattle.tn_discipline.specs.declared.keys.Role.TheVariants as role
-use Rattle.tn_discipline.specs.declared.reads.Entry.{Entry}
+use Rattle.tn_discipline.specs.{declared.reads.{Entry.Entry, Sig.TheVariants.Int}, Admitted.{is_dropped, next_count, count_after}, Canon.{Canon, typed_half}}
+use Rattle.tn_discipline.specs.{Limits.max_counted, Steps.{half_after, half_next, gain_next}, declared.termios.Settings.Settings, HalfLine.HalfLine}
+use Rattle.tn_discipline.specs.Keys.{role_of_key, roles_of, standard_flags, mapped_key, signal_of, role_by_signal, role_or_ignored, roles_from}
+use Rattle.tn_discipline.specs.{Characters.{Characters, is_set_to}, declared.{keys.Role.Role, reads.Sig.Sig}}
 use Rattle.tn_discipline.specs.declared.reads.Entry.TheVariants as entry
-use Rattle.tn_discipline.specs.declared.reads.Sig.TheVariants.{Int}
-use Rattle.tn_discipline.specs.Admitted.{is_dropped}
-use Rattle.tn_discipline.specs.Canon.{Canon, typed_half}
-use Rattle.tn_discipline.specs.Limits.{max_counted}
-use Rattle.tn_discipline.specs.Steps.{half_after, half_next, gain_next}
-use Rattle.tn_discipline.specs.Keys.{role_of_key, roles_of}
-use Rattle.tn_discipline.specs.declared.termios.Settings.{Settings}
 use Rattle.tn_discipline.proofs.lemmas.Histories.{half_of-fits, length_by_test}
 use Rattle.tn_server.specs.Terms.{allows_local}
-use Rattle.tn_nvt.specs.Spelling.{lf}
-use Rattle.tn_client.specs.Lines.{settings_by}
-use Rattle.tn_discipline.specs.Admitted.{next_count, count_after}
-use Rattle.tn_discipline.specs.Characters.{Characters, is_set_to}
-use Rattle.tn_codes.specs.declared.masks.Mask.{Mask}
-use Rattle.tn_discipline.specs.HalfLine.{HalfLine}
-use Rattle.tn_discipline.specs.Keys.{standard_flags, mapped_key, signal_of, role_by_signal, role_or_ignored, roles_from}
-use Rattle.tn_discipline.specs.declared.keys.Role.{Role}
-use Rattle.tn_discipline.specs.declared.reads.Sig.{Sig}
+use Rattle.tn_nvt.specs.{Spelling.lf, declared.items.Item.TheVariants.{Byte, Newline, Cmd, Neg, Sub}}
+use Rattle.tn_client.specs.{Lines.{settings_by, role_of_typed}, Calls.End, Replies.{raw_items, typed_items, edit_items, byte_items, end_of_edit_items}}
+use Rattle.tn_client.specs.{Steps.{role_now, line_typed, end_after_key, says_key, says_new_line, with_mode, line_left, count_left, count_told}, Terms.linemode}
 use Rattle.tn_linemode.specs.Modes.{edits, traps}
-use Rattle.tn_nvt.specs.declared.items.Item.TheVariants.{Byte, Newline, Cmd, Neg, Sub}
-use Rattle.tn_client.specs.Calls.{End}
-use Rattle.tn_client.specs.Lines.{role_of_typed}
-use Rattle.tn_client.specs.Replies.{raw_items, typed_items, edit_items, byte_items, end_of_edit_items}
-use Rattle.tn_client.specs.Steps.{role_now, line_typed, end_after_key, says_key, says_new_line, with_mode, line_left, count_left, count_told}
-use Rattle.tn_client.specs.Terms.{linemode}
 use Rattle.tn_client.proofs.lemmas.Keying.{end_by, says_by}
-use Rattle.tn_world.specs.relation.Calm.{Mode, bits, remote_mode, local_mode, IsAskable}
-use Rattle.tn_world.specs.relation.Pictures.{Server}
-use Rattle.tn_world.proofs.Machine.{read, read_all}
-use Rattle.tn_world.specs.relation.Pictures.{ClientStays}
-use Rattle.tn_world.proofs.Reading.{read-bytes_then, half-typed, entries-typed}
-use Rattle.tn_world.proofs.Typing.{Follows, literal_key, key-follows}
-use Rattle.tn_world.specs.relation.Relation.{Agrees, server_at}
+use Rattle.tn_world.specs.relation.{Calm.{Mode, bits, remote_mode, local_mode, IsAskable}, Pictures.{Server, ClientStays}, Relation.{Agrees, server_at}}
+use Rattle.tn_world.proofs.{Machine.{read, read_all}, Reading.{read-bytes_then, half-typed, entries-typed}, Typing.{Follows, literal_key, key-follows}}
 
 pub local_of : (s : Settings) (m : Mode) → IsAskable s m → m.edit ≡ true → (allows_local s.flags ≡ true) × (m ≡ local_mode s)
 local_of s m (inl p) e = absurd (let q : m.edit ≡ false = ap (λ (n : Mode). n.edit) p in cc)

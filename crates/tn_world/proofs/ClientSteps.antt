@@ -1,55 +1,31 @@
 -- What the steps of a client end say and keep: calm items that fit a stream, and the relation of both ends.
-use Rattle.std.proofs.Common.{◌≡◌, ◌⊎◌, inl, inr, ◌<◌, ℕ, suc, ◌==◌, nat_le, Bool, true, false, not, ◌&&◌, ◌||◌, Option, Some, None, List}
-use Rattle.std.proofs.Common.{[], ◌∷◌, ◌++◌, length, refl, sym, ap, ◌∙◌, if◌then◌else◌, subst, arith, append-nil, append_assoc}
-use Rattle.std.specs.Prelude.{All, bit_or}
-use Rattle.std.proofs.lemmas.Bool.{eqb-true}
+use Rattle.std.proofs.Common.{◌≡◌, ◌⊎◌, inl, inr, ◌<◌, ℕ, suc, ◌==◌, nat_le, Bool, true, false, not, ◌&&◌, ◌||◌, Option, Some, None, List, [], ◌∷◌, ◌++◌}
+use Rattle.std.proofs.{Common.{length, refl, sym, ap, ◌∙◌, if◌then◌else◌, subst, arith, append-nil, append_assoc}, lemmas.{Bool.eqb-true, Nat.and_assoc}}
 use Rattle.std.proofs.lemmas.List.Elements.{All-nil, All-head, All-tail, All-append}
-use Rattle.std.proofs.lemmas.Nat.{and_assoc}
-use Rattle.tn_codes.specs.Payloads.{parameters_of}
-use Rattle.tn_codes.specs.PayloadOf.{payload_of}
-use Rattle.tn_codes.specs.declared.codes.Verb.{Verb}
-use Rattle.tn_codes.specs.declared.codes.Verb.TheVariants.{Will, DoIt}
-use Rattle.tn_codes.specs.declared.codes.Command.TheVariants as command
-use Rattle.tn_codes.specs.declared.masks.Mask.{Mask}
+use Rattle.std.specs.Prelude.{All, bit_or}
+use Rattle.tn_codes.specs.{Payloads.parameters_of, PayloadOf.payload_of, declared.{codes.Verb.{Verb, TheVariants.{Will, DoIt}}, masks.Mask.Mask}}
 use Rattle.tn_codes.specs.declared.payloads.Payload.{Payload}
+use Rattle.tn_codes.specs.declared.codes.Command.TheVariants as command
 use Rattle.tn_codes.specs.declared.payloads.Payload.TheVariants as payload
-use Rattle.tn_discipline.specs.Canon.{Canon}
-use Rattle.tn_discipline.specs.Characters.{standard_characters}
-use Rattle.tn_discipline.specs.declared.reads.Entry.{Entry}
+use Rattle.tn_discipline.specs.{Canon.Canon, Characters.standard_characters, declared.reads.Entry.Entry}
 use Rattle.tn_linemode.specs.Modes.{edits, mode_of, is_acknowledged, client_mask_after, mode_answer, traps}
 use Rattle.tn_linemode.specs.Words.{differ, word_items, payload_items, mode_items}
-use Rattle.tn_nvt.specs.Spelling.{lf, Fits}
-use Rattle.tn_nvt.specs.declared.items.Item.{Item}
-use Rattle.tn_nvt.specs.declared.items.Item.TheVariants.{Byte, Newline, Cmd, Neg, Sub}
-use Rattle.tn_option.specs.Options.{Options, options_after_word, reply_to, state_of, is_yes}
-use Rattle.tn_option.specs.declared.q_method.QState.TheVariants.{Yes}
-use Rattle.tn_option.specs.declared.q_method.Side.TheVariants.{Us}
+use Rattle.tn_nvt.specs.{Spelling.{lf, Fits}, declared.items.Item.{Item, TheVariants.{Byte, Newline, Cmd, Neg, Sub}}, Feeding.DecoderState}
+use Rattle.tn_option.specs.{Options.{Options, options_after_word, reply_to, state_of, is_yes}, declared.q_method.{QState.TheVariants.Yes, Side.TheVariants.Us}}
 use Rattle.tn_server.proofs.lemmas.Terms.{differ_self}
-use Rattle.tn_client.specs.Answering.{IsStopCause}
-use Rattle.tn_client.specs.Calls.{End}
-use Rattle.tn_client.specs.Replies.{sent_as, size_items}
-use Rattle.tn_client.specs.Replies.{new_size_items, payload_answers, answer_items, end_of_edit_items, is_same_size}
-use Rattle.tn_client.specs.Steps.{role_now, end_after_key, says_typed, says_key, says_new_line, with_mode, end_after_item, says_got, says_resize, end_after_items, says_items}
+use Rattle.tn_client.specs.{Answering.IsStopCause, Calls.End, Steps.{end_after_items, says_items}}
+use Rattle.tn_client.specs.Replies.{sent_as, size_items, new_size_items, payload_answers, answer_items, end_of_edit_items, is_same_size}
+use Rattle.tn_client.specs.Steps.{role_now, end_after_key, says_typed, says_key, says_new_line, with_mode, end_after_item, says_got, says_resize}
 use Rattle.tn_client.specs.Terms.{linemode, tells_size, payload_at, options_after, mode_by, mode_at, chars_by}
-use Rattle.tn_client.proofs.lemmas.Gathering.{says_both}
-use Rattle.tn_client.proofs.lemmas.Standings.{typed_limit, left_limit}
-use Rattle.tn_client.proofs.lemmas.Stopping.{front_said}
-use Rattle.tn_nvt.specs.Feeding.{DecoderState}
-use Rattle.tn_world.specs.relation.Calm.{bits, IsAskable}
-use Rattle.tn_world.specs.relation.Pictures.{Server}
-use Rattle.tn_world.proofs.Machine.{read_all}
-use Rattle.tn_world.specs.relation.Calm.{IsCalmToServer, IsCalmToClient}
-use Rattle.tn_world.proofs.Machine.{AreSaid, SaysItems}
-use Rattle.tn_world.specs.relation.Pictures.{IsOffOrOn, ClientStays}
-use Rattle.tn_world.specs.relation.Relation.{Agrees}
-use Rattle.tn_world.proofs.Changing.{taken-agrees, beside-agrees, turned-agrees}
+use Rattle.tn_client.proofs.lemmas.{Gathering.says_both, Standings.{typed_limit, left_limit}, Stopping.front_said}
+use Rattle.tn_world.specs.relation.{Calm.{bits, IsAskable, IsCalmToServer, IsCalmToClient}, Pictures.{Server, IsOffOrOn, ClientStays}, Relation.Agrees}
+use Rattle.tn_world.proofs.{Machine.{read_all, AreSaid, SaysItems}, Changing.{taken-agrees, beside-agrees, turned-agrees}, Reading.read_all-append}
+use Rattle.tn_world.proofs.{Engines.{client_turned, consent, client_consents, word_agrees, word_keeps_state}, Saying.{small, is-ack, key_all}}
+use Rattle.tn_world.proofs.ClientWrites.{writes-none, writes-one, writes-append, writes-bytes, writes-hushed, read-other, writes-if, word-keeps, size-writes}
+use Rattle.tn_world.proofs.ClientWrites.{word-answered, word-mode, IsChatter, chatter-mode, chatter-chars, chatter-answered, chatter-if, forward_of}
+use Rattle.tn_world.proofs.ClientWrites.{forward-answered, Forwards, Asks, Tells, calm-kinds, table_if, table-at, table-mode, table-chars, table-answered}
+use Rattle.tn_world.proofs.ClientWrites.{said-mode, said-forward}
 use Rattle.tn_world.proofs.Changing as changing
-use Rattle.tn_world.proofs.Engines.{client_turned, consent, client_consents, word_agrees, word_keeps_state}
-use Rattle.tn_world.proofs.Reading.{read_all-append}
-use Rattle.tn_world.proofs.Saying.{small, is-ack, key_all}
-use Rattle.tn_world.proofs.ClientWrites.{writes-none, writes-one, writes-append, writes-bytes, writes-hushed, read-other, writes-if, word-keeps, size-writes, word-answered}
-use Rattle.tn_world.proofs.ClientWrites.{word-mode, IsChatter, chatter-mode, chatter-chars, chatter-answered, chatter-if, forward_of, forward-answered}
-use Rattle.tn_world.proofs.ClientWrites.{Forwards, Asks, Tells, calm-kinds, table_if, table-at, table-mode, table-chars, table-answered, said-mode, said-forward}
 
 -- MASKS
 -- SOFT_TAB and LIT_ECHO of a mask do not count

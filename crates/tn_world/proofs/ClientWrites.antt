@@ -1,37 +1,20 @@
 -- What a client end writes, and what that says to a server.
 use Rattle.std.proofs.Common.{◌≡◌, ◌⊎◌, inl, inr, ℕ, ◌==◌, Bool, true, false, not, ◌&&◌, ◌||◌, Option, Some, None, List, [], ◌∷◌, ◌++◌, length, nat_le, ◌≤◌}
-use Rattle.std.proofs.Common.{refl, sym, ap, ◌∙◌, if◌then◌else◌, subst, arith, append-nil}
-use Rattle.std.proofs.lemmas.Bool.Decides.{nat_tests}
-use Rattle.std.specs.Prelude.{All}
+use Rattle.std.proofs.{Common.{refl, sym, ap, ◌∙◌, if◌then◌else◌, subst, arith, append-nil}, lemmas.Bool.Decides.nat_tests}
 use Rattle.std.proofs.lemmas.List.Elements.{All-nil, All-cons, All-head, All-tail, All-append}
-use Rattle.tn_codes.specs.Payloads.{parameters_of}
-use Rattle.tn_codes.specs.PayloadOf.{payload_of}
-use Rattle.tn_codes.specs.declared.codes.Verb.{Verb}
-use Rattle.tn_codes.specs.declared.masks.Mask.{Mask}
-use Rattle.tn_codes.specs.declared.payloads.Payload.{Payload}
+use Rattle.std.specs.Prelude.{All}
+use Rattle.tn_codes.specs.{Payloads.parameters_of, PayloadOf.payload_of, declared.{codes.Verb.Verb, masks.Mask.Mask, payloads.Payload.Payload}}
 use Rattle.tn_codes.specs.declared.payloads.Payload.TheVariants as payload
 use Rattle.tn_codes.proofs.lemmas.Telling.{says}
-use Rattle.tn_discipline.specs.Canon.{Canon}
-use Rattle.tn_discipline.specs.Characters.{Characters, standard_characters}
-use Rattle.tn_discipline.specs.declared.reads.Entry.{Entry}
-use Rattle.tn_discipline.specs.declared.termios.Settings.{Settings}
-use Rattle.tn_linemode.specs.Exchange.{announcement, answers_along, client_after, client_answers}
-use Rattle.tn_linemode.specs.Modes.{is_acknowledged}
-use Rattle.tn_nvt.specs.Spelling.{Fits}
-use Rattle.tn_nvt.specs.declared.items.Item.{Item}
-use Rattle.tn_nvt.specs.declared.items.Item.TheVariants.{Byte, Neg, Sub}
-use Rattle.tn_option.specs.Options.{Options, options_after_word, reply_to, is_yes}
-use Rattle.tn_option.specs.declared.q_method.Side.TheVariants.{Us}
-use Rattle.tn_client.specs.Terms.{linemode, tells_size, payload_at, mode_by, mode_at, chars_by}
+use Rattle.tn_discipline.specs.{Canon.Canon, Characters.{Characters, standard_characters}, declared.{reads.Entry.Entry, termios.Settings.Settings}}
+use Rattle.tn_linemode.specs.{Exchange.{announcement, answers_along, client_after, client_answers}, Modes.is_acknowledged}
 use Rattle.tn_linemode.specs.Words.{differ, word_items, list_items}
+use Rattle.tn_nvt.specs.{Spelling.Fits, declared.items.Item.{Item, TheVariants.{Byte, Neg, Sub}}}
+use Rattle.tn_option.specs.{Options.{Options, options_after_word, reply_to, is_yes}, declared.q_method.Side.TheVariants.Us}
+use Rattle.tn_client.specs.Terms.{linemode, tells_size, payload_at, mode_by, mode_at, chars_by}
 use Rattle.tn_client.specs.Replies.{byte_items, size_items, new_size_items, payload_answers, answer_items}
-use Rattle.tn_world.specs.relation.Calm.{bits, IsAskable}
-use Rattle.tn_world.specs.relation.Pictures.{Server}
-use Rattle.tn_world.proofs.Machine.{read, read_all}
-use Rattle.tn_world.specs.relation.Calm.{IsCalmToServer, AsksCalmly}
-use Rattle.tn_world.proofs.Machine.{SaysItems}
-use Rattle.tn_world.proofs.Engines.{reply_made, word_keeps_state}
-use Rattle.tn_world.proofs.Reading.{read_all-append}
+use Rattle.tn_world.specs.relation.{Calm.{bits, IsAskable, IsCalmToServer, AsksCalmly}, Pictures.Server}
+use Rattle.tn_world.proofs.{Machine.{read, read_all, SaysItems}, Engines.{reply_made, word_keeps_state}, Reading.read_all-append}
 
 -- WHAT IS WRITTEN
 -- what these items say to any server, part by part

@@ -1,11 +1,8 @@
 -- Whole items in flight stay whole items, however they are delivered.
 use Rattle.std.proofs.Common.{◌≡◌, ℕ, List, [], ◌++◌, take, drop, sym, ◌∙◌, subst, append_assoc, append-nil}
-use Rattle.std.specs.Prelude.{All}
 use Rattle.std.proofs.lemmas.List.{take-append-drop, append_cancel_left}
-use Rattle.tn_nvt.specs.declared.items.Item.{Item}
-use Rattle.tn_nvt.specs.Spelling.{spells, Fits}
-use Rattle.tn_nvt.specs.Stream.{Reading}
-use Rattle.tn_nvt.specs.Feeding.{DecoderState, LeadsTo, Advances}
+use Rattle.std.specs.Prelude.{All}
+use Rattle.tn_nvt.specs.{declared.items.Item.Item, Spelling.{spells, Fits}, Stream.Reading, Feeding.{DecoderState, LeadsTo, Advances}}
 use Rattle.tn_nvt.proofs.lemmas.Reading.{one_reading, reads_none, reads_all_written, delivers}
 use Rattle.tn_world.specs.Flight.{InFlight}
 

@@ -7,8 +7,7 @@ use Rattle.tn_client.specs.declared.faults.ClientFault.TheVariants as client_fau
 use Rattle.tn_pty.specs.declared.pty.PtyFault.TheVariants.{Closed}
 use Rattle.tn_server.specs.Answering as server_answers
 use Rattle.tn_server.specs.Calls as server
-use Rattle.tn_server.specs.Faults.{IsOfItem, IsOfPiece}
-use Rattle.tn_server.specs.declared.faults.ServerFault.{ServerFault}
+use Rattle.tn_server.specs.{Faults.{IsOfItem, IsOfPiece}, declared.faults.ServerFault.ServerFault}
 use Rattle.tn_server.specs.declared.faults.ServerFault.TheVariants as server_faults
 use Rattle.tn_world.specs.Worlds.{World, UnlessStopped, DeliversToServer, DeliversToClient, ServerRefusesDelivery, ClientRefusesDelivery}
 

@@ -1,26 +1,16 @@
 -- What the words on LINEMODE do to the engine of an end, and what a word on another option leaves.
 use Rattle.std.proofs.Common.{◌≡◌, ◌≢◌, inl, ℕ, ◌==◌, Bool, true, false, Option, Some, None, [], ◌∷◌, refl, sym, ◌∙◌, subst}
-use Rattle.std.specs.Prelude.{All}
 use Rattle.std.proofs.lemmas.List.Elements.{All-nil, All-cons}
-use Rattle.tn_codes.specs.declared.codes.Verb.{Verb}
-use Rattle.tn_codes.specs.declared.codes.Verb.TheVariants.{Will, DoIt}
+use Rattle.std.specs.Prelude.{All}
+use Rattle.tn_codes.specs.declared.codes.Verb.{Verb, TheVariants.{Will, DoIt}}
 use Rattle.tn_discipline.specs.declared.termios.Flags.{Flags}
-use Rattle.tn_server.specs.declared.wishes.Editing.{Editing}
-use Rattle.tn_nvt.specs.declared.items.Item.{Item}
-use Rattle.tn_nvt.specs.declared.items.Item.TheVariants.{Neg, Sub}
-use Rattle.tn_option.specs.QMethod.{cell, side_of, cause_of, wish_for, word_on, word_off, word_of_answer, result_of_answer}
-use Rattle.tn_option.specs.Options.{known_option, cell_now, word_now, answer_now, answer_to}
-use Rattle.tn_option.specs.declared.known.Known.{Known}
-use Rattle.tn_option.specs.declared.q_method.Answer.{Answer}
+use Rattle.tn_server.specs.{declared.wishes.Editing.Editing, Replies.{asked_word_items, echo_items}}
+use Rattle.tn_nvt.specs.declared.items.Item.{Item, TheVariants.{Neg, Sub}}
+use Rattle.tn_option.specs.{QMethod.{cell, side_of, cause_of, wish_for, word_on, word_off, word_of_answer, result_of_answer}, declared.known.Known.Known}
+use Rattle.tn_option.specs.Options.{known_option, cell_now, word_now, answer_now, answer_to, Options, new_options, options_after_word, options_after_wish}
+use Rattle.tn_option.specs.{Options.{reply_to, state_of, is_yes, agrees_to}, declared.q_method.{Answer.Answer, OptionEvent.{OptionEvent, TheVariants.HeardOn}}}
+use Rattle.tn_option.specs.declared.q_method.{Side.{Side, TheVariants.{Us, Them}}, QState.{QState, TheVariants.{No, Yes, WantYesEmpty}}}
 use Rattle.tn_option.specs.declared.q_method.Answer.TheVariants as answer
-use Rattle.tn_option.specs.declared.q_method.OptionEvent.{OptionEvent}
-use Rattle.tn_server.specs.Replies.{asked_word_items, echo_items}
-use Rattle.tn_option.specs.Options.{Options, new_options, options_after_word, options_after_wish, reply_to, state_of, is_yes, agrees_to}
-use Rattle.tn_option.specs.declared.q_method.OptionEvent.TheVariants.{HeardOn}
-use Rattle.tn_option.specs.declared.q_method.Side.{Side}
-use Rattle.tn_option.specs.declared.q_method.Side.TheVariants.{Us, Them}
-use Rattle.tn_option.specs.declared.q_method.QState.{QState}
-use Rattle.tn_option.specs.declared.q_method.QState.TheVariants.{No, Yes, WantYesEmpty}
 use Rattle.tn_option.proofs.lemmas.OptionLaws.{LeavesOthers-moved, AgreesAsBefore-moved}
 use Rattle.tn_linemode.specs.Words.{word_items}
 use Rattle.tn_server.specs.Events as server_calls

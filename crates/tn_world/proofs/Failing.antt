@@ -1,58 +1,32 @@
 -- What holds once an end has failed: the entries that were made still begin those that the keys give.
 use Rattle.std.proofs.Common.{◌≡◌, inl, inr, ℕ, Bool, true, false, Option, Some, None, List, [], ◌∷◌, ◌++◌, take, drop, refl, sym, ap, ◌∙◌, if◌then◌else◌}
-use Rattle.std.proofs.Common.{subst, append-nil, append_assoc}
+use Rattle.std.proofs.{Common.{subst, append-nil, append_assoc}, lemmas.List.{take-append-drop, Elements.All-append}}
 use Rattle.std.specs.Prelude.{All, option_to_list}
-use Rattle.std.proofs.lemmas.List.{take-append-drop}
-use Rattle.std.proofs.lemmas.List.Elements.{All-append}
-use Rattle.tn_discipline.specs.Canon.{Canon}
-use Rattle.tn_discipline.specs.Keys.{role_of_key}
-use Rattle.tn_discipline.specs.Steps.{gain_next}
-use Rattle.tn_discipline.specs.Canon.{typed_half}
-use Rattle.tn_discipline.specs.declared.reads.Entry.{Entry}
-use Rattle.tn_nvt.specs.declared.items.Item.{Item}
-use Rattle.tn_nvt.specs.Spelling.{lf, Fits}
-use Rattle.tn_nvt.specs.Stream.{Reading}
-use Rattle.tn_nvt.specs.Feeding.{DecoderState, Advances}
+use Rattle.tn_discipline.specs.{Canon.{Canon, typed_half}, Keys.role_of_key, Steps.gain_next, declared.reads.Entry.Entry}
+use Rattle.tn_nvt.specs.{declared.items.Item.Item, Spelling.{lf, Fits, spells}, Stream.Reading, Feeding.{DecoderState, Advances}}
 use Rattle.tn_nvt.proofs.lemmas.Reading.{delivers}
 use Rattle.tn_server.specs.Events as server_calls
-use Rattle.tn_server.specs.Faults.{IsOfItem, IsOfPiece}
+use Rattle.tn_server.specs.{Faults.{IsOfItem, IsOfPiece}, Steps.{end_after as end_there, says as says_there, end_after_items as end_all_there}}
+use Rattle.tn_server.specs.declared.faults.ServerFault.{ServerFault}
 use Rattle.tn_server.specs.Answering as server_answers
 use Rattle.tn_server.specs.Calls as server
-use Rattle.tn_server.specs.Steps.{end_after as end_there, says as says_there, end_after_items as end_all_there}
 use Rattle.tn_server.proofs.lemmas.Gathering.{call_keeps}
-use Rattle.tn_server.specs.declared.faults.ServerFault.{ServerFault}
 use Rattle.tn_server.specs.declared.faults.ServerFault.TheVariants as server_faults
 use Rattle.tn_client.specs.Course as client_courses
 use Rattle.tn_client.specs.Events as client_calls
 use Rattle.tn_client.specs.Calls as client
-use Rattle.tn_client.specs.declared.faults.ClientFault.{ClientFault}
+use Rattle.tn_client.specs.{declared.{faults.ClientFault.ClientFault, commands.UserCommand.UserCommand}, Steps.{end_after_items, says_items}}
 use Rattle.tn_client.specs.declared.faults.ClientFault.TheVariants as client_faults
-use Rattle.tn_world.specs.Flight.{InFlight}
-use Rattle.tn_world.specs.Headline.{RunsQuietly, IsQuietEvent, PassesQuietly, NoneFailed, entries_made, local_entries}
+use Rattle.tn_world.specs.{Flight.InFlight, Headline.{RunsQuietly, IsQuietEvent, PassesQuietly, NoneFailed, entries_made, local_entries}, Past.HasPast}
+use Rattle.tn_world.specs.relation.{Calm.{IsCalmToServer, IsCalmToClient}, Pictures.{Server, server_core, ServerStays}, Relation.{IsRelated, IsBehind}}
+use Rattle.tn_world.specs.Worlds.{World, Types, SendsCommand, key_sent, DeliversToServer, CallsServer, TakesEntry, RunsEvent, ServerRefusesDelivery}
+use Rattle.tn_world.specs.{Worlds.ClientRefusesDelivery, declared.events.Event.Event}
 use Rattle.tn_streams.specs.Prefixes.{IsPrefixOf}
-use Rattle.tn_world.specs.Past.{HasPast}
-use Rattle.tn_world.specs.relation.Calm.{IsCalmToServer, IsCalmToClient}
-use Rattle.tn_client.specs.Steps.{end_after_items, says_items}
-use Rattle.tn_world.specs.relation.Pictures.{Server}
-use Rattle.tn_world.proofs.Machine.{read_all}
-use Rattle.tn_world.specs.relation.Pictures.{server_core, ServerStays}
-use Rattle.tn_world.specs.relation.Relation.{IsRelated, IsBehind}
-use Rattle.tn_world.specs.Worlds.{World, Types, SendsCommand, key_sent, DeliversToServer, CallsServer}
-use Rattle.tn_world.specs.Worlds.{TakesEntry, RunsEvent, ServerRefusesDelivery, ClientRefusesDelivery}
-use Rattle.tn_client.specs.declared.commands.UserCommand.{UserCommand}
-use Rattle.tn_world.specs.declared.events.Event.{Event}
-use Rattle.tn_world.proofs.ClientSteps.{items-come, stops_front}
-use Rattle.tn_world.proofs.Cut.{said_behind, cut_at}
-use Rattle.tn_world.proofs.Following.{holds_does}
-use Rattle.tn_world.proofs.Tied.{seen}
-use Rattle.tn_nvt.specs.Spelling.{spells}
+use Rattle.tn_world.proofs.{Machine.read_all, ClientSteps.{items-come, stops_front}, Cut.{said_behind, cut_at}, Following.holds_does, Tied.seen}
 use Rattle.tn_world.proofs.Happening.{Done, unmoved, types, enters, sends, resizes, proposes, reaches, returns, asks, takes, stops, done_of, does_keeps}
-use Rattle.tn_world.proofs.Prefixes.{prefix_trans, prefix_after, prefix_same, read-more, agreed, taken-waits}
-use Rattle.tn_world.proofs.Reading.{read_all-append, entries-typed}
-use Rattle.tn_world.proofs.ServerSteps.{KeepsEntries, calls, goes_on, stays_fed, core_call, stays_call}
-use Rattle.tn_world.proofs.Soundness.{opposite, call_goes_on, halts_sound, breaks_sound, again_sound, sound_does, Refusal, unchanged, by_server}
-use Rattle.tn_world.proofs.Soundness.{by_client, refusal_of}
-use Rattle.tn_world.proofs.Reading.{all_parts}
+use Rattle.tn_world.proofs.{Prefixes.{prefix_trans, prefix_after, prefix_same, read-more, agreed, taken-waits}, Soundness.refusal_of}
+use Rattle.tn_world.proofs.{Reading.{read_all-append, entries-typed, all_parts}, ServerSteps.{KeepsEntries, calls, goes_on, stays_fed, core_call, stays_call}}
+use Rattle.tn_world.proofs.Soundness.{opposite, call_goes_on, halts_sound, breaks_sound, again_sound, sound_does, Refusal, unchanged, by_server, by_client}
 
 -- what was made begins what the keys give
 abbrev pub Begins : Canon → World → Type 0

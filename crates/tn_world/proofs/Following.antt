@@ -1,51 +1,31 @@
 -- From a settled moment at rest the relation of the ends holds after every quiet list of events at which no end failed.
-use Rattle.std.proofs.Common.{◌≡◌, inl, inr, ℕ, Bool, Option, Some, None, List, [], ◌∷◌, ◌++◌, take, drop, refl, sym, ap, ◌∙◌, subst}
-use Rattle.std.proofs.Common.{append-nil}
+use Rattle.std.proofs.Common.{◌≡◌, inl, inr, ℕ, Bool, Option, Some, None, List, [], ◌∷◌, ◌++◌, take, drop, refl, sym, ap, ◌∙◌, subst, append-nil}
 use Rattle.std.specs.Prelude.{All, option_to_list}
-use Rattle.tn_discipline.specs.Canon.{Canon}
-use Rattle.tn_discipline.specs.Characters.{Characters}
-use Rattle.tn_discipline.specs.Keys.{role_of_key}
-use Rattle.tn_discipline.specs.declared.keys.Role.TheVariants as role
-use Rattle.tn_discipline.specs.declared.reads.Sig.TheVariants.{Int}
-use Rattle.tn_discipline.specs.declared.termios.Flags.{Flags}
+use Rattle.tn_discipline.specs.{Canon.Canon, Characters.Characters, Keys.role_of_key, declared.{reads.{Sig.TheVariants.Int, Entry.Entry}, termios.Flags.Flags}}
 use Rattle.tn_discipline.specs.declared.termios.Settings.{Settings}
-use Rattle.tn_nvt.specs.Spelling.{lf, spells, Fits}
+use Rattle.tn_discipline.specs.declared.keys.Role.TheVariants as role
+use Rattle.tn_nvt.specs.{Spelling.{lf, spells, Fits}, declared.items.Item.{Item, TheVariants.Cmd}}
 use Rattle.tn_codes.specs.declared.codes.Command.TheVariants as command
-use Rattle.tn_nvt.specs.declared.items.Item.{Item}
-use Rattle.tn_nvt.specs.declared.items.Item.TheVariants.{Cmd}
 use Rattle.tn_server.specs.Calls as server
 use Rattle.tn_server.specs.Events as server_calls
 use Rattle.tn_server.specs.Steps.{end_after as end_there, says as says_there, end_after_items as end_all_there, says_items as says_all_there}
 use Rattle.tn_server.proofs.lemmas.Gathering.{call_keeps}
 use Rattle.tn_client.specs.Events as client_calls
-use Rattle.tn_client.specs.Replies.{command_sent}
-use Rattle.tn_client.specs.declared.commands.UserCommand.{UserCommand}
-use Rattle.tn_client.specs.declared.commands.UserCommand.TheVariants as user
-use Rattle.tn_world.proofs.Happening.{Done, unmoved, types, enters, sends, resizes, proposes, reaches, returns, asks, takes, stops, done_of, FailsNone, does_keeps}
-use Rattle.tn_world.proofs.Interrupting.{interrupts_there}
-use Rattle.tn_world.specs.Past.{HasPast}
-use Rattle.tn_world.specs.Headline.{RunsQuietly, IsQuietEvent, PassesQuietly, NoneFailed}
-use Rattle.tn_world.specs.relation.Calm.{IsCalmToClient}
-use Rattle.tn_world.proofs.Machine.{SaysItems}
-use Rattle.tn_world.specs.Flight.{InFlight}
-use Rattle.tn_world.specs.relation.Pictures.{server_core, ServerStays}
-use Rattle.tn_world.specs.Worlds.{World, canon_of, TypesKey, EntersLine, key_sent, SendsCommand, CallsClient, DeliversToServer, DeliversToClient}
-use Rattle.tn_world.specs.Worlds.{CallsServer, TakesEntry, RunsEvent, Refuses}
-use Rattle.tn_world.specs.declared.events.Event.{Event}
-use Rattle.tn_world.specs.declared.events.Event.TheVariants.{Send}
-use Rattle.tn_world.specs.declared.faults.Cause.{Cause}
-use Rattle.tn_world.proofs.ClientSteps as client_steps
-use Rattle.tn_world.proofs.ClientSteps.{key_said, line_said, items-come, resized-writes}
-use Rattle.tn_client.specs.Calls as client
+use Rattle.tn_client.specs.{Replies.command_sent, declared.commands.UserCommand.UserCommand}
 use Rattle.tn_client.specs.Steps.{end_after_key, says_key, says_new_line, shows_key, end_after_resize, says_resize, end_after_items, says_items}
-use Rattle.tn_discipline.specs.declared.reads.Entry.{Entry}
-use Rattle.tn_world.proofs.ServerSteps as server_steps
-use Rattle.tn_world.proofs.ServerSteps.{KeepsEntries}
+use Rattle.tn_client.specs.declared.commands.UserCommand.TheVariants as user
+use Rattle.tn_world.proofs.Happening.{Done, unmoved, types, enters, sends, resizes, proposes, reaches, returns, asks, takes, stops, done_of, FailsNone}
+use Rattle.tn_world.proofs.{Happening.does_keeps, Interrupting.interrupts_there, Machine.SaysItems, ServerSteps.KeepsEntries, Cut.{behind, cut_at}}
+use Rattle.tn_world.proofs.{ClientSteps.{key_said, line_said, items-come, resized-writes}, Reading.all_parts, Tied.server-as}
 use Rattle.tn_world.proofs.Soundness.{asked_fit, feeds_fit, opposite, Refusal, unchanged, by_server, by_client, refusal_of, sound_does}
-use Rattle.tn_world.proofs.Cut.{behind, cut_at}
-use Rattle.tn_world.proofs.Reading.{all_parts}
-use Rattle.tn_world.proofs.Tied.{key-tied, line-tied, interrupt-tied, aside-tied, resize-tied, return-tied, client-as, reach-tied, call-tied, take-tied, server-as}
-use Rattle.tn_world.specs.relation.Relation.{IsRelated, IsTied}
+use Rattle.tn_world.proofs.Tied.{key-tied, line-tied, interrupt-tied, aside-tied, resize-tied, return-tied, client-as, reach-tied, call-tied, take-tied}
+use Rattle.tn_world.specs.{Past.HasPast, Headline.{RunsQuietly, IsQuietEvent, PassesQuietly, NoneFailed}, relation.Calm.IsCalmToClient, Flight.InFlight}
+use Rattle.tn_world.specs.{relation.Pictures.{server_core, ServerStays}, Worlds.{TakesEntry, RunsEvent, Refuses}, declared.events.Event.Event}
+use Rattle.tn_world.specs.Worlds.{World, canon_of, TypesKey, EntersLine, key_sent, SendsCommand, CallsClient, DeliversToServer, DeliversToClient, CallsServer}
+use Rattle.tn_world.specs.{declared.{events.Event.TheVariants.Send, faults.Cause.Cause}, relation.Relation.{IsRelated, IsTied}}
+use Rattle.tn_world.proofs.ClientSteps as client_steps
+use Rattle.tn_client.specs.Calls as client
+use Rattle.tn_world.proofs.ServerSteps as server_steps
 
 -- what the client says joins what is in flight to the server
 module _ (s : Canon) (old : World) (h : IsRelated s old) (new : World) (sound : HasPast new) where

@@ -8,14 +8,10 @@ use Rattle.tn_server.proofs.lemmas.Gathering.{call_keeps, items_keep}
 use Rattle.tn_client.specs.Events as client_calls
 use Rattle.tn_client.specs.declared.commands.UserCommand.{UserCommand}
 use Rattle.tn_client.proofs.lemmas.Standings.{fed_failed}
-use Rattle.tn_world.specs.Headline.{IsQuietEvent}
-use Rattle.tn_world.specs.Worlds.{World, UnlessStopped, TypesKey, EntersLine, SendsCommand, CallsClient, DeliversToServer, DeliversToClient}
-use Rattle.tn_world.specs.Worlds.{CallsServer, TakesEntry, RunsEvent}
-use Rattle.tn_world.specs.declared.events.Event.{Event}
-use Rattle.tn_world.specs.declared.events.Event.TheVariants.{Key, NewLine, Send, ToServer, ToClient, Write, Pull, Take, Wish, Resize, SetChar, Propose, Echo, Mask}
-use Rattle.tn_world.specs.declared.events.Event.TheVariants.{ServerStops, ClientStops}
-use Rattle.tn_world.proofs.ServerItems.{IsUnpulled}
-use Rattle.tn_world.proofs.ServerSteps.{KeepsEntries}
+use Rattle.tn_world.specs.{Headline.IsQuietEvent, Worlds.{TakesEntry, RunsEvent}, declared.events.Event.{Event, TheVariants.{Mask, ServerStops, ClientStops}}}
+use Rattle.tn_world.specs.Worlds.{World, UnlessStopped, TypesKey, EntersLine, SendsCommand, CallsClient, DeliversToServer, DeliversToClient, CallsServer}
+use Rattle.tn_world.specs.declared.events.Event.TheVariants.{Key, NewLine, Send, ToServer, ToClient, Write, Pull, Take, Wish, Resize, SetChar, Propose, Echo}
+use Rattle.tn_world.proofs.{ServerItems.IsUnpulled, ServerSteps.KeepsEntries}
 
 -- no pull, and no delivery to the client
 abbrev pub AddsOnly : Event → Type 0

@@ -1,31 +1,20 @@
 -- What a server makes of items that wish for no mode, once no word is on its way to its client.
 use Rattle.std.proofs.Common.{◌≡◌, ℕ, nat_le, Bool, true, false, ◌&&◌, ◌||◌, Option, Some, None, is_some, List, [], ◌∷◌, ◌++◌, length, refl, sym, ap, ◌∙◌}
-use Rattle.std.proofs.Common.{subst, if◌then◌else◌, append-nil, append_assoc}
+use Rattle.std.proofs.{Common.{subst, if◌then◌else◌, append-nil, append_assoc}, lemmas.List.Elements.{All-head, All-tail}}
 use Rattle.std.specs.Prelude.{All, option_to_list}
-use Rattle.std.proofs.lemmas.List.Elements.{All-head, All-tail}
-use Rattle.tn_codes.specs.PayloadOf.{payload_of}
-use Rattle.tn_codes.specs.declared.codes.Verb.{Verb}
-use Rattle.tn_codes.specs.declared.payloads.Payload.{Payload}
+use Rattle.tn_codes.specs.{PayloadOf.payload_of, declared.{codes.Verb.Verb, payloads.Payload.Payload, triples.Triple.Triple}}
 use Rattle.tn_codes.specs.declared.payloads.Payload.TheVariants as payload
 use Rattle.tn_discipline.specs.Characters.{Characters}
-use Rattle.tn_linemode.specs.Exchange.{server_answers, server_is_asked}
-use Rattle.tn_linemode.specs.Modes.{edits}
-use Rattle.tn_codes.specs.declared.triples.Triple.{Triple}
-use Rattle.tn_nvt.specs.declared.items.Item.{Item}
-use Rattle.tn_nvt.specs.declared.items.Item.TheVariants.{Byte, Newline, Cmd, Neg, Sub}
-use Rattle.tn_option.specs.EnginePair.{EnginePair, engine_step, got_here}
+use Rattle.tn_linemode.specs.{Exchange.{server_answers, server_is_asked}, Modes.edits, OptionWords.words_in, Words.{differ, word_items, mode_items, list_items}}
+use Rattle.tn_nvt.specs.declared.items.Item.{Item, TheVariants.{Byte, Newline, Cmd, Neg, Sub}}
+use Rattle.tn_option.specs.{EnginePair.{EnginePair, engine_step, got_here}, declared.q_method.Side.TheVariants.{Us, Them}}
 use Rattle.tn_option.specs.Options.{Options, options_after_word, reply_to, options_after_wish, answer_to, state_of, is_yes}
-use Rattle.tn_option.specs.declared.q_method.Side.TheVariants.{Us, Them}
-use Rattle.tn_linemode.specs.OptionWords.{words_in}
-use Rattle.tn_linemode.specs.Words.{differ, word_items, mode_items, list_items}
 use Rattle.tn_linemode.proofs.lemmas.OptionWords.{words_in-append, words_in-word}
-use Rattle.tn_server.specs.Events.{History, next, got, gets}
+use Rattle.tn_server.specs.{Events.{History, next, got, gets}, declared.wishes.Editing.Editing}
 use Rattle.tn_server.specs.Replies.{reply_items, items_by, list_replies, table_items, new_table_items, echo_items, replies, items_said}
 use Rattle.tn_server.specs.Terms.{Terms, terms, options, flags, chars, linemode, options_after, wish_in, wish_at, editing_of, terms_by, payload_at, chars_after}
 use Rattle.tn_server.specs.Terms.{mode_sent, asked_mask_while, asked_mask_of, mask_told, wants_echo, asks_echo, options_with_echo}
-use Rattle.tn_server.specs.declared.wishes.Editing.{Editing}
-use Rattle.tn_server.proofs.lemmas.Terms.{terms_stay, says_nothing, told_again}
-use Rattle.tn_server.proofs.lemmas.Words.{pair, got_words, by_words, asked_in}
+use Rattle.tn_server.proofs.lemmas.{Terms.{terms_stay, says_nothing, told_again}, Words.{pair, got_words, by_words, asked_in}}
 use Rattle.tn_world.specs.Past.{IsNoWish, WishesNothing}
 use Rattle.tn_world.proofs.Quieting.{IsWaiting, echo_due, heard_by, waits_on, IsCalm, IsUnanswered, calm_answers, calm_on}
 

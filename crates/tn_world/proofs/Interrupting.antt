@@ -1,10 +1,7 @@
 -- The key that a command stands for interrupts.
 use Rattle.std.proofs.Common.{◌≡◌, ℕ, Option, Some, None, refl, sym, ap, ◌∙◌}
-use Rattle.tn_discipline.specs.Keys.{role_of_key}
-use Rattle.tn_discipline.specs.declared.keys.Role.{Role}
+use Rattle.tn_discipline.specs.{Keys.role_of_key, declared.{keys.Role.Role, reads.Sig.TheVariants.Int, termios.Settings.Settings}}
 use Rattle.tn_discipline.specs.declared.keys.Role.TheVariants as role
-use Rattle.tn_discipline.specs.declared.reads.Sig.TheVariants.{Int}
-use Rattle.tn_discipline.specs.declared.termios.Settings.{Settings}
 use Rattle.tn_world.specs.Commands.{key_if, interrupt_at}
 
 key_interrupts : (r : Role) (key k : ℕ) → key_if r key ≡ Some k → (r ≡ role.Signal Int) × (key ≡ k)

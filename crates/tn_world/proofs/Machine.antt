@@ -2,18 +2,13 @@
 use Rattle.std.proofs.Common.{◌≡◌, ◌==◌, Bool, ◌&&◌, ◌||◌, Option, Some, List, [], ◌∷◌, ◌++◌, if◌then◌else◌}
 use Rattle.std.specs.Prelude.{All}
 use Rattle.tn_codes.specs.OptionCodes as option_code
-use Rattle.tn_codes.specs.PayloadOf.{payload_of}
-use Rattle.tn_codes.specs.declared.payloads.Payload.{Payload}
+use Rattle.tn_codes.specs.{PayloadOf.payload_of, declared.payloads.Payload.Payload}
 use Rattle.tn_codes.specs.declared.payloads.Payload.TheVariants as payload
-use Rattle.tn_discipline.specs.Canon.{Canon}
-use Rattle.tn_discipline.specs.Steps.{half_next, gain_next}
+use Rattle.tn_discipline.specs.{Canon.Canon, Steps.{half_next, gain_next}}
 use Rattle.tn_linemode.specs.Modes.{edits}
-use Rattle.tn_nvt.specs.Spelling.{Fits}
-use Rattle.tn_nvt.specs.declared.items.Item.{Item}
-use Rattle.tn_nvt.specs.declared.items.Item.TheVariants.{Neg, Sub}
+use Rattle.tn_nvt.specs.{Spelling.Fits, declared.items.Item.{Item, TheVariants.{Neg, Sub}}}
 use Rattle.tn_server.specs.Lines.{role_at}
-use Rattle.tn_world.specs.relation.Calm.{IsCalmToServer}
-use Rattle.tn_world.specs.relation.Pictures.{Server}
+use Rattle.tn_world.specs.relation.{Calm.IsCalmToServer, Pictures.Server}
 
 -- a calm word on LINEMODE turns it on
 abbrev pub linemode_after : Bool → Item → Bool

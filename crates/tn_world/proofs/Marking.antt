@@ -1,27 +1,15 @@
 -- At a settled moment at rest the relation of the ends holds.
-use Rattle.std.proofs.Common.{◌≡◌, inl, inr, ℕ, Bool, true, false, List, [], refl, sym, ap, ◌∙◌, subst}
-use Rattle.std.proofs.lemmas.List.Elements.{All-nil}
-use Rattle.tn_discipline.specs.declared.reads.Entry.{Entry}
-use Rattle.tn_discipline.specs.Canon.{Canon}
-use Rattle.tn_discipline.specs.declared.termios.Settings.{Settings}
+use Rattle.std.proofs.{Common.{◌≡◌, inl, inr, ℕ, Bool, true, false, List, [], refl, sym, ap, ◌∙◌, subst}, lemmas.List.Elements.All-nil}
+use Rattle.tn_discipline.specs.{declared.{reads.Entry.Entry, termios.Settings.Settings}, Canon.Canon}
 use Rattle.tn_linemode.specs.Modes.{Modes, edits}
 use Rattle.tn_nvt.specs.Spelling.{Fits}
-use Rattle.tn_option.specs.Options.{Options, agrees_to, is_yes, state_of}
-use Rattle.tn_option.specs.declared.q_method.Side.TheVariants.{Us, Them}
+use Rattle.tn_option.specs.{Options.{Options, agrees_to, is_yes, state_of}, declared.q_method.Side.TheVariants.{Us, Them}}
 use Rattle.tn_server.specs.Terms as terms
 use Rattle.tn_server.specs.Terms.{asked_mask_while, allows_local}
 use Rattle.tn_client.specs.Terms as client_terms
-use Rattle.tn_world.specs.Headline.{IsMark, AgreeOnLinemode}
-use Rattle.tn_world.specs.relation.Calm.{IsCalmToServer, IsCalmToClient}
-use Rattle.tn_world.specs.Flight.{InFlight}
-use Rattle.tn_world.specs.relation.Calm.{bits, IsAskable}
-use Rattle.tn_world.specs.relation.Pictures.{server_core, NeverEnds, IsAllowed, IsOffOrOn}
-use Rattle.tn_world.specs.Worlds.{World}
-use Rattle.tn_world.proofs.Cut.{no_items}
-use Rattle.tn_world.proofs.Engines.{client_agrees}
-use Rattle.tn_world.proofs.Tied.{rest-agrees}
-use Rattle.tn_world.proofs.Wishes.{wish_allowed, wish_asked, stays_at}
-use Rattle.tn_world.specs.relation.Relation.{Agrees, IsRelated, server_at}
+use Rattle.tn_world.specs.{Headline.{IsMark, AgreeOnLinemode}, relation.Calm.{IsCalmToServer, IsCalmToClient, bits, IsAskable}, Flight.InFlight, Worlds.World}
+use Rattle.tn_world.specs.relation.{Pictures.{server_core, NeverEnds, IsAllowed, IsOffOrOn}, Relation.{Agrees, IsRelated, server_at}}
+use Rattle.tn_world.proofs.{Cut.no_items, Engines.client_agrees, Tied.rest-agrees, Wishes.{wish_allowed, wish_asked, stays_at}}
 
 askable_while : (s : Settings) (linemode : Bool) (wish : ℕ) → IsAllowed s.flags wish → IsAskable s (bits (asked_mask_while linemode wish))
 askable_while s true wish h = (wish_asked s s.flags wish refl h).1

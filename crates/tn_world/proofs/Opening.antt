@@ -1,44 +1,25 @@
 -- Where the special characters are the standard ones, the relation of the ends holds of a world that was just opened.
-use Rattle.std.proofs.Common.{◌≡◌, inl, inr, ℕ, false, List, [], ◌∷◌, refl, sym, ap, ◌∙◌, subst}
+use Rattle.std.proofs.{Common.{◌≡◌, inl, inr, ℕ, false, List, [], ◌∷◌, refl, sym, ap, ◌∙◌, subst}, lemmas.List.Elements.{All-nil, All-cons}}
 use Rattle.std.specs.Prelude.{All}
-use Rattle.std.proofs.lemmas.List.Elements.{All-nil, All-cons}
-use Rattle.tn_discipline.specs.Canon.{Canon}
-use Rattle.tn_discipline.specs.Characters.{standard_characters}
-use Rattle.tn_discipline.specs.declared.termios.Settings.{Settings}
+use Rattle.tn_discipline.specs.{Canon.Canon, Characters.standard_characters, declared.termios.Settings.Settings, HalfLine.HalfLine}
 use Rattle.tn_codes.specs.declared.codes.Verb.TheVariants.{Will, DoIt}
-use Rattle.tn_nvt.specs.Spelling.{Fits}
+use Rattle.tn_nvt.specs.{Spelling.Fits, declared.items.Item.TheVariants.Neg}
 use Rattle.tn_nvt.specs.Feeding as nvt
-use Rattle.tn_nvt.specs.declared.items.Item.TheVariants.{Neg}
-use Rattle.tn_option.specs.QMethod.{cell}
-use Rattle.tn_option.specs.Options.{Options, agrees_to, new_options, options_after_wish, state_of}
+use Rattle.tn_option.specs.{QMethod.cell, Options.{Options, agrees_to, new_options, options_after_wish, state_of}}
 use Rattle.tn_option.specs.declared.q_method.Side.TheVariants.{Us, Them}
 use Rattle.tn_server.specs.Calls as server
 use Rattle.tn_server.specs.Events as server_calls
 use Rattle.tn_server.specs.Replies.{opening}
 use Rattle.tn_server.specs.Terms as server_terms
-use Rattle.tn_server.proofs.lemmas.Fitting.{sent-fit}
+use Rattle.tn_server.proofs.lemmas.{Fitting.sent-fit, Ends.{line_is, waits_are}}
 use Rattle.tn_client.specs.Calls as client
 use Rattle.tn_client.specs.Events as client_calls
 use Rattle.tn_client.proofs.lemmas.Ends.{held_is}
-use Rattle.tn_discipline.specs.HalfLine.{HalfLine}
 use Rattle.tn_linemode.specs.Modes.{Modes, edits}
 use Rattle.tn_client.specs.Terms as client_terms
-use Rattle.tn_world.specs.Opened.{IsOpened}
-use Rattle.tn_world.specs.Past.{HasPast}
-use Rattle.tn_world.specs.Flight.{InFlight}
-use Rattle.tn_world.specs.Worlds.{World}
-use Rattle.tn_world.specs.relation.Calm.{IsCalmToServer, IsCalmToClient}
-use Rattle.tn_world.specs.relation.Calm.{bits}
-use Rattle.tn_world.specs.relation.Pictures.{Server}
-use Rattle.tn_world.specs.relation.Pictures.{server_core, NeverEnds, IsFlagged, IsOffOrOn, ServerStays, ClientStays}
-use Rattle.tn_world.specs.relation.Relation.{Agrees, IsTied, IsRelated}
-use Rattle.tn_world.proofs.Bodies.{open_sound}
-use Rattle.tn_world.proofs.Engines.{client_agrees}
-use Rattle.tn_world.proofs.Cut.{said_behind, start}
-use Rattle.tn_world.proofs.Marking.{core_is}
-use Rattle.tn_world.proofs.Wishes.{stays_at}
-use Rattle.tn_server.proofs.lemmas.Ends.{line_is, waits_are}
-use Rattle.tn_world.proofs.Tied.{rest-agrees}
+use Rattle.tn_world.specs.{Opened.IsOpened, Flight.InFlight, relation.Pictures.{Server, server_core, NeverEnds, IsFlagged, IsOffOrOn, ServerStays, ClientStays}}
+use Rattle.tn_world.specs.{Past.HasPast, Worlds.World, relation.{Calm.{IsCalmToServer, IsCalmToClient, bits}, Relation.{Agrees, IsTied, IsRelated}}}
+use Rattle.tn_world.proofs.{Bodies.open_sound, Engines.client_agrees, Cut.{said_behind, start}, Marking.core_is, Wishes.stays_at, Tied.rest-agrees}
 
 -- LINEMODE is asked for, and off at both
 asked_for : NeverEnds (state_of server_terms.opening_options Them 34)

@@ -1,27 +1,13 @@
 -- What both ends do is what the relation wants of them, so that it holds in every world.
 use Rattle.std.proofs.Common.{◌≡◌, inl, inr, ℕ, List, [], ◌∷◌, ◌++◌, ◌≤◌, ◌<◌, ◌+◌, suc, take, drop, refl, sym, ap, ◌∙◌, subst, length, arith}
-use Rattle.std.proofs.Math.ListN.{get_or}
-use Rattle.std.proofs.Math.Seq.{drop-cons}
-use Rattle.std.proofs.lemmas.List.{take_more, take_all, take-append-drop, length-take-le}
-use Rattle.tn_discipline.specs.declared.reads.Entry.{Entry}
-use Rattle.tn_discipline.specs.Canon.{Canon}
-use Rattle.tn_discipline.specs.Characters.{standard_characters}
-use Rattle.tn_world.specs.Past.{HasPast}
+use Rattle.std.proofs.{Math.{ListN.get_or, Seq.drop-cons}, lemmas.List.{take_more, take_all, take-append-drop, length-take-le}}
+use Rattle.tn_discipline.specs.{declared.reads.Entry.Entry, Canon.Canon, Characters.standard_characters}
+use Rattle.tn_world.specs.{Past.HasPast, Opened.{IsOpened, with_new_lists}, declared.{events.Event.Event, faults.Cause.Cause}, relation.Relation.IsRelated}
 use Rattle.tn_world.specs.Headline.{local_entries, local_half, PassesQuietly, IsQuiet, AreQuietEvents, IsBeginning, Follows, NoneFailed, IsSettled}
-use Rattle.tn_world.specs.Headline.{entries_made, half_made, Headline}
+use Rattle.tn_world.specs.{Headline.{entries_made, half_made, Headline}, Worlds.{World, RunsEvent, Refuses, Runs, StopsWithin, canon_of}, Flight.InFlight}
 use Rattle.tn_streams.specs.Prefixes.{IsPrefixOf}
-use Rattle.tn_world.specs.Opened.{IsOpened, with_new_lists}
-use Rattle.tn_world.specs.Worlds.{World, RunsEvent, Refuses, Runs, StopsWithin, canon_of}
-use Rattle.tn_world.specs.declared.events.Event.{Event}
-use Rattle.tn_world.specs.declared.faults.Cause.{Cause}
-use Rattle.tn_world.proofs.Following.{holds_passes}
-use Rattle.tn_world.proofs.Marking.{mark_holds}
-use Rattle.tn_world.proofs.Failing.{both, stage_begins, stage_passes}
-use Rattle.tn_world.proofs.Opening.{opened_holds}
+use Rattle.tn_world.proofs.{Following.holds_passes, Marking.mark_holds, Failing.{both, stage_begins, stage_passes}, Opening.opened_holds, Cut.no_items}
 use Rattle.tn_world.proofs.Tied.{tied-complete, tied-half}
-use Rattle.tn_world.specs.relation.Relation.{IsRelated}
-use Rattle.tn_world.specs.Flight.{InFlight}
-use Rattle.tn_world.proofs.Cut.{no_items}
 
 none_flies : (s : Canon) (w : World) (r : IsRelated s w) → w.to_server ≡ [] → r.items ≡ []
 none_flies s w r nothing = no_items w.server.decoder r.items (subst (λ x. InFlight w.server.decoder x r.items) nothing r.flight)

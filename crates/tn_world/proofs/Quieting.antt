@@ -2,12 +2,9 @@
 -- that, the server says none to its answer.
 use Rattle.std.proofs.Common.{◌≡◌, ◌⊎◌, inl, inr, ℕ, Bool, true, false, not, ◌||◌, None, List, [], ◌∷◌, map, refl, sym, ap, ◌∙◌, subst}
 use Rattle.tn_codes.specs.declared.codes.Verb.{Verb}
-use Rattle.tn_option.specs.EnginePair.{EnginePair, engine_step, ask_here, got_here}
+use Rattle.tn_option.specs.{EnginePair.{EnginePair, engine_step, ask_here, got_here}, QMethod.cell, declared.q_method.{QState.QState, Side.TheVariants.Us}}
 use Rattle.tn_option.specs.Options.{Options, options_after_word, reply_to, options_after_wish, answer_to, state_of, is_yes}
-use Rattle.tn_option.specs.QMethod.{cell}
-use Rattle.tn_option.specs.declared.q_method.QState.{QState}
 use Rattle.tn_option.specs.declared.q_method.QState.TheVariants.{No, Yes, WantNoEmpty, WantNoOpposite, WantYesEmpty, WantYesOpposite}
-use Rattle.tn_option.specs.declared.q_method.Side.TheVariants.{Us}
 use Rattle.tn_server.specs.Terms as terms
 use Rattle.tn_linemode.specs.Words.{differ}
 use Rattle.tn_world.proofs.Stages.{Question, linemode, naws, ours, theirs, echo, Progress, before, done, asks, grants, next, left, Lead, server_at, opening_at}

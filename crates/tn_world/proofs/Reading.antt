@@ -1,31 +1,19 @@
 -- What the server makes of items.
-use Rattle.std.proofs.Common.{◌≡◌, ◌≤◌, ◌<◌, ℕ, zero, suc, ◌+◌, ◌==◌, nat_lt, Bool, true, false, List, [], ◌∷◌, ◌++◌, length, take, refl, sym, ap, ◌∙◌, if◌then◌else◌}
-use Rattle.std.proofs.Common.{arith, append-nil, append_assoc, length-append}
+use Rattle.std.proofs.Common.{◌≡◌, ◌≤◌, ◌<◌, ℕ, zero, suc, ◌+◌, ◌==◌, nat_lt, Bool, true, false, List, [], ◌∷◌, ◌++◌, length, take, refl, sym, ap, ◌∙◌}
+use Rattle.std.proofs.{Common.{if◌then◌else◌, arith, append-nil, append_assoc, length-append}, lemmas.List.Elements.{All-nil, All-cons, All-head, All-tail}}
+use Rattle.std.proofs.lemmas.Bool.{lt-ltb}
 use Rattle.std.specs.Prelude.{All}
-use Rattle.std.proofs.lemmas.List.Elements.{All-nil, All-cons, All-head, All-tail}
-use Rattle.tn_discipline.specs.declared.reads.Entry.{Entry}
-use Rattle.tn_discipline.specs.Canon.{Canon, typed_entries, typed_half}
-use Rattle.tn_discipline.specs.Limits.{max_counted}
-use Rattle.tn_discipline.specs.Entries.{entries_of, half_of}
-use Rattle.tn_discipline.specs.HalfLine.{HalfLine, line_after, effect_entries}
-use Rattle.tn_discipline.specs.Steps.{front, half_next, gain_next}
-use Rattle.tn_discipline.specs.declared.half_line.Effect.{Effect}
+use Rattle.tn_discipline.specs.{declared.{reads.Entry.Entry, half_line.Effect.Effect, keys.Role.Role}, Limits.max_counted, Entries.{entries_of, half_of}}
+use Rattle.tn_discipline.specs.{Canon.{Canon, typed_entries, typed_half}, Steps.{front, half_next, gain_next}, declared.termios.Settings.Settings}
+use Rattle.tn_discipline.specs.{HalfLine.{HalfLine, line_after, effect_entries}, Keys.{role_of_key, literal_role, roles_of, roles_from}, Characters.Characters}
 use Rattle.tn_discipline.specs.declared.half_line.Effect.TheVariants as effect
 use Rattle.tn_pty.specs.Typing.{gain_of}
-use Rattle.std.proofs.lemmas.Bool.{lt-ltb}
-use Rattle.tn_discipline.specs.Keys.{role_of_key, literal_role, roles_of, roles_from}
-use Rattle.tn_discipline.specs.Characters.{Characters}
-use Rattle.tn_discipline.specs.declared.termios.Settings.{Settings}
-use Rattle.tn_discipline.specs.declared.keys.Role.{Role}
 use Rattle.tn_discipline.specs.declared.keys.Role.TheVariants as role
-use Rattle.tn_discipline.proofs.lemmas.Histories.{half-next, entries-next}
-use Rattle.tn_discipline.proofs.lemmas.KeyRoles.{roles_of-append, roles_of-one}
-use Rattle.tn_nvt.specs.declared.items.Item.{Item}
-use Rattle.tn_nvt.specs.declared.items.Item.TheVariants.{Byte}
+use Rattle.tn_discipline.proofs.lemmas.{Histories.{half-next, entries-next}, KeyRoles.{roles_of-append, roles_of-one}}
+use Rattle.tn_nvt.specs.declared.items.Item.{Item, TheVariants.Byte}
 use Rattle.tn_client.specs.Replies.{byte_items}
-use Rattle.tn_world.specs.relation.Pictures.{Server}
+use Rattle.tn_world.specs.relation.{Pictures.Server, Relation.{AreOrdinary, server_at}}
 use Rattle.tn_world.proofs.Machine.{read, read_all}
-use Rattle.tn_world.specs.relation.Relation.{AreOrdinary, server_at}
 
 -- both parts
 pub all_parts : {X : Type 0} (P : X → Type 0) (xs ys : List X) → All P (xs ++ ys) → All P xs × All P ys

@@ -1,17 +1,10 @@
 -- No wish of an end waits behind another where none does at the four options that it knows.
 use Rattle.std.proofs.Common.{◌≡◌, ◌≢◌, ◌↔◌, ℕ, ◌==◌, Bool, true, false, ◌&&◌, Option, Some, None, List, [], ◌∷◌, length, not, is_some, refl, ap, ◌∙◌, sym, arith}
 use Rattle.std.proofs.Common.{nat_eq, Bor}
-use Rattle.std.specs.Prelude.{option_copied, slice_get}
-use Rattle.std.specs.Option.{option_eq}
-use Rattle.tn_discipline.specs.Characters.{Characters}
-use Rattle.tn_discipline.specs.declared.reads.Entry.{Entry}
-use Rattle.std.specs.List.{list_all}
-use Rattle.tn_option.specs.Options.{Options, known_option, state_or_no, state_of}
-use Rattle.tn_option.specs.declared.known.Known.{Known}
-use Rattle.tn_option.specs.declared.known.Known.TheVariants.{Echo, SuppressGoAhead, Naws, Linemode}
-use Rattle.tn_option.specs.declared.q_method.QState.{QState}
-use Rattle.tn_option.specs.declared.q_method.Side.{Side}
-use Rattle.tn_option.specs.declared.q_method.Side.TheVariants.{Us, Them}
+use Rattle.std.specs.{Prelude.{option_copied, slice_get}, Option.option_eq, List.list_all}
+use Rattle.tn_discipline.specs.{Characters.Characters, declared.reads.Entry.Entry}
+use Rattle.tn_option.specs.{Options.{Options, known_option, state_or_no, state_of}, declared.{known.Known.Known, q_method.{QState.QState, Side.Side}}}
+use Rattle.tn_option.specs.declared.{known.Known.TheVariants.{Echo, SuppressGoAhead, Naws, Linemode}, q_method.Side.TheVariants.{Us, Them}}
 use Rattle.tn_world.specs.Headline.{is_in_order, IsSteady}
 
 abbrev pub states : Options → List QState

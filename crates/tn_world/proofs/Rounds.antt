@@ -1,40 +1,27 @@
 -- After two rounds of delivery nothing is in flight.
 use Rattle.std.proofs.Common.{◌≡◌, ℕ, ◌≤◌, Bool, true, false, Some, None, List, [], ◌∷◌, ◌++◌, length, take, refl, sym, ap, ◌∙◌, subst, if◌then◌else◌}
-use Rattle.std.proofs.Common.{append-nil, append_assoc}
+use Rattle.std.proofs.{Common.{append-nil, append_assoc}, lemmas.List.{append_cancel_left, drop_all, Elements.{All-nil, All-append}}}
 use Rattle.std.specs.Prelude.{All}
-use Rattle.std.proofs.lemmas.List.{append_cancel_left, drop_all}
-use Rattle.std.proofs.lemmas.List.Elements.{All-nil, All-append}
-use Rattle.tn_codes.specs.Payloads.{parameters_of}
+use Rattle.tn_codes.specs.{Payloads.parameters_of, declared.triples.Triple.Triple}
 use Rattle.tn_codes.specs.declared.payloads.Payload.TheVariants as payload
-use Rattle.tn_codes.specs.declared.triples.Triple.{Triple}
 use Rattle.tn_codes.proofs.lemmas.Telling.{told}
 use Rattle.tn_discipline.specs.Characters.{Characters}
-use Rattle.tn_linemode.specs.Exchange.{client_answers, server_answers, server_is_asked}
-use Rattle.tn_nvt.specs.Feeding.{DecoderState, Advances}
-use Rattle.tn_nvt.specs.Spelling.{spells}
-use Rattle.tn_nvt.specs.declared.items.Item.{Item}
-use Rattle.tn_nvt.specs.declared.items.Item.TheVariants.{Sub}
-use Rattle.tn_linemode.specs.OptionWords.{words_in}
+use Rattle.tn_linemode.specs.{Exchange.{client_answers, server_answers, server_is_asked}, OptionWords.words_in}
+use Rattle.tn_nvt.specs.{Feeding.{DecoderState, Advances}, Spelling.spells, declared.items.Item.{Item, TheVariants.Sub}}
 use Rattle.tn_server.specs.Steps.{says_items as says_there}
-use Rattle.tn_server.proofs.lemmas.Leading.{stands_fed, says_all as says_all_there}
+use Rattle.tn_server.proofs.lemmas.{Leading.{stands_fed, says_all as says_all_there}, Words.pair}
 use Rattle.tn_server.specs.Calls as server
 use Rattle.tn_server.specs.Replies as server_says
 use Rattle.tn_server.specs.Terms as server_terms
 use Rattle.tn_server.specs.declared.faults.ServerFault.TheVariants as server_faults
-use Rattle.tn_server.proofs.lemmas.Words.{pair}
 use Rattle.tn_client.specs.Steps.{says_items}
 use Rattle.tn_client.proofs.lemmas.Standings.{says_all, fed_failed}
 use Rattle.tn_client.specs.Events as client_calls
 use Rattle.tn_client.specs.Replies as client_says
-use Rattle.tn_world.specs.Flight.{InFlight}
-use Rattle.tn_world.specs.Headline.{NothingInFlight}
-use Rattle.tn_world.specs.Past.{HasPast, engines, WishesNothing}
+use Rattle.tn_world.specs.{Flight.InFlight, Headline.NothingInFlight, Past.{HasPast, engines, WishesNothing}}
 use Rattle.tn_world.specs.Worlds.{World, DeliversToServer, DeliversToClient}
-use Rattle.tn_world.proofs.Cut.{said_behind, cut_at, no_items}
-use Rattle.tn_world.proofs.Hearing.{IsNoList, AsksNothing, HasRead, all_read, all_silent}
-use Rattle.tn_world.proofs.Quieting.{IsWaiting, all_heard, is_pending, none_pending, IsCalm, calms_down}
-use Rattle.tn_world.proofs.Saying.{answers_all}
-use Rattle.tn_world.proofs.Soundness.{call_goes_on, items_fit, sound_returns}
+use Rattle.tn_world.proofs.{Cut.{said_behind, cut_at, no_items}, Hearing.{IsNoList, AsksNothing, HasRead, all_read, all_silent}, Saying.answers_all}
+use Rattle.tn_world.proofs.{Quieting.{IsWaiting, all_heard, is_pending, none_pending, IsCalm, calms_down}, Soundness.{call_goes_on, items_fit, sound_returns}}
 use Rattle.tn_world.proofs.Stages.{at_stage}
 
 server_goes_on : (end : server.End) → server.call_fault end ≡ None → end.failed ≡ false

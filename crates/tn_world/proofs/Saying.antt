@@ -1,33 +1,18 @@
 -- What a client says wishes for no mode, and what it says to an item is answered by nothing, unless it is an option
 -- word.
 use Rattle.std.proofs.Common.{◌≡◌, ℕ, suc, arith, ◌<◌, ◌==◌, Bool, true, false, not, ◌&&◌, ◌||◌, Option, Some, None, List, [], ◌∷◌, refl, sym, subst}
-use Rattle.std.proofs.Common.{if◌then◌else◌}
+use Rattle.std.proofs.{Common.if◌then◌else◌, lemmas.{List.Elements.{All-nil, All-cons, All-append}, Nat.and_mask}}
 use Rattle.std.specs.Prelude.{All, bit_or}
-use Rattle.std.proofs.lemmas.List.Elements.{All-nil, All-cons, All-append}
-use Rattle.std.proofs.lemmas.Nat.{and_mask}
-use Rattle.tn_codes.specs.Payloads.{parameters_of}
-use Rattle.tn_codes.specs.declared.codes.Command.{Command}
-use Rattle.tn_codes.specs.declared.codes.Func.{Func}
-use Rattle.tn_codes.specs.declared.codes.Verb.{Verb}
-use Rattle.tn_codes.specs.declared.masks.Mask.{Mask}
-use Rattle.tn_codes.specs.declared.payloads.Payload.{Payload}
-use Rattle.tn_codes.specs.declared.payloads.Payload.TheVariants as payload
+use Rattle.tn_codes.specs.{Payloads.parameters_of, declared.{codes.{Command.Command, Func.Func, Verb.Verb}, masks.Mask.Mask, payloads.Payload.Payload}}
 use Rattle.tn_codes.specs.declared.triples.Triple.{Triple}
+use Rattle.tn_codes.specs.declared.payloads.Payload.TheVariants as payload
 use Rattle.tn_codes.proofs.lemmas.Telling.{told}
-use Rattle.tn_discipline.specs.Characters.{Characters}
-use Rattle.tn_discipline.specs.HalfLine.{HalfLine, line_length, has_held, has_ahead, line_after}
-use Rattle.tn_discipline.specs.declared.keys.Role.{Role}
+use Rattle.tn_discipline.specs.{Characters.Characters, HalfLine.{HalfLine, line_length, has_held, has_ahead, line_after}, declared.keys.Role.Role}
 use Rattle.tn_discipline.specs.declared.keys.Role.TheVariants as role
-use Rattle.tn_linemode.specs.Exchange.{client_answers}
-use Rattle.tn_linemode.specs.Modes.{edits, mode_of, is_acknowledged}
-use Rattle.tn_linemode.specs.Triples.{triple_of}
-use Rattle.tn_nvt.specs.declared.items.Item.{Item}
-use Rattle.tn_nvt.specs.declared.items.Item.TheVariants.{Byte, Newline, Cmd, Neg, Sub}
+use Rattle.tn_linemode.specs.{Exchange.client_answers, Modes.{edits, mode_of, is_acknowledged}, Triples.triple_of, Words.{word_items, mode_items, list_items}}
+use Rattle.tn_nvt.specs.{declared.items.Item.{Item, TheVariants.{Byte, Newline, Cmd, Neg, Sub}}, Spelling.lf}
 use Rattle.tn_option.specs.Options.{Options, reply_to}
-use Rattle.tn_linemode.specs.Words.{word_items, mode_items, list_items}
-use Rattle.tn_nvt.specs.Spelling.{lf}
-use Rattle.tn_client.specs.Events.{Event, History, begun, next, typed, entered, got, resized, proposed, sent}
-use Rattle.tn_client.specs.Lines.{role_at, sends_ahead, line}
+use Rattle.tn_client.specs.{Events.{Event, History, begun, next, typed, entered, got, resized, proposed, sent}, Lines.{role_at, sends_ahead, line}}
 use Rattle.tn_client.specs.Replies.{byte_items, command_of, command_items, raw_items, sent_as, edited_key_items, sent_ahead_items, typed_items, size_items}
 use Rattle.tn_client.specs.Replies.{new_size_items, payload_answers, answer_items, end_of_edit_items, is_same_size, command_sent, replies, items_said}
 use Rattle.tn_client.specs.Terms.{options, mode, forward, chars, size, tells_size, payload_at, options_after, mode_at}

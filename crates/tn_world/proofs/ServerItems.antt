@@ -1,39 +1,20 @@
 -- What a server end says, whatever came and whatever its owner did, shows nothing on a screen but what is pulled.
 use Rattle.std.proofs.Common.{◌≡◌, ℕ, ◌+◌, nat_le, Bool, true, false, not, ◌&&◌, Option, Some, None, Result, Ok, Err, List, [], ◌∷◌, ◌++◌, length, take, refl}
-use Rattle.std.proofs.Common.{sym, ap, ◌∙◌, if◌then◌else◌, append-nil, append_assoc}
-use Rattle.std.proofs.lemmas.Grind.{flat_map-append}
-use Rattle.tn_codes.specs.declared.codes.Command.TheVariants.{Ga}
-use Rattle.tn_codes.specs.declared.codes.Func.{Func}
-use Rattle.tn_codes.specs.declared.codes.Verb.{Verb}
-use Rattle.tn_codes.specs.declared.masks.Mask.{Mask}
-use Rattle.tn_codes.specs.declared.payloads.Payload.{Payload}
+use Rattle.std.proofs.{Common.{sym, ap, ◌∙◌, if◌then◌else◌, append-nil, append_assoc}, lemmas.Grind.flat_map-append}
+use Rattle.tn_codes.specs.declared.{codes.{Command.TheVariants.Ga, Func.Func, Verb.Verb}, masks.Mask.Mask, payloads.Payload.Payload, triples.Triple.Triple}
 use Rattle.tn_codes.specs.declared.payloads.Payload.TheVariants as payload
-use Rattle.tn_codes.specs.declared.triples.Triple.{Triple}
-use Rattle.tn_discipline.specs.Characters.{Characters, slot}
-use Rattle.tn_discipline.specs.declared.echo.Symbol.{Symbol}
-use Rattle.tn_discipline.specs.declared.termios.Flags.{Flags}
-use Rattle.tn_linemode.specs.Exchange.{announcement, server_answers, server_is_asked, is_same_value}
-use Rattle.tn_linemode.specs.Modes.{edits, wish_of_mask}
-use Rattle.tn_linemode.specs.Triples.{triple_of}
+use Rattle.tn_discipline.specs.{Characters.{Characters, slot}, declared.{echo.Symbol.Symbol, termios.Flags.Flags}}
+use Rattle.tn_linemode.specs.{Exchange.{announcement, server_answers, server_is_asked, is_same_value}, Modes.{edits, wish_of_mask}, Triples.triple_of}
 use Rattle.tn_linemode.specs.Words.{word_items, payload_items, list_items, mode_items}
-use Rattle.tn_nvt.specs.declared.items.Item.{Item}
-use Rattle.tn_nvt.specs.declared.items.Item.TheVariants.{Byte, Newline, Cmd, Neg, Sub}
-use Rattle.tn_option.specs.Options.{Options, reply_to, answer_to}
-use Rattle.tn_option.specs.declared.q_method.AskFault.{AskFault}
-use Rattle.tn_option.specs.declared.q_method.Side.TheVariants.{Us}
-use Rattle.tn_pty.specs.Terminal.{queue_symbols, output_symbols, fitting_count}
-use Rattle.tn_pty.specs.Typing.{command_shows}
-use Rattle.tn_server.specs.Answering.{StopsWithin, first_said}
-use Rattle.tn_server.specs.Calls.{End}
-use Rattle.tn_server.specs.Events.{Event, got, took, wrote, pulled, wished, char_set, echo_set, mask_set}
-use Rattle.tn_server.specs.Replies.{asked_word_items, opening, table_items, echo_items, triple_items, forward_payload}
-use Rattle.tn_server.specs.Screen.{byte_shows}
-use Rattle.tn_server.specs.Steps.{masks_by, told_now, is_due, negotiation_items, negotiation_heard, negotiation_wishing, end_after_wish}
-use Rattle.tn_server.specs.Steps.{says_wished, mask_wished, end_after_mode_by, says_mode_by, end_after_payload, says_sub, says_item, end_after_item, owes_ga}
-use Rattle.tn_server.specs.Steps.{flags_with_echo, end_after, says, end_after_items, says_items}
-use Rattle.tn_server.specs.Terms.{linemode, echoes, payload_at, mask_for, chars_after, wants_echo}
-use Rattle.tn_server.specs.declared.faults.ServerFault.{ServerFault}
-use Rattle.tn_server.specs.declared.terms.Negotiation.{Negotiation}
+use Rattle.tn_nvt.specs.declared.items.Item.{Item, TheVariants.{Byte, Newline, Cmd, Neg, Sub}}
+use Rattle.tn_option.specs.{Options.{Options, reply_to, answer_to}, declared.q_method.{AskFault.AskFault, Side.TheVariants.Us}}
+use Rattle.tn_pty.specs.{Terminal.{queue_symbols, output_symbols, fitting_count}, Typing.command_shows}
+use Rattle.tn_server.specs.{Answering.{StopsWithin, first_said}, Calls.End, Events.{Event, got, took, wrote, pulled, wished, char_set, echo_set, mask_set}}
+use Rattle.tn_server.specs.{Replies.{asked_word_items, opening, table_items, echo_items, triple_items, forward_payload}, Screen.byte_shows}
+use Rattle.tn_server.specs.Steps.{masks_by, told_now, is_due, negotiation_items, negotiation_heard, negotiation_wishing, end_after_wish, says_wished}
+use Rattle.tn_server.specs.Steps.{mask_wished, end_after_mode_by, says_mode_by, end_after_payload, says_sub, says_item, end_after_item, owes_ga}
+use Rattle.tn_server.specs.{Steps.{flags_with_echo, end_after, says, end_after_items, says_items}, declared.faults.ServerFault.ServerFault}
+use Rattle.tn_server.specs.{Terms.{linemode, echoes, payload_at, mask_for, chars_after, wants_echo}, declared.terms.Negotiation.Negotiation}
 use Rattle.tn_client.specs.Screen.{item_shown}
 use Rattle.tn_world.specs.Output.{text_of}
 

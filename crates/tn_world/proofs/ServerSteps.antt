@@ -1,59 +1,32 @@
 -- What a server end does after a mark: with items that are calm, and with its owner's calls.
-use Rattle.std.proofs.Common.{◌≡◌, ◌≤◌, inl, inr, ℕ, ◌==◌, nat_le, Bool, true, false, not, ◌&&◌, ◌||◌, Option, Some, None, List, []}
-use Rattle.std.proofs.Common.{◌∷◌, ◌++◌, length, take, map, refl, sym, ap, ◌∙◌, if◌then◌else◌, subst, arith, append-nil}
-use Rattle.std.specs.Prelude.{All}
-use Rattle.std.proofs.lemmas.Bool.Decides.{nat_tests}
+use Rattle.std.proofs.Common.{◌≡◌, ◌≤◌, inl, inr, ℕ, ◌==◌, nat_le, Bool, true, false, not, ◌&&◌, ◌||◌, Option, Some, None, List, [], ◌∷◌, ◌++◌, length, take}
+use Rattle.std.proofs.{Common.{map, refl, sym, ap, ◌∙◌, if◌then◌else◌, subst, arith, append-nil}, lemmas.{Bool.Decides.nat_tests, Nat.and_assoc}}
 use Rattle.std.proofs.lemmas.List.Elements.{All-nil, All-cons, All-head, All-tail, All-append}
-use Rattle.std.proofs.lemmas.Nat.{and_assoc}
-use Rattle.tn_codes.specs.Masks.{filled_octets, trimmed_octets}
-use Rattle.tn_codes.specs.PayloadOf.{payload_of}
-use Rattle.tn_codes.specs.declared.codes.Command.TheVariants.{Ga}
-use Rattle.tn_codes.specs.declared.codes.Verb.{Verb}
-use Rattle.tn_codes.specs.declared.codes.Verb.TheVariants.{Will}
+use Rattle.std.specs.Prelude.{All}
+use Rattle.tn_codes.specs.{Masks.{filled_octets, trimmed_octets}, PayloadOf.payload_of, declared.codes.{Command.TheVariants.Ga, Verb.{Verb, TheVariants.Will}}}
 use Rattle.tn_codes.specs.declared.payloads.Payload.{Payload}
 use Rattle.tn_codes.specs.declared.payloads.Payload.TheVariants as payload
 use Rattle.tn_codes.proofs.lemmas.Telling.{says as says_of}
-use Rattle.tn_discipline.specs.Canon.{Canon}
-use Rattle.tn_discipline.specs.Characters.{Characters, standard_characters}
-use Rattle.tn_discipline.specs.HalfLine.{HalfLine, line_after}
-use Rattle.tn_discipline.specs.Steps.{half_next, gain_next}
-use Rattle.tn_discipline.specs.declared.echo.Symbol.{Symbol}
+use Rattle.tn_discipline.specs.{Canon.Canon, Characters.{Characters, standard_characters}, HalfLine.{HalfLine, line_after}, Steps.{half_next, gain_next}}
+use Rattle.tn_discipline.specs.declared.{echo.Symbol.Symbol, keys.Role.Role, reads.Entry.Entry, termios.{Flags.Flags, Settings.Settings}}
 use Rattle.tn_discipline.specs.declared.echo.Symbol.TheVariants as symbol
-use Rattle.tn_discipline.specs.declared.keys.Role.{Role}
-use Rattle.tn_discipline.specs.declared.reads.Entry.{Entry}
-use Rattle.tn_discipline.specs.declared.termios.Flags.{Flags}
-use Rattle.tn_discipline.specs.declared.termios.Settings.{Settings}
 use Rattle.tn_discipline.proofs.lemmas.Lines.{advances}
-use Rattle.tn_linemode.specs.Exchange.{announcement}
-use Rattle.tn_linemode.specs.Modes.{Modes, mode_of, is_acknowledged, edits}
-use Rattle.tn_linemode.specs.Words.{differ, word_items, mode_items, list_items}
-use Rattle.tn_nvt.specs.Spelling.{Fits}
-use Rattle.tn_nvt.specs.declared.items.Item.{Item}
-use Rattle.tn_nvt.specs.declared.items.Item.TheVariants.{Byte, Newline, Cmd, Neg, Sub}
-use Rattle.tn_option.specs.Options.{Options, options_after_word, reply_to, state_of}
-use Rattle.tn_option.specs.Options.{agrees_to, is_yes}
-use Rattle.tn_option.specs.declared.q_method.QState.TheVariants.{Yes}
+use Rattle.tn_linemode.specs.{Exchange.announcement, Modes.{Modes, mode_of, is_acknowledged, edits}, Words.{differ, word_items, mode_items, list_items}}
+use Rattle.tn_nvt.specs.{Spelling.Fits, declared.items.Item.{Item, TheVariants.{Byte, Newline, Cmd, Neg, Sub}}}
+use Rattle.tn_option.specs.{Options.{Options, options_after_word, reply_to, state_of, agrees_to, is_yes}, declared.q_method.QState.TheVariants.Yes}
 use Rattle.tn_option.specs.declared.q_method.Side.TheVariants.{Them}
 use Rattle.tn_pty.specs.Typing.{terminal_after, gain_of, command_role, command_shows}
-use Rattle.tn_server.specs.Calls.{End}
-use Rattle.tn_server.specs.Events.{Event, got, took, wrote, pulled, wished, char_set, echo_set, mask_set}
-use Rattle.tn_server.specs.Lines.{role_at}
-use Rattle.tn_server.specs.Screen.{byte_shows}
-use Rattle.tn_server.specs.Replies.{table_items, new_table_items, data_of}
+use Rattle.tn_server.specs.{Calls.End, Events.{Event, got, took, wrote, pulled, wished, char_set, echo_set, mask_set}, Lines.role_at, Screen.byte_shows}
+use Rattle.tn_server.specs.{Replies.{table_items, new_table_items, data_of}, Steps.says_items, Terms.{linemode, echoes, payload_at, mask_for, wants_echo}}
 use Rattle.tn_server.specs.Steps.{modes_before, modes_told, modes_asked, masks_by, is_due, negotiation_after, negotiation_items, with_negotiated}
 use Rattle.tn_server.specs.Steps.{negotiation_heard, negotiation_wishing, end_after_word, end_after_wish, says_wished, end_after_mode_by, says_mode_by}
-use Rattle.tn_server.specs.Steps.{end_after_payload, says_sub, end_after_item, says_item, owes_ga, flags_with_echo, end_after, says, end_after_items, says_items}
-use Rattle.tn_server.specs.Terms.{linemode, echoes, payload_at, mask_for, wants_echo}
-use Rattle.tn_server.specs.declared.terms.Negotiation.{Negotiation}
-use Rattle.tn_server.specs.declared.wishes.Editing.{Editing}
+use Rattle.tn_server.specs.Steps.{end_after_payload, says_sub, end_after_item, says_item, owes_ga, flags_with_echo, end_after, says, end_after_items}
+use Rattle.tn_server.specs.declared.{terms.Negotiation.Negotiation, wishes.Editing.Editing}
 use Rattle.tn_server.proofs.lemmas.Terms.{differ_self, table_again, echo_keeps_linemode}
 use Rattle.tn_world.specs.relation.Calm.{SaysCalmly, IsCalmToServer, AsksCalmly, IsCalmToClient}
-use Rattle.tn_world.specs.relation.Pictures.{Server}
-use Rattle.tn_world.proofs.Machine.{edit_by, read, read_all}
-use Rattle.tn_world.specs.relation.Pictures.{server_core, NeverEnds, IsAllowed, ServerStays}
+use Rattle.tn_world.specs.relation.Pictures.{Server, server_core, NeverEnds, IsAllowed, ServerStays}
+use Rattle.tn_world.proofs.{Machine.{edit_by, read, read_all}, Wishes.{allowed_wish, mask_asked, wish_asked}, Reading.{next_held, next_gain}}
 use Rattle.tn_world.proofs.Engines.{one, reply_made, echo_made, server_turned, server_asks, echo_keeps_state, word_keeps_state, echo_agrees, word_agrees}
-use Rattle.tn_world.proofs.Wishes.{allowed_wish, mask_asked, wish_asked}
-use Rattle.tn_world.proofs.Reading.{next_held, next_gain}
 
 -- an option word on another option leaves LINEMODE as it is
 pub words_keep_linemode : (o : Options) (verb : Verb) (option : ℕ) → (option == 34) ≡ false → linemode (options_after_word o verb option) ≡ linemode o

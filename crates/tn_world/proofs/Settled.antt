@@ -2,21 +2,14 @@
 use Rattle.std.proofs.Common.{◌≡◌, ◌⊎◌, inl, inr, ℕ, zero, suc, ◌+◌, Bool, true, false, List, [], ◌∷◌, ◌++◌, length, refl, ap, ◌∙◌, subst, arith}
 use Rattle.std.proofs.lemmas.List.{drop_all}
 use Rattle.tn_codes.specs.declared.triples.Triple.{Triple}
-use Rattle.tn_discipline.specs.Canon.{Canon}
-use Rattle.tn_discipline.specs.Characters.{Characters}
+use Rattle.tn_discipline.specs.{Canon.Canon, Characters.Characters}
 use Rattle.tn_linemode.specs.Exchange.{client_answers, server_answers, server_is_asked}
-use Rattle.tn_world.specs.Headline.{IsQuietEvent, AreQuietEvents, Follows, NothingInFlight, entries_made, half_made, local_entries, local_half}
-use Rattle.tn_world.specs.Past.{HasPast}
-use Rattle.tn_world.specs.Settling.{IsRound, RefusesRound, RunsRounds, Settles, StopsSettling, IsAtRest, HasSettled}
+use Rattle.tn_world.specs.{Headline.{IsQuietEvent, AreQuietEvents, Follows, NothingInFlight, entries_made, half_made, local_entries, local_half}, Past.HasPast}
+use Rattle.tn_world.specs.{Settling.{IsRound, RefusesRound, RunsRounds, Settles, StopsSettling, IsAtRest, HasSettled}, declared.events.Event.Event}
 use Rattle.tn_world.specs.Worlds.{World, UnlessStopped, DeliversToServer, DeliversToClient, RunsEvent, Refuses, Runs, StopsWithin, ShowsCause}
-use Rattle.tn_world.specs.declared.events.Event.{Event}
-use Rattle.tn_world.specs.declared.events.Event.TheVariants.{ToServer, ToClient}
-use Rattle.tn_world.specs.declared.faults.Cause.{Cause}
-use Rattle.tn_world.proofs.Following.{passes_ran}
-use Rattle.tn_world.proofs.Promise.{runs_on, runs_pass, run_follows, end_follows, quiet_always, headline, related}
-use Rattle.tn_world.proofs.Rounds.{first_none, first_empty, second_empty}
-use Rattle.tn_world.proofs.Soundness.{sound_reaches, sound_returns}
-use Rattle.tn_world.proofs.TooFar.{shows_cause}
+use Rattle.tn_world.specs.declared.{events.Event.TheVariants.{ToServer, ToClient}, faults.Cause.Cause}
+use Rattle.tn_world.proofs.{Following.passes_ran, Promise.{runs_on, runs_pass, run_follows, end_follows, quiet_always, headline, related}, TooFar.shows_cause}
+use Rattle.tn_world.proofs.{Rounds.{first_none, first_empty, second_empty}, Soundness.{sound_reaches, sound_returns}}
 
 -- WHAT A DELIVERY KEEPS, whether its end was stopped or not
 to_client : (old new : World) (n : ℕ) → old.client_stopped ≡ false → RunsEvent old (ToClient n) new → DeliversToClient old n new

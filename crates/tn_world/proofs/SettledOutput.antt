@@ -3,15 +3,10 @@ use Rattle.std.proofs.Common.{◌≡◌, inl, inr, ℕ, zero, suc, false, List, 
 use Rattle.std.proofs.lemmas.Grind.{flat_map-append}
 use Rattle.tn_discipline.specs.declared.echo.Symbol.{Symbol}
 use Rattle.tn_client.specs.Screen.{symbol_shown}
-use Rattle.tn_world.specs.Output.{screen, IsOutput, OutputGrows, OutputSettles, OutputStopsSettling}
-use Rattle.tn_world.specs.Past.{HasPast}
-use Rattle.tn_world.specs.Settling.{RefusesRound, RunsRounds, Settles, StopsSettling}
-use Rattle.tn_world.specs.Worlds.{World, RunsEvent, Refuses}
-use Rattle.tn_world.specs.declared.events.Event.TheVariants.{ToServer, ToClient}
+use Rattle.tn_world.specs.{Output.{screen, IsOutput, OutputGrows, OutputSettles, OutputStopsSettling}, Past.HasPast, Worlds.{World, RunsEvent, Refuses}}
+use Rattle.tn_world.specs.{Settling.{RefusesRound, RunsRounds, Settles, StopsSettling}, declared.events.Event.TheVariants.{ToServer, ToClient}}
 use Rattle.tn_world.specs.declared.faults.Cause.{Cause}
-use Rattle.tn_world.proofs.Happening.{does_keeps}
-use Rattle.tn_world.proofs.Showing.{output_grows, refused_grows}
-use Rattle.tn_world.proofs.Soundness.{sound_does, refusal_of}
+use Rattle.tn_world.proofs.{Happening.does_keeps, Showing.{output_grows, refused_grows}, Soundness.{sound_does, refusal_of}}
 
 none_settles : (w : World) (text : List ℕ) → IsOutput w text → OutputSettles w w text
 none_settles w text o =

@@ -1,33 +1,22 @@
 -- What an event adds to Output.
 use Rattle.std.proofs.Common.{◌≡◌, ℕ, Bool, true, false, List, [], ◌∷◌, ◌++◌, length, map, min, take, drop, refl, sym, ap, ◌∙◌, subst, append-nil, append_assoc}
+use Rattle.std.proofs.lemmas.{Grind.flat_map-append, List.{take-append-drop, Elements.All-nil}}
 use Rattle.std.specs.Prelude.{All}
-use Rattle.std.proofs.lemmas.Grind.{flat_map-append}
-use Rattle.std.proofs.lemmas.List.{take-append-drop}
-use Rattle.std.proofs.lemmas.List.Elements.{All-nil}
 use Rattle.tn_discipline.specs.declared.echo.Symbol.{Symbol}
 use Rattle.tn_discipline.specs.declared.echo.Symbol.TheVariants as symbol
-use Rattle.tn_nvt.specs.Spelling.{spells, Fits}
-use Rattle.tn_nvt.specs.Feeding.{DecoderState, LeadsTo}
-use Rattle.tn_nvt.specs.declared.items.Item.{Item}
+use Rattle.tn_nvt.specs.{Spelling.{spells, Fits}, Feeding.{DecoderState, LeadsTo}, declared.items.Item.Item}
 use Rattle.tn_server.specs.Events as server_calls
-use Rattle.tn_server.specs.Faults.{IsOfItem, IsOfPiece}
-use Rattle.tn_server.specs.Replies.{opening, data_of}
+use Rattle.tn_server.specs.{Faults.{IsOfItem, IsOfPiece}, Replies.{opening, data_of}, declared.faults.ServerFault.ServerFault}
 use Rattle.tn_server.specs.Answering as server_answers
 use Rattle.tn_server.specs.Calls as server
 use Rattle.tn_server.specs.Steps as server_steps
-use Rattle.tn_server.specs.declared.faults.ServerFault.{ServerFault}
 use Rattle.tn_server.specs.declared.faults.ServerFault.TheVariants as server_faults
 use Rattle.tn_server.proofs.lemmas.Fitting.{opening-fits}
 use Rattle.tn_client.specs.Screen.{item_shown, symbol_shown}
-use Rattle.tn_world.specs.Past.{HasPast}
+use Rattle.tn_world.specs.{Past.HasPast, Worlds.ServerRefusesDelivery, declared.{events.Event.{Event, TheVariants.{ToClient, Pull}}, faults.Cause.Cause}}
+use Rattle.tn_world.specs.{Flight.InFlight, Output.{screen, text_of, IsOutput, Queues, IsNoneAt, OutputGrows, OutputGrowsTo, OutputGrowsAll, OutputGrowsBefore}}
+use Rattle.tn_world.specs.Worlds.{World, UnlessStopped, DeliversToServer, DeliversToClient, CallsServer, Pulls, TakesEntry, RunsEvent, Runs, StopsWithin}
 use Rattle.tn_streams.specs.Prefixes.{IsPrefixOf}
-use Rattle.tn_world.specs.Flight.{InFlight}
-use Rattle.tn_world.specs.Output.{screen, text_of, IsOutput, Queues, IsNoneAt, OutputGrows, OutputGrowsTo, OutputGrowsAll, OutputGrowsBefore}
-use Rattle.tn_world.specs.Worlds.{World, UnlessStopped, DeliversToServer, DeliversToClient, CallsServer, Pulls, TakesEntry}
-use Rattle.tn_world.specs.Worlds.{RunsEvent, Runs, StopsWithin, ServerRefusesDelivery}
-use Rattle.tn_world.specs.declared.events.Event.{Event}
-use Rattle.tn_world.specs.declared.events.Event.TheVariants.{ToClient, Pull}
-use Rattle.tn_world.specs.declared.faults.Cause.{Cause}
 use Rattle.tn_world.proofs.Cut.{start, said_behind, cut_at}
 use Rattle.tn_world.proofs.Happening.{AddsOnly, Done, unmoved, types, enters, sends, resizes, proposes, reaches, returns, asks, takes, stops, done_of, does_keeps}
 use Rattle.tn_world.proofs.Soundness.{sound_does, opposite, Refusal, unchanged, by_server, by_client, refusal_of, asked_fit, feeds_fit, halts_fit}

@@ -1,58 +1,45 @@
 -- Whatever happens, each end stands where some history leads, and what flies to an end that goes on are whole items.
 use Rattle.std.proofs.Common.{◌≡◌, ℕ, Bool, true, false, Some, None, List, [], ◌∷◌, ◌++◌, take, drop, refl, sym, ap, ◌∙◌, subst, if◌then◌else◌, append-nil}
-use Rattle.std.specs.Prelude.{All}
 use Rattle.std.proofs.lemmas.List.Elements.{All-nil, All-append}
-use Rattle.tn_nvt.specs.declared.items.Item.{Item}
-use Rattle.tn_nvt.specs.Spelling.{lf, spells, Fits}
-use Rattle.tn_nvt.specs.Feeding.{DecoderState, LeadsTo}
+use Rattle.std.specs.Prelude.{All}
+use Rattle.tn_nvt.specs.{declared.items.Item.Item, Spelling.{lf, spells, Fits}, Feeding.{DecoderState, LeadsTo}}
 use Rattle.tn_codes.specs.declared.codes.Verb.{Verb}
-use Rattle.tn_option.specs.EnginePair.{TalkTo}
-use Rattle.tn_option.specs.Options.{Options}
+use Rattle.tn_option.specs.{EnginePair.TalkTo, Options.Options}
 use Rattle.tn_option.proofs.lemmas.Agreement.{Moves, then-Moves}
 use Rattle.tn_linemode.specs.OptionWords.{words_in}
 use Rattle.tn_linemode.proofs.lemmas.OptionWords.{words_in-append}
 use Rattle.tn_server.specs.Course as server_courses
 use Rattle.tn_server.specs.Events as server_calls
-use Rattle.tn_server.specs.Faults.{IsOfItem, IsOfPiece}
+use Rattle.tn_server.specs.{Faults.{IsOfItem, IsOfPiece}, declared.faults.ServerFault.ServerFault}
 use Rattle.tn_server.specs.Replies as server_says
 use Rattle.tn_server.specs.Answering as server_answers
 use Rattle.tn_server.specs.Calls as server
 use Rattle.tn_server.specs.Steps as server_steps
-use Rattle.tn_server.specs.declared.faults.ServerFault.{ServerFault}
 use Rattle.tn_server.specs.declared.faults.ServerFault.TheVariants as server_faults
 use Rattle.tn_server.proofs.lemmas.Courses as server_on
 use Rattle.tn_server.proofs.lemmas.Fitting as server_fits
 use Rattle.tn_server.proofs.lemmas.Gathering as server_gathers
-use Rattle.tn_server.proofs.lemmas.Histories.{limit-gets}
+use Rattle.tn_server.proofs.lemmas.{Histories.limit-gets, Stopping.stands_stopped}
 use Rattle.tn_server.proofs.lemmas.Leading as server_leads
-use Rattle.tn_server.proofs.lemmas.Stopping.{stands_stopped}
 use Rattle.tn_server.proofs.lemmas.Words as server_words
 use Rattle.tn_client.specs.Course as client_courses
 use Rattle.tn_client.specs.Events as client_calls
-use Rattle.tn_client.specs.Lines.{line_limit}
+use Rattle.tn_client.specs.{Lines.line_limit, Steps.{end_after, says, end_after_items, says_items}, declared.faults.ClientFault.ClientFault}
+use Rattle.tn_client.specs.declared.commands.UserCommand.{UserCommand}
 use Rattle.tn_client.specs.Replies as client_says
 use Rattle.tn_client.specs.Answering as answers
 use Rattle.tn_client.specs.Calls as client
-use Rattle.tn_client.specs.Steps.{end_after, says, end_after_items, says_items}
 use Rattle.tn_client.proofs.lemmas.Standings.{stands, says_as, stands_all, says_all, stands_fed}
-use Rattle.tn_client.specs.declared.faults.ClientFault.{ClientFault}
 use Rattle.tn_client.specs.declared.faults.ClientFault.TheVariants as client_faults
 use Rattle.tn_client.proofs.lemmas.Courses as client_on
 use Rattle.tn_client.proofs.lemmas.Fitting as client_fits
 use Rattle.tn_client.proofs.lemmas.Words as client_words
-use Rattle.tn_world.specs.Past.{HasPast, engines, opening_pair, WishesNothing}
-use Rattle.tn_world.specs.Flight.{InFlight}
-use Rattle.tn_world.specs.Worlds.{World, Types, SendsCommand, CallsClient, DeliversToServer, DeliversToClient, CallsServer, TakesEntry}
-use Rattle.tn_world.specs.Worlds.{RunsEvent, ServerRefusesDelivery, ClientRefusesDelivery, Refuses, client_fault}
-use Rattle.tn_client.specs.declared.commands.UserCommand.{UserCommand}
-use Rattle.tn_world.specs.declared.events.Event.{Event}
-use Rattle.tn_world.specs.declared.events.Event.TheVariants.{ToServer, ToClient}
-use Rattle.tn_world.specs.declared.faults.Cause.{Cause}
+use Rattle.tn_world.specs.{Past.{HasPast, engines, opening_pair, WishesNothing}, Flight.InFlight, declared.{events.Event.Event, faults.Cause.Cause}}
+use Rattle.tn_world.specs.Worlds.{World, Types, SendsCommand, CallsClient, DeliversToServer, DeliversToClient, CallsServer, TakesEntry, RunsEvent}
+use Rattle.tn_world.specs.{Worlds.{ServerRefusesDelivery, ClientRefusesDelivery, Refuses, client_fault}, declared.events.Event.TheVariants.{ToServer, ToClient}}
 use Rattle.tn_world.specs.declared.faults.Cause.TheVariants as cause
 use Rattle.tn_world.proofs.Happening.{Done, unmoved, types, enters, sends, resizes, proposes, reaches, returns, asks, takes, stops, done_of}
-use Rattle.tn_world.proofs.Cut.{said_behind, cut_at}
-use Rattle.tn_world.proofs.Reading.{all_parts}
-use Rattle.tn_world.proofs.Saying.{says_no_wish, said_no_wish}
+use Rattle.tn_world.proofs.{Cut.{said_behind, cut_at}, Reading.all_parts, Saying.{says_no_wish, said_no_wish}}
 
 -- what is true and false is nothing
 pub opposite : (b : Bool) (A : Type 0) → b ≡ true → b ≡ false → A

@@ -2,18 +2,13 @@
 -- questions, and the server the first of its answers; or all are answered, and the server's wishes for ECHO alone are
 -- talked of. The Bool: a contrary wish is queued behind the question (RFC 1143).
 use Rattle.std.proofs.Common.{◌≡◌, ◌⊎◌, inl, inr, ℕ, Bool, true, false, not, Option, None, List, [], ◌∷◌, ◌++◌, map, refl, sym, ap, ◌∙◌, subst, append-nil}
-use Rattle.std.specs.Prelude.{option_to_list}
 use Rattle.std.proofs.lemmas.List.{map-append}
-use Rattle.tn_codes.specs.declared.codes.Verb.{Verb}
-use Rattle.tn_codes.specs.declared.codes.Verb.TheVariants.{Will, Wont, DoIt, DontIt}
+use Rattle.std.specs.Prelude.{option_to_list}
+use Rattle.tn_codes.specs.declared.codes.Verb.{Verb, TheVariants.{Will, Wont, DoIt, DontIt}}
 use Rattle.tn_option.specs.EnginePair.{EnginePair, engine_step, asked_word, ask_here, got_here, got_there, Talk, wishes_echo, server_hears, client_hears}
-use Rattle.tn_option.specs.EnginePair.{step_of, talk_steps, TalkTo}
-use Rattle.tn_option.specs.Options.{Options, options_after_word, reply_to, options_after_wish, answer_to, new_options}
-use Rattle.tn_option.specs.QMethod.{cell}
-use Rattle.tn_option.specs.declared.negotiation.OptionSide.{OptionSide}
-use Rattle.tn_option.specs.declared.q_method.QState.{QState}
+use Rattle.tn_option.specs.{EnginePair.{step_of, talk_steps, TalkTo}, QMethod.cell, declared.{negotiation.OptionSide.OptionSide, q_method.QState.QState}}
+use Rattle.tn_option.specs.{Options.{Options, options_after_word, reply_to, options_after_wish, answer_to, new_options}, declared.q_method.Side.TheVariants.Us}
 use Rattle.tn_option.specs.declared.q_method.QState.TheVariants.{No, Yes, WantNoEmpty, WantNoOpposite, WantYesEmpty, WantYesOpposite}
-use Rattle.tn_option.specs.declared.q_method.Side.TheVariants.{Us}
 use Rattle.tn_world.specs.Past.{opening_pair}
 
 -- THE FIVE QUESTIONS, in the order in which they are asked: LINEMODE, NAWS, both directions of SUPPRESS-GO-AHEAD, and

@@ -1,35 +1,21 @@
 -- What each step of an end does to two ends that are tied by the items between them.
-use Rattle.std.proofs.Common.{◌≡◌, ℕ, Bool, true, false, List, [], ◌∷◌, ◌++◌, take, refl, sym, ap, ◌∙◌, if◌then◌else◌, subst}
+use Rattle.std.proofs.{Common.{◌≡◌, ℕ, Bool, true, false, List, [], ◌∷◌, ◌++◌, take, refl, sym, ap, ◌∙◌, if◌then◌else◌, subst}, lemmas.List.Elements.All-append}
 use Rattle.std.specs.Prelude.{All}
-use Rattle.std.proofs.lemmas.List.Elements.{All-append}
 use Rattle.tn_codes.specs.declared.codes.Command.TheVariants.{Ip}
-use Rattle.tn_nvt.specs.declared.items.Item.{Item}
-use Rattle.tn_nvt.specs.declared.items.Item.TheVariants.{Cmd}
-use Rattle.tn_nvt.specs.Feeding.{DecoderState}
-use Rattle.tn_nvt.specs.Spelling.{lf, Fits}
-use Rattle.tn_discipline.specs.Canon.{Canon, typed_entries, typed_half}
-use Rattle.tn_discipline.specs.Keys.{role_of_key}
+use Rattle.tn_nvt.specs.{declared.items.Item.{Item, TheVariants.Cmd}, Feeding.DecoderState, Spelling.{lf, Fits}}
+use Rattle.tn_discipline.specs.{Canon.{Canon, typed_entries, typed_half}, Keys.role_of_key, declared.reads.{Entry.Entry, Sig.TheVariants.Int}}
 use Rattle.tn_discipline.specs.declared.keys.Role.TheVariants as role
-use Rattle.tn_discipline.specs.declared.reads.Entry.{Entry}
-use Rattle.tn_discipline.specs.declared.reads.Sig.TheVariants.{Int}
 use Rattle.tn_linemode.specs.Modes.{edits}
 use Rattle.tn_client.specs.Calls as client
-use Rattle.tn_client.specs.Steps.{end_after_key, says_key, says_new_line, end_after_resize, says_resize, end_after_items, says_items}
-use Rattle.tn_client.specs.Terms.{linemode}
+use Rattle.tn_client.specs.{Steps.{end_after_key, says_key, says_new_line, end_after_resize, says_resize, end_after_items, says_items}, Terms.linemode}
 use Rattle.tn_server.specs.Calls as server
 use Rattle.tn_server.specs.Events as server_calls
 use Rattle.tn_server.specs.Steps as server_steps
 use Rattle.tn_streams.specs.Prefixes.{IsPrefixOf}
-use Rattle.tn_world.specs.relation.Calm.{IsCalmToServer, IsCalmToClient}
-use Rattle.tn_world.proofs.Machine.{AreSaid, SaysItems}
-use Rattle.tn_world.specs.relation.Calm.{bits, IsAskable}
-use Rattle.tn_world.specs.relation.Pictures.{Server}
-use Rattle.tn_world.proofs.Machine.{read_all}
-use Rattle.tn_world.specs.relation.Pictures.{server_core, ServerStays, ClientStays}
+use Rattle.tn_world.specs.relation.{Calm.{IsCalmToServer, IsCalmToClient, bits, IsAskable}, Pictures.{Server, server_core, ServerStays, ClientStays}}
 use Rattle.tn_world.specs.relation.Relation.{Agrees, AreOrdinary, IsTied, server_at}
-use Rattle.tn_world.proofs.ClientSteps.{key_said, line_said, key_stays, items-come, resized-writes}
-use Rattle.tn_world.proofs.ServerSteps.{KeepsEntries, calls, goes_on, calm_call, stays_call, core_call}
-use Rattle.tn_world.proofs.Reading.{all_parts, read_all-append}
+use Rattle.tn_world.proofs.{Machine.{AreSaid, SaysItems, read_all}, ClientSteps.{key_said, line_said, key_stays, items-come, resized-writes}}
+use Rattle.tn_world.proofs.{ServerSteps.{KeepsEntries, calls, goes_on, calm_call, stays_call, core_call}, Reading.{all_parts, read_all-append}}
 use Rattle.tn_world.proofs.Changing.{key-agrees, line-agrees, interrupt-agrees, beside-agrees}
 use Rattle.tn_world.proofs.Prefixes.{take-agrees, agreed, prefix_after, prefix_trans, prefix_same, read-more}
 

@@ -1,25 +1,16 @@
 -- A world is refused for too many entries that wait only where so many do.
 use Rattle.std.proofs.Common.{◌≡◌, ℕ, Bool, true, false, Option, Some, None, List, length, refl, sym, ap, ◌∙◌, if◌then◌else◌}
 use Rattle.std.specs.Prelude.{option_map}
-use Rattle.tn_discipline.specs.Characters.{char_fault}
-use Rattle.tn_discipline.specs.declared.characters.CharFault.{CharFault}
-use Rattle.tn_pty.specs.Terminal.{max_waiting}
-use Rattle.tn_pty.specs.declared.pty.PtyFault.{PtyFault}
+use Rattle.tn_discipline.specs.{Characters.char_fault, declared.characters.CharFault.CharFault}
+use Rattle.tn_pty.specs.{Terminal.max_waiting, declared.pty.PtyFault.PtyFault}
 use Rattle.tn_pty.specs.declared.pty.PtyFault.TheVariants as pty
 use Rattle.tn_server.specs.Course as server_courses
 use Rattle.tn_server.specs.Events as server_calls
-use Rattle.tn_server.specs.Faults.{IsFault}
-use Rattle.tn_server.specs.Terms.{linemode}
-use Rattle.tn_server.specs.declared.faults.ServerFault.{ServerFault}
-use Rattle.tn_server.specs.declared.faults.ServerFault.TheVariants.{Pty, Failed, Char, NotOn}
-use Rattle.tn_server.specs.Calls.{End}
+use Rattle.tn_server.specs.{Faults.IsFault, Terms.linemode, declared.faults.ServerFault.{ServerFault, TheVariants.{Pty, Failed, Char, NotOn}}, Calls.End}
 use Rattle.tn_server.specs.Steps.{end_after_items}
 use Rattle.tn_server.proofs.lemmas.Stopping.{has_read, many_by}
-use Rattle.tn_world.specs.Past.{HasPast}
-use Rattle.tn_world.specs.Worlds.{World, ServerRefusesDelivery, Refuses, StopsWithin, ShowsCause}
-use Rattle.tn_world.specs.declared.events.Event.{Event}
-use Rattle.tn_world.specs.declared.events.Event.TheVariants.{ToServer, Pull, Take, Wish, SetChar, Echo, Mask}
-use Rattle.tn_world.specs.declared.faults.Cause.{Cause}
+use Rattle.tn_world.specs.{Past.HasPast, Worlds.{World, ServerRefusesDelivery, Refuses, StopsWithin, ShowsCause}, declared.events.Event.Event}
+use Rattle.tn_world.specs.declared.{events.Event.TheVariants.{ToServer, Pull, Take, Wish, SetChar, Echo, Mask}, faults.Cause.Cause}
 use Rattle.tn_world.specs.declared.faults.Cause.TheVariants as cause
 use Rattle.tn_world.proofs.Showing.{runs_sound}
 

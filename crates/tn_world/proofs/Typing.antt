@@ -1,29 +1,14 @@
 -- What a key with EDIT does to the half line at both ends.
-use Rattle.std.proofs.Common.{◌≡◌, ◌≤◌, ◌<◌, ℕ, ◌+◌, ◌-◌, ◌==◌, nat_lt, Bool, true, false, not, ◌&&◌, Option, Some, None, List, [], ◌∷◌, ◌++◌, length, take, refl, sym, ap}
-use Rattle.std.proofs.Common.{◌∙◌, if◌then◌else◌, arith, append-nil, append_assoc, length-append, length-take}
-use Rattle.std.proofs.Math.Seq.{take-append-add}
-use Rattle.tn_discipline.specs.declared.reads.Entry.{Entry}
-use Rattle.tn_discipline.specs.Canon.{Canon}
-use Rattle.tn_discipline.specs.Limits.{max_counted}
-use Rattle.tn_discipline.specs.Steps.{front, half_next, gain_next}
-use Rattle.tn_discipline.specs.Characters.{is_set_to}
-use Rattle.tn_discipline.specs.Keys.{mapped_key, signal_of, role_by_signal, role_or_ignored, role_of_key, literal_role}
-use Rattle.tn_discipline.specs.Characters.{Characters}
-use Rattle.tn_discipline.specs.declared.termios.Settings.{Settings}
-use Rattle.tn_discipline.specs.declared.reads.Sig.{Sig}
-use Rattle.tn_discipline.specs.declared.reads.Sig.TheVariants.{Int}
-use Rattle.tn_discipline.specs.declared.keys.Role.{Role}
+use Rattle.std.proofs.Common.{◌≡◌, ◌≤◌, ◌<◌, ℕ, ◌+◌, ◌-◌, ◌==◌, nat_lt, Bool, true, false, not, ◌&&◌, Option, Some, None, List, [], ◌∷◌, ◌++◌, length, take}
+use Rattle.std.proofs.{Common.{refl, sym, ap, ◌∙◌, if◌then◌else◌, arith, append-nil, append_assoc, length-append, length-take}, Math.Seq.take-append-add}
+use Rattle.tn_discipline.specs.{declared.{reads.Entry.Entry, termios.Settings.Settings}, Canon.Canon, Limits.max_counted, Steps.{front, half_next, gain_next}}
+use Rattle.tn_discipline.specs.{Characters.{is_set_to, Characters}, Keys.{mapped_key, signal_of, role_by_signal, role_or_ignored, role_of_key, literal_role}}
+use Rattle.tn_discipline.specs.{declared.{reads.Sig.{Sig, TheVariants.Int}, keys.Role.Role}, HalfLine.{HalfLine, is_full, has_held, has_ahead}}
 use Rattle.tn_discipline.specs.declared.keys.Role.TheVariants as role
-use Rattle.tn_codes.specs.declared.codes.Command.TheVariants.{Eof}
-use Rattle.tn_codes.specs.declared.masks.Mask.{Mask}
-use Rattle.tn_discipline.specs.HalfLine.{HalfLine, is_full, has_held, has_ahead}
-use Rattle.tn_nvt.specs.declared.items.Item.{Item}
-use Rattle.tn_nvt.specs.declared.items.Item.TheVariants.{Byte, Newline, Cmd}
-use Rattle.tn_client.specs.Lines.{is_forward}
-use Rattle.tn_client.specs.Replies.{byte_items, command_of, command_items, sent_ahead_items, edit_items}
-use Rattle.tn_client.specs.Steps.{line_sent, line_typed}
-use Rattle.tn_world.proofs.Machine.{read, read_all}
-use Rattle.tn_world.proofs.Reading.{ordinary-append, ordinary-take, read-bytes, read-bytes_then}
+use Rattle.tn_codes.specs.declared.{codes.Command.TheVariants.Eof, masks.Mask.Mask}
+use Rattle.tn_nvt.specs.declared.items.Item.{Item, TheVariants.{Byte, Newline, Cmd}}
+use Rattle.tn_client.specs.{Lines.is_forward, Replies.{byte_items, command_of, command_items, sent_ahead_items, edit_items}, Steps.{line_sent, line_typed}}
+use Rattle.tn_world.proofs.{Machine.{read, read_all}, Reading.{ordinary-append, ordinary-take, read-bytes, read-bytes_then}}
 use Rattle.tn_world.specs.relation.Relation.{AreOrdinary, server_at}
 
 -- a role of a byte that would close or be kept is that of the byte as it is

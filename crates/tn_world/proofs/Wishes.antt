@@ -1,19 +1,12 @@
 -- The wish in force at a server is always one that its flags allow, and what else stays.
 use Rattle.std.proofs.Common.{◌≡◌, inl, inr, ℕ, Bool, true, false, if◌then◌else◌, Option, Some, None, refl, sym, ap, ◌∙◌, subst}
-use Rattle.tn_discipline.specs.Canon.{Canon}
-use Rattle.tn_discipline.specs.declared.termios.Flags.{Flags}
-use Rattle.tn_discipline.specs.declared.termios.Settings.{Settings}
-use Rattle.tn_option.specs.Options.{agrees_to, state_of}
-use Rattle.tn_option.specs.declared.q_method.Side.TheVariants.{Them}
-use Rattle.tn_server.specs.Calls.{End, LeadsTo}
-use Rattle.tn_server.specs.Events.{History, begun, next, got, wished}
+use Rattle.tn_discipline.specs.{Canon.Canon, declared.termios.{Flags.Flags, Settings.Settings}}
+use Rattle.tn_option.specs.{Options.{agrees_to, state_of}, declared.q_method.Side.TheVariants.Them}
+use Rattle.tn_server.specs.{Calls.{End, LeadsTo}, Events.{History, begun, next, got, wished}, Terms.{mask_for, wish_after, allows_local}}
+use Rattle.tn_server.specs.declared.wishes.Editing.{Editing, TheVariants.{Remote, Local}}
 use Rattle.tn_server.specs.Terms as terms
-use Rattle.tn_server.specs.Terms.{mask_for, wish_after, allows_local}
 use Rattle.tn_linemode.specs.Modes.{mode_of, is_acknowledged}
-use Rattle.tn_world.specs.relation.Calm.{bits, IsAskable}
-use Rattle.tn_server.specs.declared.wishes.Editing.{Editing}
-use Rattle.tn_server.specs.declared.wishes.Editing.TheVariants.{Remote, Local}
-use Rattle.tn_world.specs.relation.Pictures.{NeverEnds, IsAllowed, IsFlagged, ServerStays}
+use Rattle.tn_world.specs.relation.{Calm.{bits, IsAskable}, Pictures.{NeverEnds, IsAllowed, IsFlagged, ServerStays}}
 use Rattle.tn_world.proofs.Engines.{server_agrees}
 
 pub allowed_wish : (f : Flags) (editing : Editing) (mask : ℕ) → mask_for f editing ≡ Some mask → IsAllowed f mask

@@ -1,9 +1,6 @@
 -- The options of both ends agree (RFC 855, RFC 1143).
 use Rattle.std.specs.Prelude.{◌≡◌, ◌⊎◌, ℕ}
-use Rattle.tn_option.specs.EnginePair.{facing}
-use Rattle.tn_option.specs.Options.{state_of}
-use Rattle.tn_option.specs.declared.q_method.Side.{Side}
-use Rattle.tn_option.specs.declared.q_method.QState.{QState}
+use Rattle.tn_option.specs.{EnginePair.facing, Options.state_of, declared.q_method.{Side.Side, QState.QState}}
 use Rattle.tn_option.specs.declared.q_method.QState.TheVariants.{Yes, No}
 use Rattle.tn_world.specs.Worlds.{World}
 

@@ -1,12 +1,8 @@
 -- The key that a command of the user stands for, at a terminal with these settings.
 use Rattle.std.specs.Prelude.{◌≡◌, ℕ, Option, Some, None}
-use Rattle.tn_discipline.specs.Keys.{role_of_key}
-use Rattle.tn_discipline.specs.declared.keys.Role.{Role}
-use Rattle.tn_discipline.specs.declared.keys.Role.TheVariants.{Signal}
-use Rattle.tn_discipline.specs.declared.reads.Sig.TheVariants.{Int}
-use Rattle.tn_discipline.specs.declared.termios.Settings.{Settings}
-use Rattle.tn_client.specs.declared.commands.UserCommand.{UserCommand}
-use Rattle.tn_client.specs.declared.commands.UserCommand.TheVariants.{Brk, Ip, Ayt, Nop}
+use Rattle.tn_discipline.specs.{Keys.role_of_key, declared.keys.Role.{Role, TheVariants.Signal}}
+use Rattle.tn_discipline.specs.declared.{reads.Sig.TheVariants.Int, termios.Settings.Settings}
+use Rattle.tn_client.specs.declared.commands.UserCommand.{UserCommand, TheVariants.{Brk, Ip, Ayt, Nop}}
 
 -- this key, where its role is to interrupt
 abbrev pub key_if : Role → ℕ → Option ℕ

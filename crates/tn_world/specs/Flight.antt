@@ -1,8 +1,6 @@
 -- Bytes in flight.
 use Rattle.std.specs.Prelude.{ℕ, List, [], ◌++◌}
-use Rattle.tn_nvt.specs.declared.items.Item.{Item}
-use Rattle.tn_nvt.specs.Stream.{Reading}
-use Rattle.tn_nvt.specs.Feeding.{DecoderState, LeadsTo}
+use Rattle.tn_nvt.specs.{declared.items.Item.Item, Stream.Reading, Feeding.{DecoderState, LeadsTo}}
 
 -- These bytes are in flight to this decoder, and whole items:
 -- after some stream that it has read they are read as these.

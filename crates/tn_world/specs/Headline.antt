@@ -5,23 +5,16 @@
 -- terminal's, too. Read `Headline` at the end first, and then the words that it is made of.
 use Rattle.std.specs.Prelude.{◌≡◌, ◌⊎◌, ℕ, Bool, true, IsTrue, false, IsFalse, List, [], ◌∷◌, ◌++◌}
 use Rattle.tn_codes.specs.OptionCodes as option_code
-use Rattle.tn_discipline.specs.Canon.{Canon, typed_entries, typed_half}
-use Rattle.tn_discipline.specs.Characters.{standard_characters}
+use Rattle.tn_discipline.specs.{Canon.{Canon, typed_entries, typed_half}, Characters.standard_characters}
 use Rattle.tn_discipline.specs.declared.reads.Entry.{Entry}
-use Rattle.tn_option.specs.Options.{Options, state_of}
-use Rattle.tn_option.specs.declared.q_method.Side.{Side}
+use Rattle.tn_option.specs.{Options.{Options, state_of}, declared.q_method.{Side.Side, QState.QState}}
 use Rattle.tn_option.specs.declared.q_method.Side.TheVariants.{Us, Them}
-use Rattle.tn_option.specs.declared.q_method.QState.{QState}
 use Rattle.tn_option.specs.declared.q_method.QState.TheVariants.{No, Yes, WantNoEmpty, WantNoOpposite}
 use Rattle.tn_option.specs.declared.q_method.QState.TheVariants.{WantYesEmpty, WantYesOpposite}
 use Rattle.tn_streams.specs.Prefixes.{IsPrefixOf}
-use Rattle.tn_world.specs.Commands.{IsTypeable}
-use Rattle.tn_world.specs.Opened.{IsOpened}
-use Rattle.tn_world.specs.Past.{HasPast}
-use Rattle.tn_world.specs.Worlds.{World, RunsEvent, Refuses, canon_of}
-use Rattle.tn_world.specs.declared.events.Event.{Event}
+use Rattle.tn_world.specs.{Commands.IsTypeable, Opened.IsOpened, Past.HasPast, declared.events.Event.Event}
+use Rattle.tn_world.specs.{Worlds.{World, RunsEvent, Refuses, canon_of}, declared.faults.Cause.Cause}
 use Rattle.tn_world.specs.declared.events.Event.TheVariants.{Send, SetChar, Propose}
-use Rattle.tn_world.specs.declared.faults.Cause.{Cause}
 
 -- A SETTLED MOMENT: what `mark` finds.
 

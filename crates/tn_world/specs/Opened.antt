@@ -7,9 +7,8 @@ use Rattle.tn_server.specs.Replies.{opening}
 use Rattle.tn_server.specs.declared.faults.ServerFault.TheVariants as server_faults
 use Rattle.tn_client.specs.Course as client_courses
 use Rattle.tn_client.specs.declared.faults.ClientFault.TheVariants as client_faults
-use Rattle.tn_world.specs.Worlds.{World}
+use Rattle.tn_world.specs.{Worlds.World, declared.faults.WorldFault.WorldFault}
 use Rattle.tn_world.specs.declared.faults.Cause.TheVariants as cause
-use Rattle.tn_world.specs.declared.faults.WorldFault.{WorldFault}
 
 -- Both ends are where they start, with lines of the same limit, and have read nothing; the terminal takes
 -- keys, and the opening words are in flight.

@@ -1,15 +1,11 @@
 -- Output: all that the client's screen will have shown once the terminal's queue was sent
 -- and all in flight arrived.
-use Rattle.std.specs.Prelude.{◌≡◌, ℕ, IsFalse, List, [], ◌∷◌, ◌++◌}
-use Rattle.std.specs.List.{flat_map}
+use Rattle.std.specs.{Prelude.{◌≡◌, ℕ, IsFalse, List, [], ◌∷◌, ◌++◌}, List.flat_map}
 use Rattle.tn_discipline.specs.declared.echo.Symbol.{Symbol}
 use Rattle.tn_nvt.specs.declared.items.Item.{Item}
 use Rattle.tn_client.specs.Screen.{symbol_shown, item_shown}
-use Rattle.tn_world.specs.Flight.{InFlight}
-use Rattle.tn_world.specs.Worlds.{World, RunsEvent, Refuses, StopsWithin}
-use Rattle.tn_world.specs.declared.events.Event.{Event}
-use Rattle.tn_world.specs.declared.events.Event.TheVariants.{ToClient, Pull}
-use Rattle.tn_world.specs.declared.faults.Cause.{Cause}
+use Rattle.tn_world.specs.{Flight.InFlight, Worlds.{World, RunsEvent, Refuses, StopsWithin}}
+use Rattle.tn_world.specs.declared.{events.Event.{Event, TheVariants.{ToClient, Pull}}, faults.Cause.Cause}
 
 abbrev pub screen : List Symbol → List ℕ
 screen symbols = flat_map symbol_shown symbols

@@ -1,14 +1,9 @@
 -- What holds of every world from its opening on.
 use Rattle.std.specs.Prelude.{◌≡◌, IsTrue, IsFalse, List, [], Option, Some, All}
-use Rattle.tn_codes.specs.PayloadOf.{payload_of}
-use Rattle.tn_codes.specs.declared.payloads.Payload.{Payload}
-use Rattle.tn_codes.specs.declared.payloads.Payload.TheVariants.{Mode}
-use Rattle.tn_linemode.specs.Modes.{is_acknowledged}
-use Rattle.tn_nvt.specs.declared.items.Item.{Item}
-use Rattle.tn_nvt.specs.declared.items.Item.TheVariants.{Sub}
-use Rattle.tn_option.specs.EnginePair.{EnginePair, TalkTo}
-use Rattle.tn_option.specs.Options.{new_options}
-use Rattle.tn_linemode.specs.OptionWords.{words_in}
+use Rattle.tn_codes.specs.{PayloadOf.payload_of, declared.payloads.Payload.{Payload, TheVariants.Mode}}
+use Rattle.tn_linemode.specs.{Modes.is_acknowledged, OptionWords.words_in}
+use Rattle.tn_nvt.specs.declared.items.Item.{Item, TheVariants.Sub}
+use Rattle.tn_option.specs.{EnginePair.{EnginePair, TalkTo}, Options.new_options}
 use Rattle.tn_server.specs.Course as server_courses
 use Rattle.tn_server.specs.Events as server_calls
 use Rattle.tn_server.specs.Calls as server
@@ -16,8 +11,7 @@ use Rattle.tn_server.specs.Replies.{opening}
 use Rattle.tn_server.specs.Terms as server_terms
 use Rattle.tn_client.specs.Course as client_courses
 use Rattle.tn_client.specs.Terms as client_terms
-use Rattle.tn_world.specs.Flight.{InFlight}
-use Rattle.tn_world.specs.Worlds.{World}
+use Rattle.tn_world.specs.{Flight.InFlight, Worlds.World}
 
 -- both option engines, with the words among what is in flight to the server and back
 abbrev pub engines : World → List Item → List Item → EnginePair

@@ -1,10 +1,9 @@
 -- How a world comes to rest: rounds of deliveries, and what is in flight after them.
 use Rattle.std.specs.Prelude.{◌≡◌, ◌⊎◌, ℕ, zero, suc, ◌+◌, ◌*◌, ◌≤◌, IsFalse, [], length}
 use Rattle.tn_discipline.specs.Canon.{Canon}
-use Rattle.tn_world.specs.Headline.{Follows, NoneFailed, NothingInFlight}
+use Rattle.tn_world.specs.{Headline.{Follows, NoneFailed, NothingInFlight}, declared.faults.Cause.Cause}
 use Rattle.tn_world.specs.Worlds.{World, RunsEvent, Refuses}
 use Rattle.tn_world.specs.declared.events.Event.TheVariants.{ToServer, ToClient}
-use Rattle.tn_world.specs.declared.faults.Cause.{Cause}
 
 -- A ROUND: all that is in flight to the client arrives, and then all that is in flight to the server.
 pub record IsRound (old new : World) : Type 0 where

@@ -1,33 +1,26 @@
 -- Both ends and the two streams between them, and what an event does to them.
 use Rattle.std.specs.Prelude.{◌≡◌, ◌≢◌, ℕ, ◌<◌, Bool, true, IsTrue, false, IsFalse, min, Option, None, List}
-use Rattle.std.specs.Prelude.{[], ◌∷◌, ◌++◌}
-use Rattle.std.specs.Prelude.{length, take, drop, option_to_list}
-use Rattle.tn_discipline.specs.Canon.{Canon}
-use Rattle.tn_discipline.specs.declared.reads.Entry.{Entry}
-use Rattle.tn_pty.specs.Terminal.{max_waiting}
-use Rattle.tn_pty.specs.declared.pty.PtyFault.TheVariants.{Closed, TooFarAhead}
+use Rattle.std.specs.Prelude.{[], ◌∷◌, ◌++◌, length, take, drop, option_to_list}
+use Rattle.tn_discipline.specs.{Canon.Canon, declared.reads.Entry.Entry}
+use Rattle.tn_pty.specs.{Terminal.max_waiting, declared.pty.PtyFault.TheVariants.{Closed, TooFarAhead}}
 use Rattle.tn_nvt.specs.Spelling.{spells, lf}
 use Rattle.tn_server.specs.Events as server_calls
 use Rattle.tn_server.specs.Faults as faults
-use Rattle.tn_server.specs.Faults.{IsOfItem, IsOfPiece}
+use Rattle.tn_server.specs.{Faults.{IsOfItem, IsOfPiece}, declared.faults.ServerFault.ServerFault}
 use Rattle.tn_server.specs.Answering as server_answers
 use Rattle.tn_server.specs.Calls as server
 use Rattle.tn_server.specs.Steps as server_steps
-use Rattle.tn_server.specs.declared.faults.ServerFault.{ServerFault}
 use Rattle.tn_server.specs.declared.faults.ServerFault.TheVariants as server_faults
 use Rattle.tn_client.specs.Events as client_calls
 use Rattle.tn_client.specs.Answering as client_answers
 use Rattle.tn_client.specs.Calls as client
 use Rattle.tn_client.specs.Steps.{end_after, says, displays, SaysOrShows}
-use Rattle.tn_client.specs.declared.commands.UserCommand.{UserCommand}
-use Rattle.tn_client.specs.declared.faults.ClientFault.{ClientFault}
+use Rattle.tn_client.specs.declared.{commands.UserCommand.UserCommand, faults.ClientFault.ClientFault}
 use Rattle.tn_client.specs.declared.faults.ClientFault.TheVariants as client_faults
-use Rattle.tn_world.specs.Commands.{key_for}
-use Rattle.tn_world.specs.declared.events.Event.{Event}
-use Rattle.tn_world.specs.declared.events.Event.TheVariants.{Key, NewLine, Send, ToServer, ToClient, Write, Pull, Take}
-use Rattle.tn_world.specs.declared.events.Event.TheVariants.{Wish, Resize, SetChar, Propose, Echo, Mask}
-use Rattle.tn_world.specs.declared.events.Event.TheVariants.{ServerStops, ClientStops}
-use Rattle.tn_world.specs.declared.faults.Cause.{Cause}
+use Rattle.tn_world.specs.{Commands.key_for, declared.{events.Event.Event, faults.Cause.Cause}}
+use Rattle.tn_world.specs.declared.events.Event.TheVariants.{Key, NewLine, Send, ToServer, ToClient, Write}
+use Rattle.tn_world.specs.declared.events.Event.TheVariants.{Pull, Take, Wish, Resize, SetChar, Propose, Echo}
+use Rattle.tn_world.specs.declared.events.Event.TheVariants.{Mask, ServerStops, ClientStops}
 use Rattle.tn_world.specs.declared.faults.Cause.TheVariants as cause
 
 pub record World : Type 0 where

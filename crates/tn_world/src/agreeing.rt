@@ -1,8 +1,7 @@
 //! Whether the options of both ends agree.
 
 ghost use Rattle.std.specs.Prelude.{◌≡◌, ◌↔◌, IsTrue};
-ghost use Rattle.tn_option.specs.EnginePair.{facing};
-ghost use Rattle.tn_option.specs.declared.q_method.Side.TheVariants.{Us, Them};
+ghost use Rattle.tn_option.specs.{EnginePair.facing, declared.q_method.Side.TheVariants.{Us, Them}};
 ghost use Rattle.tn_world.specs.Agreement.{IsSameState, AgreeOn, OptionsAgree};
 ghost use Rattle.tn_world.specs.Headline.{NoneFailed, NothingInFlight};
 

@@ -4,16 +4,12 @@
 
 ghost use Rattle.std.specs.Prelude.{◌≡◌, ℕ, IsFalse, List, []};
 ghost use Rattle.tn_discipline.specs.Canon.{Canon};
-ghost use Rattle.tn_world.specs.Past.{HasPast};
+ghost use Rattle.tn_world.specs.{Past.HasPast, Headline.half_made, Output.{IsOutput, OutputGrows}};
 ghost use Rattle.tn_world.specs.Headline.{local_entries, local_half, IsBeginning, IsQuiet, AreQuietEvents};
 ghost use Rattle.tn_world.specs.Headline.{PassesQuietly, Follows, NoneFailed, NothingInFlight, entries_made};
-ghost use Rattle.tn_world.specs.Headline.{half_made};
+ghost use Rattle.tn_world.specs.{Settling.{IsRound, HasSettled}, Worlds.{World, RunsEvent}};
+ghost use Rattle.tn_world.specs.{declared.events.Event.Event, relation.Relation.IsRelated};
 ghost use Rattle.tn_streams.specs.Prefixes.{IsPrefixOf};
-ghost use Rattle.tn_world.specs.Output.{IsOutput, OutputGrows};
-ghost use Rattle.tn_world.specs.Settling.{IsRound, HasSettled};
-ghost use Rattle.tn_world.specs.Worlds.{World, RunsEvent};
-ghost use Rattle.tn_world.specs.declared.events.Event.{Event};
-ghost use Rattle.tn_world.specs.relation.Relation.{IsRelated};
 
 use tn_linemode::laws::exchanges_end;
 

@@ -1,7 +1,6 @@
 //! Whether a world is at rest.
 
-ghost use Rattle.std.specs.Prelude.{◌≡◌, ◌↔◌, true, IsTrue, []};
-ghost use Rattle.std.specs.List.{list_all};
+ghost use Rattle.std.specs.{Prelude.{◌≡◌, ◌↔◌, true, IsTrue, []}, List.list_all};
 ghost use Rattle.tn_world.specs.Headline.{IsSettled, IsSteady, is_in_order, AgreeOnLinemode, AgreeOnMask};
 ghost use Rattle.tn_world.specs.Headline.{IsIdle, IsAgreed, IsUncounted, IsEmpty};
 

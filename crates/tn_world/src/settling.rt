@@ -2,10 +2,9 @@
 
 ghost use Rattle.std.specs.Prelude.{◌≡◌, ◌↔◌, ◌≤◌, ℕ, IsTrue, IsFalse, List, OnOk, IfErr, length};
 ghost use Rattle.tn_discipline.specs.Canon.{Canon};
-ghost use Rattle.tn_world.specs.Headline.{Follows, Headline, NothingInFlight};
+ghost use Rattle.tn_world.specs.{Headline.{Follows, Headline, NothingInFlight}, Worlds.ShowsCause};
 ghost use Rattle.tn_world.specs.Output.{IsOutput, OutputSettles, OutputStopsSettling};
 ghost use Rattle.tn_world.specs.Settling.{IsRound, RefusesRound, Settles, StopsSettling, IsAtRest};
-ghost use Rattle.tn_world.specs.Worlds.{ShowsCause};
 
 use crate::faults::WorldFault;
 use crate::world::World;

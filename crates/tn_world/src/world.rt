@@ -1,13 +1,10 @@
 //! Both ends and the two streams between them.
 
 ghost use Rattle.std.specs.Prelude.{◌≡◌, ◌↔◌, true, IsTrue, false, IsFalse, [], ◌++◌, IfOk, IfErr, OnOk};
-ghost use Rattle.std.specs.Prelude.{OnErr, option_copied};
-ghost use Rattle.std.specs.Prelude.{slice_get};
+ghost use Rattle.std.specs.Prelude.{OnErr, option_copied, slice_get};
 ghost use Rattle.tn_discipline.specs.Characters.{standard_characters};
-ghost use Rattle.tn_world.specs.Headline.{IsSettled, Follows};
+ghost use Rattle.tn_world.specs.{Headline.{IsSettled, Follows}, Output.IsOutput, Worlds.canon_of};
 ghost use Rattle.tn_world.specs.Opened.{IsOpened, IsOpenFault, with_new_lists};
-ghost use Rattle.tn_world.specs.Output.{IsOutput};
-ghost use Rattle.tn_world.specs.Worlds.{canon_of};
 ghost use Rattle.tn_world.specs.declared.events.ToWhom.TheVariants as to;
 
 use crate::events::ToWhom;

@@ -1,23 +1,14 @@
 -- Courses and their histories.
-use Rattle.std.proofs.Common.{◌≡◌, ℕ, List, [], ◌∷◌, ◌++◌, refl, sym, ap, ◌∙◌, subst, append-nil, append_assoc}
-use Rattle.std.proofs.lemmas.List.{append_cancel_left}
-use Rattle.tn_nvt.specs.Feeding.{DecoderState}
+use Rattle.std.proofs.{Common.{◌≡◌, ℕ, List, [], ◌∷◌, ◌++◌, refl, sym, ap, ◌∙◌, subst, append-nil, append_assoc}, lemmas.List.append_cancel_left}
+use Rattle.tn_nvt.specs.{Feeding.DecoderState, Stream.Reading, declared.items.Item.Item}
 use Rattle.tn_nvt.specs.Feeding as nvt
-use Rattle.tn_nvt.specs.Stream.{Reading}
-use Rattle.tn_nvt.specs.declared.items.Item.{Item}
 use Rattle.tn_nvt.proofs.lemmas.Reading.{one_standing, reads_none}
-use Rattle.tn_linemode.proofs.lemmas.Reading.{same_more, part_in_two}
-use Rattle.tn_client.specs.Events.{Event, typed, got, History, next, items, gets, entered}
-use Rattle.tn_client.specs.Replies.{items_said}
-use Rattle.tn_client.specs.Screen.{text_shown}
-use Rattle.tn_client.specs.Answering.{Feeds, IsStopCause, StopsWithin}
-use Rattle.tn_client.specs.Calls.{End}
-use Rattle.tn_client.specs.Steps.{end_after, end_after_items, says_items, items_shown}
-use Rattle.tn_client.proofs.lemmas.Standings.{stands, says_all, shows_all, stands_fed}
+use Rattle.tn_linemode.proofs.lemmas.{Reading.{same_more, part_in_two}, Cutting.{cons_some, back_some}}
+use Rattle.tn_client.specs.{Events.{Event, typed, got, History, next, items, gets, entered}, Replies.items_said, Screen.text_shown, Calls.End}
+use Rattle.tn_client.specs.{Answering.{Feeds, IsStopCause, StopsWithin}, Steps.{end_after, end_after_items, says_items, items_shown}}
 use Rattle.tn_client.specs.Course.{Course, started, fed, called, stream, IsCall, ReadsAs, CourseLeadsTo}
+use Rattle.tn_client.proofs.lemmas.{Standings.{stands, says_all, shows_all, stands_fed}, Histories.{items-gets, gets-append}}
 use Rattle.tn_linemode.specs.Prefixes.{IsRead}
-use Rattle.tn_client.proofs.lemmas.Histories.{items-gets, gets-append}
-use Rattle.tn_linemode.proofs.lemmas.Cutting.{cons_some, back_some}
 
 -- a call brings no item
 pub items-call : (h : History) (e : Event) → IsCall e → items (next h e) ≡ items h

@@ -1,9 +1,7 @@
 -- What an end has, wherever it stands.
 use Rattle.std.proofs.Common.{◌≡◌, ℕ, List, [], ◌∷◌, ◌++◌, length, drop, refl, sym, ap, ◌∙◌}
 use Rattle.tn_discipline.specs.Entries.{half_of}
-use Rattle.tn_client.specs.Events.{History}
-use Rattle.tn_client.specs.Lines.{edited_roles, ahead, half_line, held_bytes, line}
-use Rattle.tn_client.specs.Calls.{End, LeadsTo}
+use Rattle.tn_client.specs.{Events.History, Lines.{edited_roles, ahead, half_line, held_bytes, line}, Calls.{End, LeadsTo}}
 
 drop-front : (sent held : List ℕ) → drop (length sent) (sent ++ held) ≡ held
 drop-front [] held = refl

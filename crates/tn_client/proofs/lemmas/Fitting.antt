@@ -1,31 +1,18 @@
 -- Each item that a client end says fits a stream.
-use Rattle.std.proofs.Common.{ℕ, Bool, true, false, not, ◌==◌, ◌&&◌, Option, Some, None, List, [], ◌∷◌, arith}
+use Rattle.std.proofs.{Common.{ℕ, Bool, true, false, not, ◌==◌, ◌&&◌, Option, Some, None, List, [], ◌∷◌, arith}, lemmas.List.Elements.All-cons}
 use Rattle.std.specs.Prelude.{All}
-use Rattle.std.proofs.lemmas.List.Elements.{All-cons}
-use Rattle.tn_codes.specs.Payloads.{parameters_of}
-use Rattle.tn_codes.specs.declared.codes.Command.{Command}
-use Rattle.tn_codes.specs.declared.masks.Mask.{Mask}
-use Rattle.tn_codes.specs.declared.payloads.Payload.{Payload}
+use Rattle.tn_codes.specs.{Payloads.parameters_of, declared.{codes.Command.Command, masks.Mask.Mask, payloads.Payload.Payload}}
 use Rattle.tn_codes.specs.declared.payloads.Payload.TheVariants as payload
-use Rattle.tn_discipline.specs.Characters.{Characters}
-use Rattle.tn_discipline.specs.HalfLine.{HalfLine, line_length, has_held, has_ahead, line_after}
-use Rattle.tn_discipline.specs.declared.keys.Role.{Role}
+use Rattle.tn_discipline.specs.{Characters.Characters, HalfLine.{HalfLine, line_length, has_held, has_ahead, line_after}, declared.keys.Role.Role}
 use Rattle.tn_discipline.specs.declared.keys.Role.TheVariants as role
-use Rattle.tn_linemode.specs.Modes.{edits, mode_answer}
-use Rattle.tn_linemode.specs.Exchange.{client_answers, client_next, client_answer}
-use Rattle.tn_linemode.specs.Triples.{triple_of}
-use Rattle.tn_nvt.specs.Spelling.{Fits, lf}
-use Rattle.tn_nvt.specs.declared.items.Item.{Item}
-use Rattle.tn_nvt.specs.declared.items.Item.TheVariants.{Byte, Newline, Cmd, Neg, Sub}
+use Rattle.tn_linemode.specs.{Modes.{edits, mode_answer}, Exchange.{client_answers, client_next, client_answer}, Triples.triple_of, Words.word_items}
+use Rattle.tn_nvt.specs.{Spelling.{Fits, lf}, declared.items.Item.{Item, TheVariants.{Byte, Newline, Cmd, Neg, Sub}}}
 use Rattle.tn_option.specs.Options.{Options, reply_to}
-use Rattle.tn_client.specs.Events.{History, Event, typed, got, resized, proposed, sent, begun, next, entered}
+use Rattle.tn_client.specs.{Events.{History, Event, typed, got, resized, proposed, sent, begun, next, entered}, Lines.{role_at, sends_ahead, line}}
 use Rattle.tn_client.specs.Terms.{options, mode, forward, chars, size, linemode, tells_size, options_after, payload_at, mode_at}
-use Rattle.tn_client.specs.Lines.{role_at, sends_ahead, line}
 use Rattle.tn_client.specs.Replies.{byte_items, command_of, command_items, raw_items, edited_key_items, sent_ahead_items, typed_items, sent_as, size_items}
 use Rattle.tn_client.specs.Replies.{new_size_items, payload_answers, answer_items, end_of_edit_items, is_same_size, command_sent, replies, items_said}
-use Rattle.tn_linemode.specs.Words.{word_items}
-use Rattle.tn_linemode.proofs.lemmas.Answering.{length-answers_along}
-use Rattle.tn_linemode.proofs.lemmas.Fitting.{Fit, none, one, both, unless, word-fits, mode-fits, list-fits}
+use Rattle.tn_linemode.proofs.lemmas.{Answering.length-answers_along, Fitting.{Fit, none, one, both, unless, word-fits, mode-fits, list-fits}}
 use Rattle.tn_linemode.proofs.lemmas.Listing.{IsShortOrNone, short_under}
 
 bytes-fit : (bs : List ℕ) → Fit (byte_items bs)

@@ -2,13 +2,9 @@
 use Rattle.std.proofs.Common.{◌≡◌, ℕ, Bool, true, false, List, [], ◌∷◌, ◌++◌, map, refl, sym, ap, ◌∙◌, append_assoc}
 use Rattle.tn_discipline.specs.HalfLine.{HalfLine}
 use Rattle.tn_linemode.specs.Modes.{edits}
-use Rattle.tn_nvt.specs.Feeding.{DecoderState}
-use Rattle.tn_nvt.specs.declared.items.Item.{Item}
-use Rattle.tn_nvt.specs.declared.items.Item.TheVariants.{Byte}
+use Rattle.tn_nvt.specs.{Feeding.DecoderState, declared.items.Item.{Item, TheVariants.Byte}}
 use Rattle.tn_linemode.proofs.lemmas.Folding as folding
-use Rattle.tn_client.specs.Calls.{End}
-use Rattle.tn_client.specs.Replies.{end_of_edit_items}
-use Rattle.tn_client.specs.Screen.{item_shown}
+use Rattle.tn_client.specs.{Calls.End, Replies.end_of_edit_items, Screen.item_shown}
 use Rattle.tn_client.specs.Steps.{line_left, count_left, count_told, end_after_item, says_got, end_after_items, says_items, items_shown}
 
 pub after_both : (old : End) (xs ys : List Item) → end_after_items old (xs ++ ys) ≡ end_after_items (end_after_items old xs) ys

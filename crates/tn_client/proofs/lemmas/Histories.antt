@@ -1,22 +1,14 @@
 -- What holds of every history.
-use Rattle.std.proofs.Common.{◌≡◌, ◌≤◌, ℕ, min, ◌==◌, Bool, true, false, not, ◌&&◌, Option, None, List, [], ◌∷◌, ◌++◌, length, take, drop, refl, sym}
-use Rattle.std.proofs.Common.{ap, ◌∙◌, if◌then◌else◌, append-nil, append_assoc, arith}
-use Rattle.std.proofs.lemmas.List.{take-append-drop}
-use Rattle.tn_codes.specs.declared.masks.Mask.{Mask}
-use Rattle.tn_codes.specs.declared.payloads.Payload.{Payload}
-use Rattle.tn_discipline.specs.Entries.{half_of}
-use Rattle.tn_discipline.specs.Keys.{role_of_key, roles_from}
-use Rattle.tn_discipline.specs.declared.keys.Role.{Role}
-use Rattle.tn_linemode.specs.Modes.{edits, traps}
-use Rattle.tn_nvt.specs.declared.items.Item.{Item}
-use Rattle.tn_nvt.specs.declared.items.Item.TheVariants.{Neg, Sub}
+use Rattle.std.proofs.Common.{◌≡◌, ◌≤◌, ℕ, min, ◌==◌, Bool, true, false, not, ◌&&◌, Option, None, List, [], ◌∷◌, ◌++◌, length, take, drop, refl, sym, ap, ◌∙◌}
+use Rattle.std.proofs.{Common.{if◌then◌else◌, append-nil, append_assoc, arith}, lemmas.List.take-append-drop}
+use Rattle.tn_codes.specs.declared.{masks.Mask.Mask, payloads.Payload.Payload}
+use Rattle.tn_discipline.specs.{Entries.half_of, Keys.{role_of_key, roles_from}, declared.keys.Role.Role}
+use Rattle.tn_linemode.specs.{Modes.{edits, traps}, Words.{payload_under, differ}}
+use Rattle.tn_nvt.specs.{declared.items.Item.{Item, TheVariants.{Neg, Sub}}, Spelling.lf}
 use Rattle.tn_option.specs.Options.{Options, options_after_word}
-use Rattle.tn_nvt.specs.Spelling.{lf}
-use Rattle.tn_client.specs.Events.{History, begun, next, typed, got, items, keys, gets, entered}
-use Rattle.tn_client.specs.Terms.{options, mode, forward, chars, linemode, payload_at, mode_by, forward_by}
-use Rattle.tn_linemode.specs.Words.{payload_under, differ}
-use Rattle.tn_client.specs.Lines.{settings_by, role_at, role_under, isig_told, roles_under, line_limit, edited_roles, half_line, is_sent_ahead, lengths_with}
-use Rattle.tn_client.specs.Lines.{lengths_kept, lengths_since_sent, least, ahead, held_bytes, count_under}
+use Rattle.tn_client.specs.{Events.{History, begun, next, typed, got, items, keys, gets, entered}, Terms.{options, mode, forward, chars, linemode, payload_at}}
+use Rattle.tn_client.specs.{Terms.{mode_by, forward_by}, Lines.{settings_by, role_at, role_under, isig_told, roles_under, line_limit, edited_roles, half_line}}
+use Rattle.tn_client.specs.Lines.{is_sent_ahead, lengths_with, lengths_kept, lengths_since_sent, least, ahead, held_bytes, count_under}
 
 pub items-gets : (h : History) (more : List Item) → items (gets h more) ≡ items h ++ more
 items-gets h [] = sym (append-nil (items h))

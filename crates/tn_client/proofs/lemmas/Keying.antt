@@ -2,17 +2,9 @@
 use Rattle.std.proofs.Common.{◌≡◌, ◌⊎◌, inl, inr, ℕ, Bool, true, false, Result, Ok, Err, OnOk, OnErr, IsOk, IsErrOf, List, ◌++◌, length, Vec, refl, sym, ◌∙◌, subst}
 use Rattle.tn_discipline.specs.HalfLine.{GivesText}
 use Rattle.tn_linemode.specs.Modes.{edits}
-use Rattle.tn_nvt.specs.Room.{LacksRoom}
-use Rattle.tn_nvt.specs.Spelling.{spells}
-use Rattle.tn_nvt.specs.declared.items.Item.{Item}
-use Rattle.tn_client.specs.Calls.{End}
-use Rattle.tn_client.specs.Lines.{key_settings}
-use Rattle.tn_client.specs.Replies.{typed_items}
-use Rattle.tn_client.specs.Screen.{key_shown}
-use Rattle.tn_client.specs.Steps.{role_now, line_typed, count_typed, end_after_key, says_typed, shows_key, LacksMemoryBy}
-use Rattle.tn_client.specs.Terms.{is_echoed}
-use Rattle.tn_client.specs.declared.faults.ClientFault.{ClientFault}
-use Rattle.tn_client.specs.declared.faults.ClientFault.TheVariants.{Memory}
+use Rattle.tn_nvt.specs.{Room.LacksRoom, Spelling.spells, declared.items.Item.Item}
+use Rattle.tn_client.specs.{Calls.End, Replies.typed_items, Steps.{role_now, line_typed, count_typed, end_after_key, says_typed, shows_key, LacksMemoryBy}}
+use Rattle.tn_client.specs.{Lines.key_settings, Screen.key_shown, Terms.is_echoed, declared.faults.ClientFault.{ClientFault, TheVariants.Memory}}
 
 -- the end after a key, what it says and what it shows, by whether the end edits
 abbrev pub end_by : Bool → End → ℕ → End

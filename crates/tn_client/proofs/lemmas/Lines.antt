@@ -1,20 +1,13 @@
 -- The end of a history, and that each end that stands there is that one.
-use Rattle.std.proofs.Common.{◌≡◌, ℕ, Bool, true, false, Option, take, refl, sym, ap, ◌∙◌}
-use Rattle.std.proofs.lemmas.List.{length-take-le}
+use Rattle.std.proofs.{Common.{◌≡◌, ℕ, Bool, true, false, Option, take, refl, sym, ap, ◌∙◌}, lemmas.List.length-take-le}
 use Rattle.tn_codes.specs.declared.masks.Mask.{Mask}
 use Rattle.tn_discipline.specs.Advancing as discipline
-use Rattle.tn_discipline.specs.Characters.{Characters}
-use Rattle.tn_discipline.specs.HalfLine.{HalfLine}
+use Rattle.tn_discipline.specs.{Characters.Characters, HalfLine.HalfLine}
 use Rattle.tn_nvt.specs.Feeding.{DecoderState, failed}
 use Rattle.tn_option.specs.Options.{Options}
-use Rattle.tn_client.specs.Events.{Event, History, next}
-use Rattle.tn_client.specs.Terms.{options, mode, forward, chars, size}
+use Rattle.tn_client.specs.{Events.{Event, History, next}, Terms.{options, mode, forward, chars, size}, Calls.{End, LeadsTo}, Steps.end_after}
 use Rattle.tn_client.specs.Lines.{edited_roles, half_line, ahead, count_under, line}
-use Rattle.tn_client.specs.Calls.{End, LeadsTo}
-use Rattle.tn_client.specs.Steps.{end_after}
-use Rattle.tn_client.proofs.lemmas.Histories.{ahead-within, parts-whole}
-use Rattle.tn_client.proofs.lemmas.Ends.{line_is}
-use Rattle.tn_client.proofs.lemmas.Standings.{stands}
+use Rattle.tn_client.proofs.lemmas.{Histories.{ahead-within, parts-whole}, Ends.line_is, Standings.stands}
 
 abbrev pub end_with : History → DecoderState → Bool → End
 end_with h d f =

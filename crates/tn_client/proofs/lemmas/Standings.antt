@@ -2,34 +2,22 @@
 use Rattle.std.proofs.Common.{◌≡◌, ℕ, Bool, true, false, min, Option, List, [], ◌∷◌, ◌++◌, length, refl, sym, ap, ◌∙◌, if◌then◌else◌, subst, append-nil}
 use Rattle.std.proofs.Common.{append_assoc}
 use Rattle.tn_codes.specs.declared.masks.Mask.{Mask}
-use Rattle.tn_discipline.specs.Admitted.{count_after, count_of}
-use Rattle.tn_discipline.specs.Characters.{Characters}
-use Rattle.tn_discipline.specs.Entries.{half_of}
-use Rattle.tn_discipline.specs.Keys.{role_of_key, roles_from}
-use Rattle.tn_discipline.specs.HalfLine.{HalfLine, empty_line, line_length, line_after}
+use Rattle.tn_discipline.specs.{Admitted.{count_after, count_of}, Characters.Characters, Entries.half_of, Keys.{role_of_key, roles_from}}
+use Rattle.tn_discipline.specs.{HalfLine.{HalfLine, empty_line, line_length, line_after}, declared.keys.Role.Role}
 use Rattle.tn_discipline.specs.Advancing as discipline
-use Rattle.tn_discipline.specs.declared.keys.Role.{Role}
 use Rattle.tn_discipline.proofs.lemmas.Lines.{advances, released_keeps, resumed_leads, after_least, length_at, count_at, count_more}
 use Rattle.tn_linemode.specs.Modes.{edits, traps}
-use Rattle.tn_nvt.specs.declared.items.Item.{Item}
-use Rattle.tn_nvt.specs.declared.items.Item.TheVariants.{Byte, Newline}
+use Rattle.tn_nvt.specs.{declared.items.Item.{Item, TheVariants.{Byte, Newline}}, Feeding.DecoderState, Spelling.lf}
 use Rattle.tn_option.specs.Options.{Options}
-use Rattle.tn_nvt.specs.Feeding.{DecoderState}
-use Rattle.tn_client.specs.Answering.{Feeds}
-use Rattle.tn_nvt.specs.Spelling.{lf}
-use Rattle.tn_client.specs.Events.{Event, typed, got, resized, History, next, gets, entered}
+use Rattle.tn_client.specs.{Answering.Feeds, Steps.{count_told, end_after_item, says_got, end_after, says, displays, end_after_items, says_items, items_shown}}
+use Rattle.tn_client.specs.{Events.{Event, typed, got, resized, History, next, gets, entered}, Lines.{line_limit, half_line, sends_ahead}, Calls.{End, LeadsTo}}
+use Rattle.tn_client.specs.Lines.{is_sent_ahead, ahead, count_under, line, settings_by, key_settings, role_of_typed, role_at, roles_under, edited_roles}
 use Rattle.tn_client.specs.Terms.{options, mode, forward, chars, size, options_after, mode_at, forward_at, chars_by, payload_at, is_echoed, tells_size}
-use Rattle.tn_client.specs.Lines.{settings_by, key_settings, role_of_typed, role_at, roles_under, edited_roles, line_limit, half_line, sends_ahead}
-use Rattle.tn_client.specs.Lines.{is_sent_ahead, ahead, count_under, line}
-use Rattle.tn_client.specs.Replies.{replies, typed_items, item_replies, resize_items, items_said}
-use Rattle.tn_client.specs.Screen.{shows, key_shown, item_shown, text_shown}
+use Rattle.tn_client.specs.{Replies.{replies, typed_items, item_replies, resize_items, items_said}, Screen.{shows, key_shown, item_shown, text_shown}}
+use Rattle.tn_client.specs.Steps.{role_now, is_sent_now, line_sent, line_typed, count_typed, end_after_key, says_typed, shows_key, line_left, count_left}
 use Rattle.tn_linemode.proofs.lemmas.Folding as folding
-use Rattle.tn_client.specs.Calls.{End, LeadsTo}
-use Rattle.tn_client.specs.Steps.{role_now, is_sent_now, line_sent, line_typed, count_typed, end_after_key, says_typed, shows_key, line_left}
-use Rattle.tn_client.specs.Steps.{count_left, count_told, end_after_item, says_got, end_after, says, displays, end_after_items, says_items, items_shown}
 use Rattle.tn_client.proofs.lemmas.Histories.{unedited, unedited-ahead, edited-typed, edited-stays, edited-begins, under-typed, under-ends, under-stays}
-use Rattle.tn_client.proofs.lemmas.Histories.{count-none, count-is, ahead-typed, ahead-stays, ahead-begins}
-use Rattle.tn_client.proofs.lemmas.Ends.{line_is}
+use Rattle.tn_client.proofs.lemmas.{Histories.{count-none, count-is, ahead-typed, ahead-stays, ahead-begins}, Ends.line_is}
 
 -- no role leaves an empty line
 leaves_none : (limit : ℕ) → discipline.LeadsTo [] (empty_line limit)

@@ -1,20 +1,10 @@
 -- What a refused piece leaves, seen from the piece's items.
 use Rattle.std.proofs.Common.{◌≡◌, ℕ, List, [], ◌∷◌, ◌++◌, sym, ap, ◌∙◌, subst, append_assoc}
-use Rattle.tn_nvt.specs.Feeding.{DecoderState}
-use Rattle.tn_nvt.specs.declared.items.Item.{Item}
+use Rattle.tn_nvt.specs.{Feeding.DecoderState, declared.items.Item.Item}
 use Rattle.tn_linemode.proofs.lemmas.Reading.{stopped_in}
-use Rattle.tn_client.specs.Course.{Course, fed, stream, ReadsAs, CourseLeadsTo}
-use Rattle.tn_client.specs.Events.{History, items, gets}
-use Rattle.tn_client.specs.Replies.{items_said}
-use Rattle.tn_client.specs.Screen.{text_shown}
-use Rattle.tn_client.specs.Answering.{IsStopCause, StopsWithin}
-use Rattle.tn_client.specs.Calls.{End}
-use Rattle.tn_client.specs.Steps.{end_after_item, end_after_items, says_items, items_shown}
-use Rattle.tn_client.specs.Stopping.{StopsBetween}
-use Rattle.tn_client.proofs.lemmas.Courses.{one_history}
-use Rattle.tn_client.proofs.lemmas.Histories.{gets-append}
-use Rattle.tn_client.proofs.lemmas.Gathering.{says_both, shown_both}
-use Rattle.tn_client.proofs.lemmas.Standings.{says_all, shows_all}
+use Rattle.tn_client.specs.{Course.{Course, fed, stream, ReadsAs, CourseLeadsTo}, Calls.End, Steps.{end_after_item, end_after_items, says_items, items_shown}}
+use Rattle.tn_client.specs.{Events.{History, items, gets}, Replies.items_said, Screen.text_shown, Answering.{IsStopCause, StopsWithin}, Stopping.StopsBetween}
+use Rattle.tn_client.proofs.lemmas.{Courses.one_history, Histories.gets-append, Gathering.{says_both, shown_both}, Standings.{says_all, shows_all}}
 
 -- a prefix of the first reply is a prefix of all that the items make the end say
 pub front_said : (end : End) (left more part : List Item) (here : DecoderState) (back : List ℕ) → IsStopCause end left part here back → (unsaid : List Item)

@@ -2,19 +2,14 @@
 use Rattle.std.proofs.Common.{◌≡◌, ◌≢◌, ◌⊎◌, inl, inr, ℕ, Bool, true, false, Option, List, [], ◌∷◌, ◌++◌, Vec, sym, subst, if◌then◌else◌}
 use Rattle.tn_codes.specs.declared.codes.Command.TheVariants as command
 use Rattle.tn_codes.specs.declared.masks.Mask.{Mask}
-use Rattle.tn_discipline.specs.HalfLine.{HalfLine, is_full, has_held, has_ahead, GivesText}
+use Rattle.tn_discipline.specs.{HalfLine.{HalfLine, is_full, has_held, has_ahead, GivesText}, declared.keys.Role.Role}
 use Rattle.tn_discipline.specs.declared.half_line.Effect.TheVariants as effect
-use Rattle.tn_discipline.specs.declared.keys.Role.{Role}
 use Rattle.tn_discipline.specs.declared.keys.Role.TheVariants as role
 use Rattle.tn_discipline.specs.declared.reads.Entry.TheVariants as entry
 use Rattle.tn_linemode.proofs.lemmas.Cutting.{cons_some}
 use Rattle.tn_nvt.proofs.lemmas.Lacking.{lacks_bytes, lacks_items}
-use Rattle.tn_nvt.specs.Spelling.{lf}
-use Rattle.tn_nvt.specs.declared.items.Item.{Item}
-use Rattle.tn_nvt.specs.declared.items.Item.TheVariants.{Byte, Newline, Cmd}
-use Rattle.tn_client.specs.Calls.{End}
-use Rattle.tn_client.specs.Events.{Event, typed, entered}
-use Rattle.tn_client.specs.Replies.{byte_items, edit_items, typed_items}
+use Rattle.tn_nvt.specs.{Spelling.lf, declared.items.Item.{Item, TheVariants.{Byte, Newline, Cmd}}}
+use Rattle.tn_client.specs.{Calls.End, Events.{Event, typed, entered}, Replies.{byte_items, edit_items, typed_items}}
 use Rattle.tn_client.specs.Steps.{role_now, says_typed, shows_key, says, LacksMemoryFor, LacksMemoryToEnter, LacksMemoryBy, LacksRoomFor, SaysOrShows}
 
 pub says_something : {Z : Type 0} (old : End) (e : Event) (out : Vec ℕ Z) → LacksRoomFor old e out → says old e ≢ []

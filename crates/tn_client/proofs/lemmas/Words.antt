@@ -1,36 +1,19 @@
 -- The option words of a client end are those of its option engine, which starts none itself.
-use Rattle.std.proofs.Common.{◌≡◌, ℕ, Bool, true, false, not, ◌&&◌, Option, None, Some, List, [], ◌∷◌, ◌++◌, refl, sym, ap, ◌∙◌, if◌then◌else◌, append-nil, subst}
-use Rattle.std.proofs.Common.{append_assoc}
-use Rattle.std.proofs.lemmas.List.{append_cancel_left}
-use Rattle.tn_codes.specs.declared.codes.Command.{Command}
-use Rattle.tn_codes.specs.declared.codes.Verb.{Verb}
-use Rattle.tn_codes.specs.declared.masks.Mask.{Mask}
-use Rattle.tn_codes.specs.declared.payloads.Payload.{Payload}
+use Rattle.std.proofs.Common.{◌≡◌, ℕ, Bool, true, false, not, ◌&&◌, Option, None, Some, List, [], ◌∷◌, ◌++◌, refl, sym, ap, ◌∙◌, if◌then◌else◌, append-nil}
+use Rattle.std.proofs.{Common.{subst, append_assoc}, lemmas.List.append_cancel_left}
+use Rattle.tn_codes.specs.declared.{codes.{Command.Command, Verb.Verb}, masks.Mask.Mask, payloads.Payload.Payload}
 use Rattle.tn_codes.specs.declared.payloads.Payload.TheVariants as payload
-use Rattle.tn_discipline.specs.Characters.{Characters}
-use Rattle.tn_discipline.specs.HalfLine.{HalfLine, line_length, has_held, has_ahead, line_after}
-use Rattle.tn_discipline.specs.declared.keys.Role.{Role}
+use Rattle.tn_discipline.specs.{Characters.Characters, HalfLine.{HalfLine, line_length, has_held, has_ahead, line_after}, declared.keys.Role.Role}
 use Rattle.tn_discipline.specs.declared.keys.Role.TheVariants as role
-use Rattle.tn_linemode.specs.Exchange.{client_answers}
-use Rattle.tn_linemode.specs.Modes.{edits, mode_answer}
-use Rattle.tn_linemode.specs.Triples.{triple_of}
-use Rattle.tn_nvt.specs.declared.items.Item.{Item}
-use Rattle.tn_nvt.specs.declared.items.Item.TheVariants.{Byte, Newline, Cmd, Neg, Sub}
-use Rattle.tn_option.specs.EnginePair.{EnginePair, talk_steps, client_hears}
-use Rattle.tn_option.specs.Options.{Options, options_after_word, reply_to}
+use Rattle.tn_linemode.specs.{Exchange.client_answers, Modes.{edits, mode_answer}, Triples.triple_of, OptionWords.words_in, Words.word_items}
+use Rattle.tn_nvt.specs.{declared.items.Item.{Item, TheVariants.{Byte, Newline, Cmd, Neg, Sub}}, Spelling.lf}
+use Rattle.tn_option.specs.{EnginePair.{EnginePair, talk_steps, client_hears}, Options.{Options, options_after_word, reply_to}}
 use Rattle.tn_option.proofs.lemmas.Agreement.{Moves, then-Moves}
-use Rattle.tn_linemode.specs.OptionWords.{words_in}
 use Rattle.tn_linemode.proofs.lemmas.OptionWords.{words_in-append, words_in-word, words_in-list, words_in-mode}
-use Rattle.tn_linemode.specs.Words.{word_items}
-use Rattle.tn_client.specs.Answering.{Feeds}
-use Rattle.tn_client.specs.Calls.{End, LeadsTo}
-use Rattle.tn_client.specs.Course.{IsCall}
-use Rattle.tn_nvt.specs.Spelling.{lf}
+use Rattle.tn_client.specs.{Answering.Feeds, Calls.{End, LeadsTo}, Course.IsCall, Lines.{role_at, sends_ahead, line}, Steps.{end_after, says, says_items}}
 use Rattle.tn_client.specs.Events.{Event, History, next, typed, got, resized, proposed, sent, gets, entered}
-use Rattle.tn_client.specs.Lines.{role_at, sends_ahead, line}
 use Rattle.tn_client.specs.Replies.{byte_items, command_of, command_items, raw_items, edited_key_items, sent_ahead_items, typed_items, sent_as, size_items}
 use Rattle.tn_client.specs.Replies.{new_size_items, payload_answers, answer_items, end_of_edit_items, is_same_size, replies, items_said}
-use Rattle.tn_client.specs.Steps.{end_after, says, says_items}
 use Rattle.tn_client.specs.Terms.{options, mode, forward, chars, size, tells_size, payload_at, options_after, mode_at}
 use Rattle.tn_client.proofs.lemmas.Standings.{says_as, says_all, stands_fed}
 

@@ -1,7 +1,5 @@
 -- A mask without the zeros at its end is no longer than it is.
-use Rattle.std.proofs.Common.{◌≡◌, ◌≢◌, ℕ, ◌+◌, ◌≤◌, inl, inr, List, [], ◌∷◌, length, arith}
-use Rattle.std.proofs.lemmas.Bool.{ne_eqb}
-use Rattle.std.proofs.lemmas.Bool.Decides.{eqb_tells}
+use Rattle.std.proofs.{Common.{◌≡◌, ◌≢◌, ℕ, ◌+◌, ◌≤◌, inl, inr, List, [], ◌∷◌, length, arith}, lemmas.Bool.{ne_eqb, Decides.eqb_tells}}
 use Rattle.tn_codes.specs.Masks.{before, trimmed_octets}
 
 length-before : (b : ℕ) (xs : List ℕ) → length (before b xs) ≤ length xs + 1

@@ -1,8 +1,6 @@
 -- The relation and the function say the same of parameters.
 use Rattle.std.proofs.Common.{◌≡◌, ℕ, List, Some}
-use Rattle.tn_codes.specs.declared.payloads.Payload.{Payload}
-use Rattle.tn_codes.specs.Payloads.{Says}
-use Rattle.tn_codes.specs.PayloadOf.{payload_of}
+use Rattle.tn_codes.specs.{declared.payloads.Payload.Payload, Payloads.Says, PayloadOf.payload_of}
 use Rattle.tn_codes.proofs.Telling as inner
 
 pub told : (option : ℕ) (params : List ℕ) (payload : Payload) → Says option params payload

@@ -1,14 +1,10 @@
 -- What a printer takes, some and then more.
 use Rattle.std.proofs.Common.{◌≡◌, ◌≢◌, ℕ, ◌+◌, ◌<◌, ◌≤◌, List, [], ◌∷◌, ◌++◌, map, length, take, drop, refl, sym, ap, ◌∙◌, subst, arith, append-nil}
-use Rattle.std.proofs.Common.{append_assoc, length-append, Result, Ok, Err, OnOk, IsOk}
-use Rattle.std.proofs.Math.Seq.{take-add}
+use Rattle.std.proofs.{Common.{append_assoc, length-append, Result, Ok, Err, OnOk, IsOk}, Math.Seq.take-add}
 use Rattle.std.proofs.lemmas.List.{map-append, take-append-drop, length-take-le}
-use Rattle.tn_nvt.specs.declared.items.Item.{Item}
-use Rattle.tn_nvt.specs.declared.items.Item.TheVariants.{Byte, Newline, Cmd, Neg, Sub}
+use Rattle.tn_nvt.specs.{declared.items.Item.{Item, TheVariants.{Byte, Newline, Cmd, Neg, Sub}}, Sinks.{all_of, TakesEach}}
 use Rattle.tn_nvt.proofs.lemmas.Folding.{taken_all}
-use Rattle.tn_nvt.specs.Sinks.{all_of, TakesEach}
-use Rattle.tn_decode.specs.Lines.{decoded, whole_line, EndsLine, IsSingle, max_data}
-use Rattle.tn_decode.specs.Texts.{data_text, item_text}
+use Rattle.tn_decode.specs.{Lines.{decoded, whole_line, EndsLine, IsSingle, max_data}, Texts.{data_text, item_text}}
 use Rattle.tn_decode.specs.Printing.{Printing, Takes, TakesSome, FillsLine, EndsData, prefix_text}
 use Rattle.tn_decode.proofs.Joining.{ends_none, ends_full, ends_single, ends_both, decoded_none, decoded_both, decoded_data, decoded_single}
 

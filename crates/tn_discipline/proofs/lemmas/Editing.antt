@@ -1,18 +1,11 @@
 -- Keys that edit a line and make no entry, and keys that close it.
 use Rattle.std.proofs.Common.{◌≡◌, ◌<◌, ◌≤◌, ℕ, zero, suc, ◌+◌, Bool, true, false, All, List, [], ◌∷◌, ◌++◌, length, take, get_or, refl, sym, ap, subst, ◌∙◌}
-use Rattle.std.proofs.Common.{if◌then◌else◌, arith}
-use Rattle.std.proofs.lemmas.List.{take_more, map-append}
-use Rattle.tn_discipline.specs.declared.keys.Role.{Role}
+use Rattle.std.proofs.{Common.{if◌then◌else◌, arith}, lemmas.List.{take_more, map-append}}
+use Rattle.tn_discipline.specs.{declared.keys.Role.Role, Entries.line_of, Keys.{roles_of, role_of_key, gives_entry}, RolesTable.IsPlain, Advancing.Advances}
+use Rattle.tn_discipline.specs.{declared.termios.Settings.Settings, HalfLine.{HalfLine, empty_line, has_held, has_ahead, effect_of, line_after, effect_entries}}
+use Rattle.tn_discipline.specs.{Runs.{line_after_all, gains_from, each_role, ordinary_roles}, Editing.{IsQuiet, closing_byte, IsClosing, with_byte}}
 use Rattle.tn_discipline.specs.declared.keys.Role.TheVariants as role
 use Rattle.tn_discipline.specs.declared.half_line.Effect.TheVariants as effect
-use Rattle.tn_discipline.specs.declared.termios.Settings.{Settings}
-use Rattle.tn_discipline.specs.Entries.{line_of}
-use Rattle.tn_discipline.specs.Keys.{roles_of, role_of_key, gives_entry}
-use Rattle.tn_discipline.specs.HalfLine.{HalfLine, empty_line, has_held, has_ahead, effect_of, line_after, effect_entries}
-use Rattle.tn_discipline.specs.Runs.{line_after_all, gains_from, each_role, ordinary_roles}
-use Rattle.tn_discipline.specs.RolesTable.{IsPlain}
-use Rattle.tn_discipline.specs.Editing.{IsQuiet, closing_byte, IsClosing, with_byte}
-use Rattle.tn_discipline.specs.Advancing.{Advances}
 use Rattle.tn_discipline.proofs.lemmas.Runs.{line_after_all-append, ordinary_gains, keys_advance}
 
 -- a step of a loop over keys

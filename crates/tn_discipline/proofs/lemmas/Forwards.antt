@@ -1,14 +1,8 @@
 -- What is said of every history is said by the half line alone, and the other way round.
-use Rattle.std.proofs.Common.{◌≡◌, ℕ, ◌<◌, List, [], ◌∷◌, ◌++◌, length, refl, sym, ap, ◌∙◌, arith, length-append}
-use Rattle.std.proofs.lemmas.List.{append_cancel_left}
-use Rattle.tn_discipline.specs.HalfLine.{HalfLine, line_length}
-use Rattle.tn_discipline.specs.Steps.{half_all, gain_all}
-use Rattle.tn_discipline.specs.Entries.{entries_of, half_of}
-use Rattle.tn_discipline.specs.Advancing.{LeadsTo, Advances, AdvancesFromLine}
-use Rattle.tn_discipline.specs.declared.keys.Role.{Role}
-use Rattle.tn_discipline.specs.declared.reads.Entry.{Entry}
-use Rattle.tn_discipline.proofs.lemmas.Histories.{half-all, entries-all}
-use Rattle.tn_discipline.proofs.lemmas.Reached.{typed, forwards}
+use Rattle.std.proofs.{Common.{◌≡◌, ℕ, ◌<◌, List, [], ◌∷◌, ◌++◌, length, refl, sym, ap, ◌∙◌, arith, length-append}, lemmas.List.append_cancel_left}
+use Rattle.tn_discipline.specs.{HalfLine.{HalfLine, line_length}, Steps.{half_all, gain_all}, Entries.{entries_of, half_of}, declared.keys.Role.Role}
+use Rattle.tn_discipline.specs.{Advancing.{LeadsTo, Advances, AdvancesFromLine}, declared.reads.Entry.Entry}
+use Rattle.tn_discipline.proofs.lemmas.{Histories.{half-all, entries-all}, Reached.{typed, forwards}}
 
 -- some keys leave this line, with these bytes ahead
 abbrev history_of : (line : HalfLine) (sent : List ℕ) → line_length line < line.limit → length sent ≡ line.ahead → LeadsTo (typed (sent ++ line.held)) line

@@ -1,10 +1,8 @@
 -- The functions that have a special character, and tables of characters by these.
 use Rattle.std.proofs.Common.{◌≡◌, ◌≢◌, ℕ, Bool, true, false, not, ◌&&◌, ◌||◌, ◌==◌, Option, Some, None, List, [], ◌∷◌, ◌⊎◌, inl, inr, refl, sym, ap, ◌∙◌}
 use Rattle.std.proofs.Common.{if◌then◌else◌, arith}
-use Rattle.std.specs.Prelude.{find}
-use Rattle.std.specs.List.{list_any}
-use Rattle.tn_codes.specs.Codes.{func_code}
-use Rattle.tn_codes.specs.declared.codes.Func.{Func}
+use Rattle.std.specs.{Prelude.find, List.list_any}
+use Rattle.tn_codes.specs.{Codes.func_code, declared.codes.Func.Func}
 use Rattle.tn_codes.specs.declared.codes.Func.TheVariants as func
 use Rattle.tn_discipline.specs.Characters.{Characters, slot, with_slot, with_each, special_functions, is_same, is_settable, is_set_to, is_taken}
 

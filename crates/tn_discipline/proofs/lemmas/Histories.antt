@@ -1,19 +1,14 @@
 -- One more key: what it does to the entries and to the half line of any keys before it.
 use Rattle.std.proofs.Common.{◌≡◌, ◌≤◌, ℕ, zero, suc, ◌-◌, Bool, true, false, Option, Some, None, List, [], ◌∷◌, ◌++◌, length, reverse, refl, sym, ap, ◌∙◌}
-use Rattle.std.proofs.Common.{if◌then◌else◌, subst, arith, append-nil, append_assoc, length-append, length-take}
-use Rattle.std.specs.List.{flat_map}
+use Rattle.std.proofs.{Common.{if◌then◌else◌, subst, arith, append-nil, append_assoc, length-append, length-take}, lemmas.Grind.flat_map-append}
 use Rattle.std.proofs.lemmas.List.{reverse-append, reverse-reverse, take_at}
-use Rattle.std.proofs.lemmas.Grind.{flat_map-append}
-use Rattle.tn_discipline.specs.declared.keys.Role.{Role}
-use Rattle.tn_discipline.specs.declared.keys.Role.TheVariants as role
-use Rattle.tn_discipline.specs.declared.reads.Entry.{Entry}
-use Rattle.tn_discipline.specs.declared.reads.Entry.TheVariants as entry
-use Rattle.tn_discipline.specs.Limits.{max_counted}
-use Rattle.tn_discipline.specs.Admitted.{next_count, is_dropped, admitted_after, admitted_roles, count_after, count_of}
-use Rattle.tn_discipline.specs.Pieces.{Piece, Pieces, closing_bytes, cut_before, pieces_of}
-use Rattle.tn_discipline.specs.Kept.{kept_backwards, kept_bytes}
+use Rattle.std.specs.List.{flat_map}
+use Rattle.tn_discipline.specs.{declared.{keys.Role.Role, reads.Entry.Entry}, Limits.max_counted, Pieces.{Piece, Pieces, closing_bytes, cut_before, pieces_of}}
+use Rattle.tn_discipline.specs.{Admitted.{next_count, is_dropped, admitted_after, admitted_roles, count_after, count_of}, Kept.{kept_backwards, kept_bytes}}
 use Rattle.tn_discipline.specs.Entries.{signals, line_of, piece_entries, entries_of, half_of}
 use Rattle.tn_discipline.specs.Steps.{front, half_after, gain_after, half_next, gain_next, half_all, gain_all}
+use Rattle.tn_discipline.specs.declared.keys.Role.TheVariants as role
+use Rattle.tn_discipline.specs.declared.reads.Entry.TheVariants as entry
 
 abbrev with_last : Pieces → Role → Pieces
 with_last p r = record { closed = p.closed; last = p.last ++ r ∷ [] }

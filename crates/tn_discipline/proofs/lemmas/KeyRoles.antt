@@ -1,12 +1,9 @@
 -- The roles of more keys.
 use Rattle.std.proofs.Common.{◌≡◌, ℕ, ◌==◌, Bool, true, false, Option, Some, None, List, [], ◌∷◌, ◌++◌, map, refl, sym, ap, ◌∙◌, if◌then◌else◌}
-use Rattle.std.specs.List.{cons_option, filter_map}
 use Rattle.std.proofs.lemmas.List.{map-append}
-use Rattle.tn_discipline.specs.Characters.{Characters, is_set_to}
+use Rattle.std.specs.List.{cons_option, filter_map}
+use Rattle.tn_discipline.specs.{Characters.{Characters, is_set_to}, declared.{termios.Settings.Settings, reads.Sig.Sig, keys.Role.Role}}
 use Rattle.tn_discipline.specs.Keys.{mapped_key, signal_of, role_by_signal, role_of_mapped, roles_of, role_or_ignored, role_of_key, roles_from, literal_role}
-use Rattle.tn_discipline.specs.declared.termios.Settings.{Settings}
-use Rattle.tn_discipline.specs.declared.reads.Sig.{Sig}
-use Rattle.tn_discipline.specs.declared.keys.Role.{Role}
 use Rattle.tn_discipline.specs.declared.keys.Role.TheVariants as role
 
 -- a role that isn't Ignored

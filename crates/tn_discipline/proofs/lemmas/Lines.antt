@@ -1,22 +1,14 @@
 -- What each role does to a line, whatever keys led to it.
 use Rattle.std.proofs.Common.{◌≡◌, ◌<◌, ◌≤◌, ℕ, ◌+◌, ◌-◌, min, Bool, true, false, List, [], ◌∷◌, ◌++◌, length, take, refl, sym, ap, subst, ◌∙◌, if◌then◌else◌}
-use Rattle.std.proofs.Common.{arith, append-nil, append_assoc, length-append, length-take}
-use Rattle.std.proofs.Math.Seq.{take-append-add}
+use Rattle.std.proofs.{Common.{arith, append-nil, append_assoc, length-append, length-take}, Math.Seq.take-append-add, lemmas.Bool.lt-ltb}
 use borrow.Author.Tests.{ltb-true, ltb-false}
-use Rattle.std.proofs.lemmas.Bool.{lt-ltb}
-use Rattle.tn_discipline.specs.declared.keys.Role.{Role}
-use Rattle.tn_discipline.specs.declared.keys.Role.TheVariants as role
-use Rattle.tn_discipline.specs.declared.reads.Entry.{Entry}
-use Rattle.tn_discipline.specs.declared.reads.Entry.TheVariants as entry
-use Rattle.tn_discipline.specs.declared.half_line.Effect.{Effect}
-use Rattle.tn_discipline.specs.declared.half_line.Effect.TheVariants as effect
-use Rattle.tn_discipline.specs.Admitted.{is_dropped, admitted_roles, count_after, count_of}
-use Rattle.tn_discipline.specs.Entries.{line_of, entries_of, half_of}
-use Rattle.tn_discipline.specs.Steps.{front, half_after, gain_after}
-use Rattle.tn_discipline.specs.Keys.{roles_from}
+use Rattle.tn_discipline.specs.{declared.{keys.Role.Role, reads.Entry.Entry, half_line.Effect.Effect}, Entries.{line_of, entries_of, half_of}, Keys.roles_from}
+use Rattle.tn_discipline.specs.{Admitted.{is_dropped, admitted_roles, count_after, count_of}, Steps.{front, half_after, gain_after}}
 use Rattle.tn_discipline.specs.HalfLine.{HalfLine, empty_line, line_length, line_released, line_resumed, line_erased, is_full, has_held, has_ahead, effect_of}
-use Rattle.tn_discipline.specs.HalfLine.{line_after, effect_entries}
-use Rattle.tn_discipline.specs.Advancing.{LeadsTo, Advances, DropsExactly, KeepsHalf, LeadsWhereLong}
+use Rattle.tn_discipline.specs.{HalfLine.{line_after, effect_entries}, Advancing.{LeadsTo, Advances, DropsExactly, KeepsHalf, LeadsWhereLong}}
+use Rattle.tn_discipline.specs.declared.keys.Role.TheVariants as role
+use Rattle.tn_discipline.specs.declared.reads.Entry.TheVariants as entry
+use Rattle.tn_discipline.specs.declared.half_line.Effect.TheVariants as effect
 use Rattle.tn_discipline.proofs.lemmas.Histories.{half-one_more, entries-one_more, length-half_of, admitted_after-append, count_after-append}
 
 empty_of : (xs : List ℕ) → length xs ≡ 0 → xs ≡ []

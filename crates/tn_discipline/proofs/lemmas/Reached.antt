@@ -1,13 +1,8 @@
 -- Each half line that fits a line is left by some keys.
 use Rattle.std.proofs.Common.{◌≡◌, ℕ, ◌+◌, ◌<◌, ◌==◌, Bool, false, List, [], ◌∷◌, ◌++◌, length, map, reverse, refl, sym, ap, subst, ◌∙◌, if◌then◌else◌, arith}
-use Rattle.std.proofs.Common.{length-append}
+use Rattle.std.proofs.{Common.length-append, lemmas.List.{reverse-append, reverse-reverse, length-reverse, length-replicate, map-append}}
 use Rattle.std.specs.Prelude.{replicate}
-use Rattle.std.proofs.lemmas.List.{reverse-append, reverse-reverse, length-reverse, length-replicate, map-append}
-use Rattle.tn_discipline.specs.HalfLine.{HalfLine, line_length}
-use Rattle.tn_discipline.specs.Limits.{max_counted}
-use Rattle.tn_discipline.specs.Admitted.{count_of}
-use Rattle.tn_discipline.specs.Entries.{half_of}
-use Rattle.tn_discipline.specs.Advancing.{LeadsTo}
+use Rattle.tn_discipline.specs.{HalfLine.{HalfLine, line_length}, Limits.max_counted, Admitted.count_of, Entries.half_of, Advancing.LeadsTo}
 use Rattle.tn_discipline.specs.declared.keys.Role.{Role}
 use Rattle.tn_discipline.specs.declared.keys.Role.TheVariants as role
 use Rattle.tn_discipline.proofs.lemmas.Histories.{half-one_more, length-half_of}

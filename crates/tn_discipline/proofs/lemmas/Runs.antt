@@ -1,20 +1,12 @@
 -- Keys, one after another.
 use Rattle.std.proofs.Common.{◌≡◌, ◌<◌, ◌≤◌, ℕ, ◌+◌, ◌-◌, min, Bool, true, false, List, [], ◌∷◌, ◌++◌, length, take, drop, refl, sym, ap, subst, ◌∙◌}
-use Rattle.std.proofs.Common.{if◌then◌else◌, arith, append-nil, append_assoc, length-append, length-take}
-use Rattle.std.proofs.lemmas.List.{map-append, take-append-drop}
-use Rattle.tn_discipline.specs.declared.keys.Role.{Role}
+use Rattle.std.proofs.{Common.{if◌then◌else◌, arith, append-nil, append_assoc, length-append, length-take}, lemmas.List.{map-append, take-append-drop}}
+use Rattle.tn_discipline.specs.{declared.{keys.Role.Role, reads.Entry.Entry, termios.Settings.Settings}, Limits.max_counted, Entries.entries_of}
+use Rattle.tn_discipline.specs.{Keys.{roles_of, role_of_key, roles_from}, HalfLine.{HalfLine, line_length, is_full, effect_of, line_after, effect_entries}}
+use Rattle.tn_discipline.specs.{Runs.{line_after_all, gains_from, each_role, ordinary_roles}, Advancing.{LeadsTo, Advances}}
 use Rattle.tn_discipline.specs.declared.keys.Role.TheVariants as role
-use Rattle.tn_discipline.specs.declared.reads.Entry.{Entry}
-use Rattle.tn_discipline.specs.declared.termios.Settings.{Settings}
 use Rattle.tn_discipline.specs.declared.half_line.Effect.TheVariants as effect
-use Rattle.tn_discipline.specs.Limits.{max_counted}
-use Rattle.tn_discipline.specs.Entries.{entries_of}
-use Rattle.tn_discipline.specs.Keys.{roles_of, role_of_key, roles_from}
-use Rattle.tn_discipline.specs.HalfLine.{HalfLine, line_length, is_full, effect_of, line_after, effect_entries}
-use Rattle.tn_discipline.specs.Runs.{line_after_all, gains_from, each_role, ordinary_roles}
-use Rattle.tn_discipline.specs.Advancing.{LeadsTo, Advances}
-use Rattle.tn_discipline.proofs.lemmas.KeyRoles.{roles_of-append, roles_of-one}
-use Rattle.tn_discipline.proofs.lemmas.Lines.{advances, advances_nothing}
+use Rattle.tn_discipline.proofs.lemmas.{KeyRoles.{roles_of-append, roles_of-one}, Lines.{advances, advances_nothing}}
 
 -- two steps are one
 pub advances_both : (old mid new : HalfLine) (xs ys : List Role) (gain more : List Entry) → Advances old xs gain mid → Advances mid ys more new

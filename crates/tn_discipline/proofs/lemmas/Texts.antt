@@ -1,14 +1,10 @@
 -- Each text that keys give has at most as many bytes as the limit says.
 use Rattle.std.proofs.Common.{◌≡◌, ◌≤◌, ◌+◌, ℕ, Bool, true, false, List, [], ◌∷◌, ◌++◌, length, refl, subst, sym, if◌then◌else◌, arith, length-append}
-use Rattle.std.specs.Prelude.{All}
 use Rattle.std.proofs.lemmas.List.Elements.{All-nil, All-cons, All-append, All-same}
-use Rattle.tn_discipline.specs.Admitted.{is_dropped}
-use Rattle.tn_discipline.specs.Entries.{HasAtMost, line_of, entries_of, half_of}
-use Rattle.tn_discipline.specs.Limits.{max_counted}
-use Rattle.tn_discipline.specs.Steps.{gain_after, gain_next, gain_all, half_next}
-use Rattle.tn_discipline.specs.declared.keys.Role.{Role}
+use Rattle.std.specs.Prelude.{All}
+use Rattle.tn_discipline.specs.{Admitted.is_dropped, Entries.{HasAtMost, line_of, entries_of, half_of}, Limits.max_counted, declared.keys.Role.Role}
+use Rattle.tn_discipline.specs.{Steps.{gain_after, gain_next, gain_all, half_next}, declared.reads.Entry.Entry}
 use Rattle.tn_discipline.specs.declared.keys.Role.TheVariants as role
-use Rattle.tn_discipline.specs.declared.reads.Entry.{Entry}
 use Rattle.tn_discipline.specs.declared.reads.Entry.TheVariants as entry
 use Rattle.tn_discipline.proofs.lemmas.Histories.{half-next, half_of-fits, entries-all}
 

@@ -1,8 +1,6 @@
 -- Tables and answers after one more triple.
 use Rattle.std.proofs.Common.{◌≡◌, ℕ, ◌+◌, ◌<◌, ◌≤◌, Option, Some, None, option_to_list, List, [], ◌∷◌, ◌++◌, length, take, get_or, refl, sym, ap, ◌∙◌}
-use Rattle.std.proofs.Common.{append_assoc, append-nil, arith, drop, length-append}
-use Rattle.std.proofs.lemmas.List.{take_more, take-append-drop}
-use Rattle.std.proofs.lemmas.List.Sums.{fold-append}
+use Rattle.std.proofs.{Common.{append_assoc, append-nil, arith, drop, length-append}, lemmas.List.{take_more, take-append-drop, Sums.fold-append}}
 use Rattle.tn_codes.specs.declared.triples.Triple.{Triple}
 use Rattle.tn_linemode.specs.Exchange.{table_after, answers_along}
 

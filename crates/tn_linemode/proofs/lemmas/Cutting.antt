@@ -1,8 +1,6 @@
 -- A prefix of what was to be said was said, and lists that are not empty.
-use Rattle.std.proofs.Common.{◌≡◌, ◌≢◌, ℕ, List, [], ◌∷◌, ◌++◌, refl, sym, ap, ◌∙◌, append_assoc}
-use Rattle.std.proofs.lemmas.Grind.{flat_map-append}
-use Rattle.tn_nvt.specs.Spelling.{spelling, spells}
-use Rattle.tn_nvt.specs.declared.items.Item.{Item}
+use Rattle.std.proofs.{Common.{◌≡◌, ◌≢◌, ℕ, List, [], ◌∷◌, ◌++◌, refl, sym, ap, ◌∙◌, append_assoc}, lemmas.Grind.flat_map-append}
+use Rattle.tn_nvt.specs.{Spelling.{spelling, spells}, declared.items.Item.Item}
 use Rattle.tn_linemode.specs.Prefixes.{AppendsPrefix}
 
 pub spells-append : (xs ys : List Item) → spells (xs ++ ys) ≡ spells xs ++ spells ys

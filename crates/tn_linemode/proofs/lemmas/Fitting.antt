@@ -1,14 +1,9 @@
 -- What either end says fits a stream.
 use Rattle.std.proofs.Common.{◌≤◌, ℕ, Bool, true, false, Option, Some, None, List, [], ◌∷◌, ◌++◌, length, if◌then◌else◌, arith}
-use Rattle.std.specs.Prelude.{All}
 use Rattle.std.proofs.lemmas.List.Elements.{All-nil, All-cons, All-append}
-use Rattle.tn_codes.specs.Payloads.{parameters_of}
-use Rattle.tn_codes.specs.declared.codes.Verb.{Verb}
-use Rattle.tn_codes.specs.declared.payloads.Payload.TheVariants.{Mode, Slc}
-use Rattle.tn_codes.specs.declared.triples.Triple.{Triple}
-use Rattle.tn_nvt.specs.Spelling.{Fits}
-use Rattle.tn_nvt.specs.declared.items.Item.{Item}
-use Rattle.tn_nvt.specs.declared.items.Item.TheVariants.{Neg, Sub}
+use Rattle.std.specs.Prelude.{All}
+use Rattle.tn_codes.specs.{Payloads.parameters_of, declared.{codes.Verb.Verb, payloads.Payload.TheVariants.{Mode, Slc}, triples.Triple.Triple}}
+use Rattle.tn_nvt.specs.{Spelling.Fits, declared.items.Item.{Item, TheVariants.{Neg, Sub}}}
 use Rattle.tn_linemode.specs.Words.{word_items, mode_items, list_items}
 use Rattle.tn_linemode.proofs.lemmas.Listing.{length-octets}
 

@@ -1,19 +1,13 @@
 -- Lists of local characters: those that came are short, and their answers fit a subnegotiation.
 use Rattle.std.proofs.Common.{◌≡◌, ◌≢◌, ◌≤◌, ◌<◌, ℕ, ◌+◌, ◌*◌, nat_le, Bool, true, false, Option, Some, None, List, [], ◌∷◌, ◌++◌, length, length-append, refl}
-use Rattle.std.proofs.Common.{ap, ◌∙◌, arith, ◌&&◌, if◌then◌else◌}
+use Rattle.std.proofs.{Common.{ap, ◌∙◌, arith, ◌&&◌, if◌then◌else◌}, lemmas.Bool.{leb-true, Decides.nat_tests}}
 use Rattle.std.specs.List.{flat_map}
-use Rattle.std.proofs.lemmas.Bool.{leb-true}
-use Rattle.std.proofs.lemmas.Bool.Decides.{nat_tests}
-use Rattle.tn_codes.specs.PayloadOf.{payload_of}
-use Rattle.tn_codes.specs.Payloads.{octets_of, Says, IsShort}
-use Rattle.tn_codes.specs.declared.payloads.Payload.{Payload}
+use Rattle.tn_codes.specs.{PayloadOf.payload_of, Payloads.{octets_of, Says, IsShort}, declared.{payloads.Payload.Payload, triples.Triple.Triple}}
 use Rattle.tn_codes.specs.declared.payloads.Payload.TheVariants.{Naws, Mode, ForwardOn, ForwardOff, ForwardYes, ForwardNo, Slc}
-use Rattle.tn_codes.specs.declared.triples.Triple.{Triple}
 use Rattle.tn_codes.proofs.lemmas.Telling.{told, says}
 use Rattle.tn_discipline.specs.Characters.{Characters}
-use Rattle.tn_linemode.specs.Exchange.{answers_along}
+use Rattle.tn_linemode.specs.{Exchange.answers_along, Words.payload_under}
 use Rattle.tn_linemode.proofs.lemmas.Answering.{length-answers_along}
-use Rattle.tn_linemode.specs.Words.{payload_under}
 
 pub length-octets : (triples : List Triple) → length (flat_map octets_of triples) ≡ 3 * length triples
 length-octets [] = refl

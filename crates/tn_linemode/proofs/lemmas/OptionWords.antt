@@ -1,12 +1,9 @@
 -- The option words among what an end says.
 use Rattle.std.proofs.Common.{◌≡◌, ℕ, Option, None, Some, List, [], ◌∷◌, ◌++◌, refl, ap}
 use Rattle.std.specs.Prelude.{option_to_list}
-use Rattle.tn_codes.specs.declared.codes.Verb.{Verb}
-use Rattle.tn_codes.specs.declared.triples.Triple.{Triple}
-use Rattle.tn_nvt.specs.declared.items.Item.{Item}
-use Rattle.tn_nvt.specs.declared.items.Item.TheVariants.{Byte, Newline, Cmd, Neg, Sub}
-use Rattle.tn_linemode.specs.OptionWords.{words_in}
-use Rattle.tn_linemode.specs.Words.{word_items, list_items, mode_items}
+use Rattle.tn_codes.specs.declared.{codes.Verb.Verb, triples.Triple.Triple}
+use Rattle.tn_nvt.specs.declared.items.Item.{Item, TheVariants.{Byte, Newline, Cmd, Neg, Sub}}
+use Rattle.tn_linemode.specs.{OptionWords.words_in, Words.{word_items, list_items, mode_items}}
 
 pub words_in-append : (xs ys : List Item) → words_in (xs ++ ys) ≡ words_in xs ++ words_in ys
 words_in-append [] ys = refl

@@ -1,8 +1,6 @@
 -- What a piece of a stream brings, by the readings of the stream before it and with it.
-use Rattle.std.proofs.Common.{◌≡◌, ℕ, List, ◌++◌, refl, sym, ap, ◌∙◌, subst, append_assoc}
-use Rattle.std.proofs.lemmas.List.{append_cancel_left}
-use Rattle.tn_nvt.specs.Stream.{Reading}
-use Rattle.tn_nvt.specs.declared.items.Item.{Item}
+use Rattle.std.proofs.{Common.{◌≡◌, ℕ, List, ◌++◌, refl, sym, ap, ◌∙◌, subst, append_assoc}, lemmas.List.append_cancel_left}
+use Rattle.tn_nvt.specs.{Stream.Reading, declared.items.Item.Item}
 use Rattle.tn_nvt.proofs.lemmas.Reading.{one_reading, reads_on}
 use Rattle.tn_linemode.specs.Prefixes.{IsRead}
 

@@ -1,27 +1,16 @@
 -- How long is what either end says, in its spelling.
 use Rattle.std.proofs.Common.{◌≡◌, ◌≢◌, ℕ, ◌+◌, ◌*◌, ◌≤◌, nat_le, Bool, true, false, ◌&&◌, Option, Some, None, option_to_list, List, [], ◌∷◌, ◌++◌, length, map}
-use Rattle.std.proofs.Common.{refl, sym, ◌∙◌, ap, arith, append-nil, if◌then◌else◌}
+use Rattle.std.proofs.{Common.{refl, sym, ◌∙◌, ap, arith, append-nil, if◌then◌else◌}, lemmas.Grind.flat_map-append}
 use Rattle.std.specs.List.{flat_map}
-use Rattle.std.proofs.lemmas.Grind.{flat_map-append}
-use Rattle.tn_codes.specs.Codes.{func_code}
-use Rattle.tn_codes.specs.PayloadOf.{payload_of}
-use Rattle.tn_codes.specs.Payloads.{octets_of, parameters_of, Says}
-use Rattle.tn_codes.specs.declared.codes.Func.{Func}
+use Rattle.tn_codes.specs.{Codes.func_code, PayloadOf.payload_of, Payloads.{octets_of, parameters_of, Says}, declared.codes.{Func.Func, Verb.Verb}}
+use Rattle.tn_codes.specs.declared.{payloads.Payload.{Payload, TheVariants.{Mode, Slc}}, triples.Triple.Triple}
 use Rattle.tn_codes.specs.declared.codes.Func.TheVariants as func
-use Rattle.tn_codes.specs.declared.codes.Verb.{Verb}
-use Rattle.tn_codes.specs.declared.payloads.Payload.{Payload}
-use Rattle.tn_codes.specs.declared.payloads.Payload.TheVariants.{Mode, Slc}
-use Rattle.tn_codes.specs.declared.triples.Triple.{Triple}
 use Rattle.tn_codes.proofs.lemmas.Telling.{says}
 use Rattle.tn_discipline.specs.Characters.{Characters, AreAllowed, slot, special_functions}
-use Rattle.tn_linemode.specs.Exchange.{announcement, answers_along, Answers}
-use Rattle.tn_linemode.specs.Triples.{triple_of}
-use Rattle.tn_nvt.specs.Spelling.{doubled_byte, doubled_bytes, spelling, spells}
-use Rattle.tn_nvt.specs.declared.items.Item.{Item}
-use Rattle.tn_nvt.specs.declared.items.Item.TheVariants.{Neg, Sub}
+use Rattle.tn_linemode.specs.{Exchange.{announcement, answers_along, Answers}, Triples.triple_of, Words.{word_items, payload_items, list_items, payload_under}}
+use Rattle.tn_nvt.specs.{Spelling.{doubled_byte, doubled_bytes, spelling, spells}, declared.items.Item.{Item, TheVariants.{Neg, Sub}}}
 use Rattle.tn_nvt.proofs.lemmas.Sizes.{doubled_within, doubled_some, doubled_alone, length-doubled-append, length-doubled-none, length-doubled-cons, length-sub}
 use Rattle.tn_nvt.proofs.lemmas.Sizes.{length-spells-append}
-use Rattle.tn_linemode.specs.Words.{word_items, payload_items, list_items, payload_under}
 
 -- the bytes of some items
 abbrev pub size : List Item → ℕ

@@ -1,11 +1,7 @@
 -- A run of messages ends as it had before, or at one of them.
 use Rattle.std.proofs.Common.{◌≡◌, ◌⊎◌, inl, inr, ⊎_elim, List, [], ◌∷◌, refl, sym, ap, ◌∙◌, subst}
 use Rattle.std.specs.List.{FoldsTo}
-use Rattle.tn_machines.specs.Counting.{first_end}
-use Rattle.tn_machines.specs.Ending.{IsEndedAt}
-use Rattle.tn_machines.specs.declared.faults.Ended.{Ended}
-use Rattle.tn_machines.specs.declared.faults.Ended.TheVariants.{HangUp, Fault}
-use Rattle.tn_machines.specs.declared.faults.SessionFault.{SessionFault}
+use Rattle.tn_machines.specs.{Counting.first_end, Ending.IsEndedAt, declared.faults.{Ended.{Ended, TheVariants.{HangUp, Fault}}, SessionFault.SessionFault}}
 
 -- the first end counts
 pub first_cases : (a b : Ended) → (first_end a b ≡ a) ⊎ (first_end a b ≡ b)

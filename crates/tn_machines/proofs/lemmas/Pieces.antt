@@ -1,15 +1,9 @@
 -- Pieces that were read in part, and what was said or read before.
-use Rattle.std.proofs.Common.{◌≡◌, ℕ, ◌<◌, All, List, [], ◌++◌, refl, sym, ap, ◌∙◌, subst, append-nil, append_assoc}
-use Rattle.std.proofs.lemmas.List.Elements.{All-append}
-use Rattle.tn_machines.specs.Pieces.{bytes_in}
-use Rattle.tn_machines.specs.declared.messages.Message.{Message}
-use Rattle.tn_machines.specs.declared.messages.Message.TheVariants.{Piece}
+use Rattle.std.proofs.{Common.{◌≡◌, ℕ, ◌<◌, All, List, [], ◌++◌, refl, sym, ap, ◌∙◌, subst, append-nil, append_assoc}, lemmas.List.Elements.All-append}
+use Rattle.tn_machines.specs.{Pieces.bytes_in, declared.messages.Message.{Message, TheVariants.Piece}}
 use Rattle.tn_nvt.proofs.lemmas.Reading.{has_reading, reads_on, spells-append}
-use Rattle.tn_nvt.specs.Feeding.{DecoderState}
+use Rattle.tn_nvt.specs.{Feeding.DecoderState, Spelling.spells, Stream.Reading, declared.items.Item.Item}
 use Rattle.tn_nvt.specs.Feeding as nvt
-use Rattle.tn_nvt.specs.Spelling.{spells}
-use Rattle.tn_nvt.specs.Stream.{Reading}
-use Rattle.tn_nvt.specs.declared.items.Item.{Item}
 use Rattle.tn_linemode.specs.Prefixes.{IsRead}
 
 -- the items of the whole piece go on from those of its front

@@ -1,45 +1,26 @@
 -- What one message does.
-use Rattle.std.proofs.Common.{◌≡◌, ◌<◌, All, ℕ, Bool, true, false, if◌then◌else◌, Option, Some, None, Result, Ok, Err, OnOk, OnErr, List, [], ◌++◌, refl, sym, ap}
-use Rattle.std.proofs.Common.{◌∙◌, subst, append-nil, append_assoc}
-use Rattle.std.proofs.lemmas.List.Elements.{All-append, All-nil}
-use Rattle.tn_client.proofs.lemmas.Gathering.{says_both, shown_both}
-use Rattle.tn_client.proofs.lemmas.Standings.{stands, says_as, displays_as, says_all, shows_all, stands_fed, fed_failed}
-use Rattle.tn_client.proofs.lemmas.Courses.{items-call, call_decoder, call_failed}
-use Rattle.tn_client.proofs.lemmas.Histories.{items-gets}
-use Rattle.tn_client.proofs.lemmas.Stopping.{front_said}
-use Rattle.tn_client.specs.Course.{IsCall}
-use Rattle.tn_client.specs.Steps.{end_after, says, displays, end_after_items, says_items, items_shown}
-use Rattle.tn_client.specs.Answering.{Untouched}
+use Rattle.std.proofs.Common.{◌≡◌, ◌<◌, All, ℕ, Bool, true, false, if◌then◌else◌, Option, Some, None, Result, Ok, Err, OnOk, OnErr, List, [], ◌++◌, refl, sym}
+use Rattle.std.proofs.{Common.{ap, ◌∙◌, subst, append-nil, append_assoc}, lemmas.List.Elements.{All-append, All-nil}}
+use Rattle.tn_client.proofs.lemmas.{Gathering.{says_both, shown_both}, Standings.{stands, says_as, displays_as, says_all, shows_all, stands_fed, fed_failed}}
+use Rattle.tn_client.proofs.lemmas.{Courses.{items-call, call_decoder, call_failed}, Histories.items-gets, Stopping.front_said}
+use Rattle.tn_client.specs.{Course.IsCall, Steps.{end_after, says, displays, end_after_items, says_items, items_shown}, Answering.Untouched}
+use Rattle.tn_client.specs.{Calls.{End, IsFault, call_fault}, Events.{History, begun, next, resized, gets, items}, Replies.{items_said, replies}}
+use Rattle.tn_client.specs.{Screen.{shows, text_shown}, declared.{commands.UserCommand.UserCommand, faults.ClientFault.ClientFault}}
 use Rattle.tn_client.specs.Answering as answers
-use Rattle.tn_client.specs.Calls.{End, IsFault, call_fault}
 use Rattle.tn_client.specs.Calls as client
-use Rattle.tn_client.specs.Events.{History, begun, next, resized, gets, items}
 use Rattle.tn_client.specs.Events as client_events
-use Rattle.tn_client.specs.Replies.{items_said, replies}
-use Rattle.tn_client.specs.Screen.{shows, text_shown}
-use Rattle.tn_client.specs.declared.commands.UserCommand.{UserCommand}
-use Rattle.tn_client.specs.declared.faults.ClientFault.{ClientFault}
 use Rattle.tn_client.specs.declared.faults.ClientFault.TheVariants as client_fault
 use Rattle.tn_machines.proofs.of_core.Typing.{items-types, said_front, shown_front, stands_keys, said_keys, shown_keys, decoder_keys, failed_keys}
-use Rattle.tn_machines.specs.client.Commands.{command_of, event_by, event_of}
-use Rattle.tn_machines.specs.client.Counting.{nothing_yet, after_piece, after_message}
-use Rattle.tn_machines.specs.client.Reaching.{LeadsTo, says_keys, shows_keys, TypesAll, TypesPrefix, DoesWhole, StopsWithin}
-use Rattle.tn_machines.specs.client.Run.{Run, resize, send, Reads, Acts, ActsUnless, Handles, types, type_keys, feed, turns, start, sent_after}
-use Rattle.tn_machines.specs.declared.client.machine.Core.{Core}
-use Rattle.tn_machines.specs.declared.client.messages.Origin.{Origin}
-use Rattle.tn_machines.specs.declared.client.messages.Origin.TheVariants.{Keys, Net}
-use Rattle.tn_machines.specs.declared.client.messages.Told.{Told}
-use Rattle.tn_machines.specs.declared.client.progress.ClientProgress.{ClientProgress}
-use Rattle.tn_streams.specs.declared.control.Control.{Control}
-use Rattle.tn_streams.specs.declared.window.WindowSize.{WindowSize}
 use Rattle.tn_machines.proofs.lemmas.Pieces.{read_on, read_as}
+use Rattle.tn_machines.specs.client.{Commands.{command_of, event_by, event_of}, Counting.{nothing_yet, after_piece, after_message}, Reaching.LeadsTo}
+use Rattle.tn_machines.specs.client.{Reaching.{says_keys, shows_keys, TypesAll, TypesPrefix, DoesWhole, StopsWithin}, Run.{Run, resize, send, Reads, Acts}}
+use Rattle.tn_machines.specs.{client.Run.{ActsUnless, Handles, types, type_keys, feed, turns, start, sent_after}, declared.client.machine.Core.Core}
+use Rattle.tn_machines.specs.declared.client.{messages.{Origin.{Origin, TheVariants.{Keys, Net}}, Told.Told}, progress.ClientProgress.ClientProgress}
+use Rattle.tn_machines.specs.declared.messages.Message.{Message, TheVariants.{Piece, HangUp, ReadFailed, Take, Said, Refused, Left, Resized, Asked}}
+use Rattle.tn_streams.specs.declared.{control.Control.Control, window.WindowSize.WindowSize}
 use Rattle.tn_nvt.proofs.lemmas.Reading.{spells-append}
-use Rattle.tn_nvt.specs.Feeding.{DecoderState}
+use Rattle.tn_nvt.specs.{Feeding.DecoderState, Spelling.spells, declared.items.Item.Item}
 use Rattle.tn_nvt.specs.Feeding as nvt
-use Rattle.tn_nvt.specs.Spelling.{spells}
-use Rattle.tn_nvt.specs.declared.items.Item.{Item}
-use Rattle.tn_machines.specs.declared.messages.Message.{Message}
-use Rattle.tn_machines.specs.declared.messages.Message.TheVariants.{Piece, HangUp, ReadFailed, Take, Said, Refused, Left, Resized, Asked}
 
 -- the core is over: nothing is known of its end
 pub is_over : (c : Run) (core : Core) → core.progress.over ≡ true → core.progress ≡ c.progress → LeadsTo c core

@@ -1,18 +1,10 @@
 -- One message with its mark.
 use Rattle.std.proofs.Common.{◌≡◌, ℕ, Bool, true, false, List, [], ◌++◌, refl, sym, ap, ◌∙◌, subst, append-nil}
-use Rattle.tn_client.specs.Events.{History}
-use Rattle.tn_client.specs.Replies.{items_said}
-use Rattle.tn_client.specs.Screen.{text_shown}
-use Rattle.tn_client.specs.declared.faults.ClientFault.{ClientFault}
-use Rattle.tn_machines.proofs.of_core.Doing.{is_over}
-use Rattle.tn_machines.specs.client.Counting.{after_failure}
-use Rattle.tn_machines.specs.client.Reaching.{DoesWhole, StopsWithin, RefusesFor, SendsPrefix, IsTurn, sent_bytes}
-use Rattle.tn_machines.specs.client.Run.{Run, ActsUnless, fail, sent_after}
-use Rattle.tn_machines.specs.declared.client.machine.Core.{Core}
-use Rattle.tn_machines.specs.declared.client.messages.ClientMark.TheVariants.{Whole, Refused}
-use Rattle.tn_machines.specs.declared.client.messages.Told.{Told}
-use Rattle.tn_machines.specs.declared.client.progress.ClientProgress.{ClientProgress}
-use Rattle.tn_machines.proofs.lemmas.Pieces.{from_none, all_spelled}
+use Rattle.tn_client.specs.{Events.History, Replies.items_said, Screen.text_shown, declared.faults.ClientFault.ClientFault}
+use Rattle.tn_machines.proofs.{of_core.Doing.is_over, lemmas.Pieces.{from_none, all_spelled}}
+use Rattle.tn_machines.specs.client.{Counting.after_failure, Reaching.{DoesWhole, StopsWithin, RefusesFor, SendsPrefix, IsTurn, sent_bytes}}
+use Rattle.tn_machines.specs.{client.Run.{Run, ActsUnless, fail, sent_after}, declared.client.{machine.Core.Core, messages.Told.Told}}
+use Rattle.tn_machines.specs.declared.client.{messages.ClientMark.TheVariants.{Whole, Refused}, progress.ClientProgress.ClientProgress}
 use Rattle.tn_nvt.specs.Spelling.{spells}
 use Rattle.tn_machines.specs.declared.faults.SessionFault.TheVariants as fault
 

@@ -1,33 +1,22 @@
 -- Each call is refused for its cause.
 use Rattle.std.proofs.Common.{◌≡◌, ◌≢◌, ◌⊎◌, inl, inr, ℕ, ◌+◌, ◌<◌, All, Bool, true, false, if◌then◌else◌, Some, None, List, [], ◌∷◌, ◌++◌, length, take, drop}
-use Rattle.std.proofs.Common.{sym, ap, ◌∙◌, subst}
-use Rattle.std.proofs.lemmas.List.{drop_more, take-append-drop}
+use Rattle.std.proofs.{Common.{sym, ap, ◌∙◌, subst}, lemmas.List.{drop_more, take-append-drop}}
 use lib.ListN.{get_or}
-use Rattle.tn_client.specs.Answering.{IsStopCause}
+use Rattle.tn_client.specs.{Answering.IsStopCause, Calls.{End, IsFault, ReadsList, call_fault}, Events.{Event, History, typed, got, resized, gets, items}}
+use Rattle.tn_client.specs.{Steps.{says, end_after_items}, declared.faults.ClientFault.ClientFault}
 use Rattle.tn_client.specs.Answering as answers
-use Rattle.tn_client.specs.Calls.{End, IsFault, ReadsList, call_fault}
 use Rattle.tn_client.specs.Calls as client
-use Rattle.tn_client.specs.Events.{Event, History, typed, got, resized, gets, items}
-use Rattle.tn_client.specs.Steps.{says, end_after_items}
 use Rattle.tn_client.specs.Steps as steps
 use Rattle.tn_client.proofs.lemmas.Standings.{says_as, displays_as, stands_all}
 use Rattle.tn_option.specs.Options.{Options}
-use Rattle.tn_machines.proofs.of_core.Typing.{stands_keys, failed_keys}
-use Rattle.tn_client.specs.declared.faults.ClientFault.{ClientFault}
+use Rattle.tn_machines.proofs.of_core.{Typing.{stands_keys, failed_keys}, Doing.read_past}
 use Rattle.tn_client.specs.declared.faults.ClientFault.TheVariants as client_fault
-use Rattle.tn_machines.proofs.of_core.Doing.{read_past}
-use Rattle.tn_machines.specs.client.Reaching.{TypesAll, RefusesFor}
-use Rattle.tn_machines.specs.client.Refusing.{SaysOrShows, MayWantMemory, RefusesAtKey, RefusesAtItem, RefusesAtByte}
-use Rattle.tn_machines.specs.client.Run.{Run, Reads, types}
-use Rattle.tn_machines.specs.declared.client.machine.Core.{Core}
-use Rattle.tn_machines.specs.declared.client.messages.Origin.{Origin}
-use Rattle.tn_streams.specs.declared.control.Control.{Control}
-use Rattle.tn_streams.specs.declared.window.WindowSize.{WindowSize}
-use Rattle.tn_machines.specs.declared.client.messages.Origin.TheVariants.{Keys, Net}
-use Rattle.tn_nvt.specs.Feeding.{DecoderState}
-use Rattle.tn_nvt.specs.Feeding as nvt
-use Rattle.tn_nvt.specs.declared.items.Item.{Item}
+use Rattle.tn_machines.specs.client.{Reaching.{TypesAll, RefusesFor}, Refusing.{SaysOrShows, MayWantMemory, RefusesAtKey, RefusesAtItem, RefusesAtByte}}
+use Rattle.tn_machines.specs.{client.Run.{Run, Reads, types}, declared.client.{machine.Core.Core, messages.Origin.{Origin, TheVariants.{Keys, Net}}}}
 use Rattle.tn_machines.specs.declared.messages.Message.TheVariants.{Piece, Resized, Asked}
+use Rattle.tn_streams.specs.declared.{control.Control.Control, window.WindowSize.WindowSize}
+use Rattle.tn_nvt.specs.{Feeding.DecoderState, declared.items.Item.Item}
+use Rattle.tn_nvt.specs.Feeding as nvt
 
 -- an end that has not failed refuses only when out of memory
 only_memory : (end : End) (f : ClientFault) → end.failed ≡ false → IsFault (call_fault end) f → f ≡ client_fault.Memory

@@ -1,19 +1,13 @@
 -- Keys, one after another.
 use Rattle.std.proofs.Common.{◌≡◌, ℕ, List, [], ◌∷◌, ◌++◌, refl, sym, ap, ◌∙◌, append-nil, append_assoc}
-use Rattle.tn_client.specs.Answering.{Untouched}
-use Rattle.tn_client.specs.Calls.{End, LeadsTo}
-use Rattle.tn_client.specs.Events.{History, next, typed, items}
-use Rattle.tn_client.specs.Replies.{items_said, replies}
-use Rattle.tn_client.specs.Screen.{text_shown, shows}
-use Rattle.tn_client.specs.Steps.{end_after_key, says_key, shows_key}
+use Rattle.tn_client.specs.{Answering.Untouched, Calls.{End, LeadsTo}, Events.{History, next, typed, items}, Replies.{items_said, replies}}
+use Rattle.tn_client.specs.{Screen.{text_shown, shows}, Steps.{end_after_key, says_key, shows_key}}
 use Rattle.tn_client.proofs.lemmas.Standings.{stands, says_as, displays_as}
 use Rattle.tn_linemode.proofs.lemmas.Folding as folding
 use Rattle.tn_linemode.proofs.lemmas.Cutting.{added_on, spelled_on}
-use Rattle.tn_machines.specs.client.Reaching.{end_after_keys, says_keys, shows_keys, TypesAll}
-use Rattle.tn_machines.specs.client.Run.{types}
+use Rattle.tn_machines.specs.client.{Reaching.{end_after_keys, says_keys, shows_keys, TypesAll}, Run.types}
 use Rattle.tn_nvt.proofs.lemmas.Reading.{spells-append}
-use Rattle.tn_nvt.specs.Spelling.{spells}
-use Rattle.tn_nvt.specs.declared.items.Item.{Item}
+use Rattle.tn_nvt.specs.{Spelling.spells, declared.items.Item.Item}
 
 types-append : (h : History) (front back : List ℕ) → types h (front ++ back) ≡ types (types h front) back
 types-append = folding.after_both (λ h key. next h (typed key))

@@ -1,35 +1,22 @@
 -- Two runs of the same messages with the same marks agree.
 use Rattle.std.proofs.Common.{◌≡◌, ℕ, Bool, true, false, ◌&&◌, Option, Some, None, List, [], ◌∷◌, ◌++◌, drop, refl, sym, ap, ◌∙◌, subst}
 use Rattle.std.specs.List.{FoldsTo}
-use Rattle.tn_discipline.specs.Canon.{Canon}
-use Rattle.tn_discipline.specs.declared.reads.Entry.{Entry}
-use Rattle.tn_jobs.specs.Jobs.{Jobs, state_at, is_foreground, with_state}
-use Rattle.tn_jobs.specs.declared.verdicts.JobState.{JobState}
+use Rattle.tn_discipline.specs.{Canon.Canon, declared.reads.Entry.Entry}
+use Rattle.tn_jobs.specs.{Jobs.{Jobs, state_at, is_foreground, with_state}, declared.verdicts.{JobState.JobState, Verdict.Verdict}}
 use Rattle.tn_jobs.specs.declared.verdicts.JobState.TheVariants as job
-use Rattle.tn_jobs.specs.declared.verdicts.Verdict.{Verdict}
 use Rattle.tn_nvt.specs.declared.items.Item.{Item}
-use Rattle.tn_server.specs.Course.{in_parts}
-use Rattle.tn_server.specs.Events.{History, next, took, items}
-use Rattle.tn_server.specs.Lines.{waiting}
-use Rattle.tn_server.specs.Screen.{queue}
-use Rattle.tn_server.specs.declared.wishes.Editing.{Editing}
+use Rattle.tn_server.specs.{Course.in_parts, Events.{History, next, took, items}, Lines.waiting, Screen.queue, declared.wishes.Editing.Editing}
 use Rattle.tn_machines.proofs.of_terminal.Alike.{Alike, alike_self, alike_gets, alike_took, alike_flushed, alike_parts, none_left, same_entries}
 use Rattle.tn_machines.proofs.lemmas.server.Hearing.{move_keeps}
-use Rattle.tn_machines.specs.server.Agreeing.{Agree}
-use Rattle.tn_machines.specs.server.Counting as counting
-use Rattle.tn_machines.specs.server.Marks.{Turns, Runs, put_or_not, asks_at, run_after_opening}
+use Rattle.tn_machines.specs.server.{Agreeing.Agree, Marks.{Turns, Runs, put_or_not, asks_at, run_after_opening}, Run.{idle_puts, flushed_history, start}}
 use Rattle.tn_machines.specs.server.Run.{Run, Acts, ActsUnless, Cuts, Reads, flush, feed, ask, ask_if, answer, end_if, hang_up, ends_by, move, stop_job}
 use Rattle.tn_machines.specs.server.Run.{end_job, in_foreground, verdict, verdict_at, has_text, after_said, writes, halt, halt_if, is_end, show, fail, idle}
-use Rattle.tn_machines.specs.server.Run.{idle_puts, flushed_history, start}
-use Rattle.tn_machines.specs.declared.faults.Ended.{Ended}
-use Rattle.tn_machines.specs.declared.faults.Ended.TheVariants.{Fault, Done}
-use Rattle.tn_machines.specs.declared.faults.SessionFault.{SessionFault}
-use Rattle.tn_machines.specs.declared.faults.SessionFault.TheVariants as fault
-use Rattle.tn_machines.specs.declared.server.messages.ServerMark.{ServerMark}
-use Rattle.tn_machines.specs.declared.server.messages.ServerMark.TheVariants as mark
-use Rattle.tn_machines.specs.declared.messages.Message.{Message}
-use Rattle.tn_machines.specs.declared.messages.Message.TheVariants.{Piece, HangUp, ReadFailed, Take, Said, Refused}
+use Rattle.tn_machines.specs.declared.{faults.{Ended.{Ended, TheVariants.{Fault, Done}}, SessionFault.SessionFault}, server.messages.ServerMark.ServerMark}
+use Rattle.tn_machines.specs.declared.messages.Message.{Message, TheVariants.{Piece, HangUp, ReadFailed, Take, Said, Refused}}
 use Rattle.tn_machines.specs.declared.server.progress.ServerProgress.{ServerProgress}
+use Rattle.tn_machines.specs.server.Counting as counting
+use Rattle.tn_machines.specs.declared.faults.SessionFault.TheVariants as fault
+use Rattle.tn_machines.specs.declared.server.messages.ServerMark.TheVariants as mark
 use Rattle.tn_linemode.proofs.lemmas.Reading.{same_more}
 use Rattle.tn_linemode.specs.Prefixes.{IsRead}
 

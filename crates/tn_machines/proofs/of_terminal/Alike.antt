@@ -1,27 +1,17 @@
 -- Histories whose ends can't be told apart.
 use Rattle.std.proofs.Common.{◌≡◌, ℕ, zero, suc, ◌+◌, nat_lt, Bool, true, false, not, ◌||◌, List, [], ◌∷◌, ◌++◌, length, take, drop, map, arith, refl, sym, ap}
-use Rattle.std.proofs.Common.{◌∙◌, subst, append-nil, append_assoc, length-append, if◌then◌else◌}
-use Rattle.std.proofs.lemmas.Bool.{lt-ltb}
+use Rattle.std.proofs.{Common.{◌∙◌, subst, append-nil, append_assoc, length-append, if◌then◌else◌}, lemmas.Bool.lt-ltb}
 use Rattle.std.proofs.lemmas.List.{append_cancel_left, drop_all, length-map}
-use Rattle.std.specs.List.{concat, flat_map}
-use Rattle.std.specs.Prelude.{All}
-use Rattle.tn_discipline.specs.Entries.{entries_of, half_of}
-use Rattle.tn_discipline.specs.Keys.{roles_from}
-use Rattle.tn_discipline.specs.declared.echo.Symbol.{Symbol}
-use Rattle.tn_discipline.specs.declared.termios.Flags.{Flags}
+use Rattle.std.specs.{List.{concat, flat_map}, Prelude.All}
+use Rattle.tn_discipline.specs.{Entries.{entries_of, half_of}, Keys.roles_from, declared.{echo.Symbol.Symbol, termios.Flags.Flags}}
 use Rattle.tn_linemode.specs.Modes.{edits}
 use Rattle.tn_codes.specs.declared.codes.Command.TheVariants.{Ga}
-use Rattle.tn_nvt.specs.declared.items.Item.{Item}
-use Rattle.tn_nvt.specs.declared.items.Item.TheVariants.{Cmd}
+use Rattle.tn_nvt.specs.declared.items.Item.{Item, TheVariants.Cmd}
 use Rattle.tn_pty.specs.Terminal.{queue_with, output_symbols}
-use Rattle.tn_server.proofs.lemmas.Courses.{parts_say}
-use Rattle.tn_server.proofs.lemmas.Histories.{gets-push}
-use Rattle.tn_server.specs.Course.{in_parts}
-use Rattle.tn_server.specs.Events.{History, next, got, took, wrote, pulled, items, gets, limit, opening_settings}
-use Rattle.tn_server.specs.Lines.{roles, role_at, entries, taken_count}
-use Rattle.tn_server.specs.Replies.{items_said, items_at, list_replies, data_of}
-use Rattle.tn_server.specs.Screen.{queue, shows, due, sends_ga, none_waits}
-use Rattle.tn_server.specs.Terms.{terms, terms_after, flags, chars, chars_after, settings, mode, mask_after, changes, echoes, payload_at}
+use Rattle.tn_server.proofs.lemmas.{Courses.parts_say, Histories.gets-push}
+use Rattle.tn_server.specs.{Course.in_parts, Events.{History, next, got, took, wrote, pulled, items, gets, limit, opening_settings}, Lines.{roles, role_at}}
+use Rattle.tn_server.specs.{Lines.{entries, taken_count}, Replies.{items_said, items_at, list_replies, data_of}, Screen.{queue, shows, due, sends_ga}}
+use Rattle.tn_server.specs.{Screen.none_waits, Terms.{terms, terms_after, flags, chars, chars_after, settings, mode, mask_after, changes, echoes, payload_at}}
 use Rattle.tn_machines.specs.server.Run.{flushed_history, IsPart}
 
 -- THE SAME LINES

@@ -1,33 +1,19 @@
 -- What is left where a call is refused.
-use Rattle.std.proofs.Common.{◌≡◌, ℕ, Bool, true, false, List, [], ◌∷◌, ◌++◌, Option, Result, Ok, Err, IfOk, IfErr, refl, sym, ap, ◌∙◌, subst}
-use Rattle.std.proofs.Common.{append-nil, append_assoc, length, arith, ◌<◌, All}
+use Rattle.std.proofs.Common.{◌≡◌, ℕ, Bool, true, false, List, [], ◌∷◌, ◌++◌, Option, Result, Ok, Err, IfOk, IfErr, refl, sym, ap, ◌∙◌, subst, append-nil}
+use Rattle.std.proofs.{Common.{append_assoc, length, arith, ◌<◌, All}, lemmas.List.Elements.{All-nil, All-cons}}
 use Rattle.std.specs.List.{concat}
-use Rattle.std.proofs.lemmas.List.Elements.{All-nil, All-cons}
-use Rattle.tn_machines.proofs.lemmas.Pieces.{read_on}
-use Rattle.tn_server.specs.Faults.{IsOfItem, IsOfPiece}
-use Rattle.tn_server.specs.Answering.{StopsWithin}
-use Rattle.tn_server.specs.Calls.{End}
-use Rattle.tn_server.specs.Steps.{end_after_items, says_items}
-use Rattle.tn_server.proofs.lemmas.Gathering.{says_both}
-use Rattle.tn_server.proofs.lemmas.Leading.{says_all}
-use Rattle.tn_server.proofs.lemmas.Stopping.{front_said}
-use Rattle.tn_server.specs.declared.faults.ServerFault.{ServerFault}
+use Rattle.tn_machines.proofs.{lemmas.Pieces.read_on, of_terminal.Following.in_parts-append}
+use Rattle.tn_server.specs.{Faults.{IsOfItem, IsOfPiece}, Answering.StopsWithin, Calls.End, Steps.{end_after_items, says_items}, Course.in_parts, Lines.waiting}
+use Rattle.tn_server.specs.{declared.faults.ServerFault.ServerFault, Events.{History, next, took, wrote, pulled, gets, items}, Replies.{items_said, replies}}
+use Rattle.tn_server.specs.Screen.{queue}
+use Rattle.tn_server.proofs.lemmas.{Gathering.says_both, Leading.says_all, Stopping.front_said}
 use Rattle.tn_server.specs.declared.faults.ServerFault.TheVariants as server
-use Rattle.tn_machines.proofs.of_terminal.Following.{in_parts-append}
 use Rattle.tn_discipline.specs.declared.reads.Entry.{Entry}
 use Rattle.tn_nvt.proofs.lemmas.Reading.{spells-append}
-use Rattle.tn_nvt.specs.Spelling.{spells}
-use Rattle.tn_nvt.specs.declared.items.Item.{Item}
-use Rattle.tn_server.specs.Course.{in_parts}
-use Rattle.tn_server.specs.Events.{History, next, took, wrote, pulled, gets, items}
-use Rattle.tn_server.specs.Lines.{waiting}
-use Rattle.tn_server.specs.Replies.{items_said, replies}
-use Rattle.tn_server.specs.Screen.{queue}
-use Rattle.tn_machines.specs.server.Counting.{after_halt, after_piece}
-use Rattle.tn_machines.specs.server.Reaching.{LeadsTo, AdvancesRun, BreaksOff, FeedBreaksOff, HaltsIf}
+use Rattle.tn_nvt.specs.{Spelling.spells, declared.items.Item.Item}
+use Rattle.tn_machines.specs.server.{Counting.{after_halt, after_piece}, Reaching.{LeadsTo, AdvancesRun, BreaksOff, FeedBreaksOff, HaltsIf}}
 use Rattle.tn_machines.specs.server.Run.{Run, Reads, flushed_history, show, ask, ask_if, answer, halt, halt_if, end_if, IsPart}
-use Rattle.tn_machines.specs.declared.server.progress.ServerProgress.{ServerProgress}
-use Rattle.tn_machines.specs.declared.server.terminal.Term.{Term}
+use Rattle.tn_machines.specs.declared.server.{progress.ServerProgress.ServerProgress, terminal.Term.Term}
 
 -- the longer history sends more
 abbrev pub Grows : History → History → Type 0

@@ -1,35 +1,18 @@
 -- What the actor does, one thing after another.
-use Rattle.std.proofs.lemmas.List.Elements.{All-append, All-nil}
+use Rattle.std.proofs.{lemmas.List.Elements.{All-append, All-nil}, Common.append_assoc}
 use Rattle.std.proofs.Common.{◌≡◌, ◌<◌, All, ℕ, Bool, true, false, List, [], ◌∷◌, ◌++◌, Option, Some, None, MatchOption, refl, sym, ap, ◌∙◌, subst, append-nil}
-use Rattle.std.proofs.Common.{append_assoc}
-use Rattle.tn_discipline.specs.declared.reads.Entry.{Entry}
-use Rattle.tn_machines.proofs.lemmas.Pieces.{read_as}
+use Rattle.tn_discipline.specs.{declared.reads.Entry.Entry, Canon.Canon}
+use Rattle.tn_machines.proofs.{lemmas.Pieces.read_as, of_terminal.Following.{follows_call, follows_then, follows_none, in_parts-push, spelled_on}}
 use Rattle.tn_nvt.specs.Feeding as nvt
-use Rattle.tn_nvt.specs.declared.items.Item.{Item}
-use Rattle.tn_jobs.specs.Jobs.{Jobs, state_at, is_foreground}
-use Rattle.tn_jobs.specs.declared.verdicts.JobState.{JobState}
-use Rattle.tn_jobs.specs.declared.verdicts.JobState.TheVariants.{Stopped, Ended}
-use Rattle.tn_jobs.specs.declared.verdicts.Why.{Why}
-use Rattle.tn_server.specs.Lines.{waiting}
-use Rattle.tn_server.specs.Answering.{Feeds as EndFeeds}
-use Rattle.tn_server.specs.Events.{History, next, took, wrote, items, begun, wished}
-use Rattle.tn_server.specs.Replies.{items_said, opening as opening_words}
-use Rattle.tn_server.specs.declared.wishes.Editing.{Editing}
-use Rattle.tn_discipline.specs.Canon.{Canon}
-use Rattle.tn_server.specs.Calls.{End}
-use Rattle.tn_server.specs.Steps.{end_after, says, says_items}
-use Rattle.tn_server.proofs.lemmas.Ends.{waits_are}
-use Rattle.tn_server.proofs.lemmas.Gathering.{items_keep}
-use Rattle.tn_server.proofs.lemmas.Leading.{stands_fed, says_as, says_all}
+use Rattle.tn_nvt.specs.{declared.items.Item.Item, Spelling.spells}
+use Rattle.tn_jobs.specs.{Jobs.{Jobs, state_at, is_foreground}, declared.verdicts.{JobState.{JobState, TheVariants.{Stopped, Ended}}, Why.Why}}
+use Rattle.tn_server.specs.{Lines.waiting, Answering.Feeds as EndFeeds, Events.{History, next, took, wrote, items, begun, wished}, Calls.End}
+use Rattle.tn_server.specs.{Replies.{items_said, opening as opening_words}, declared.wishes.Editing.Editing, Steps.{end_after, says, says_items}}
+use Rattle.tn_server.proofs.lemmas.{Ends.waits_are, Gathering.items_keep, Leading.{stands_fed, says_as, says_all}, Histories.{items-gets, opening-gets}}
 use Rattle.tn_server.specs.Calls as server
-use Rattle.tn_machines.specs.declared.server.progress.ServerProgress.{ServerProgress}
-use Rattle.tn_machines.specs.declared.server.terminal.Term.{Term}
-use Rattle.tn_machines.specs.server.Counting.{after_answer, after_no_entry, after_piece, after_halt, nothing_yet}
+use Rattle.tn_machines.specs.{declared.server.progress.ServerProgress.ServerProgress, server.Reaching.{LeadsTo, FollowsPath, AdvancesRun, Feeds, HaltsIf}}
+use Rattle.tn_machines.specs.{declared.server.terminal.Term.Term, server.Counting.{after_answer, after_no_entry, after_piece, after_halt, nothing_yet}}
 use Rattle.tn_machines.specs.server.Run.{Run, flushed_history, ask, answer, end_if, show, move, stop_job, end_job, in_foreground, halt, halt_if, start, opening}
-use Rattle.tn_machines.specs.server.Reaching.{LeadsTo, FollowsPath, AdvancesRun, Feeds, HaltsIf}
-use Rattle.tn_machines.proofs.of_terminal.Following.{follows_call, follows_then, follows_none, in_parts-push, spelled_on}
-use Rattle.tn_server.proofs.lemmas.Histories.{items-gets, opening-gets}
-use Rattle.tn_nvt.specs.Spelling.{spells}
 use Rattle.tn_nvt.proofs.lemmas.Reading.{spells-append}
 
 -- The history goes on by this path, and jobs and progress change.

@@ -1,25 +1,18 @@
 -- A run ends by a fault only where its cause was there.
 use Rattle.std.proofs.Common.{◌≡◌, ◌⊎◌, inl, inr, ⊎_elim, ℕ, Bool, true, false, ◌&&◌, Option, Some, None, List, refl, sym, ap, ◌∙◌, subst}
 use Rattle.tn_discipline.specs.Canon.{Canon}
-use Rattle.tn_jobs.specs.Jobs.{Jobs}
-use Rattle.tn_jobs.specs.declared.verdicts.JobState.{JobState}
+use Rattle.tn_jobs.specs.{Jobs.Jobs, declared.verdicts.{JobState.JobState, Verdict.Verdict}}
 use Rattle.tn_jobs.specs.declared.verdicts.JobState.TheVariants as job
-use Rattle.tn_jobs.specs.declared.verdicts.Verdict.{Verdict}
 use Rattle.tn_server.specs.declared.wishes.Editing.{Editing}
 use Rattle.tn_machines.proofs.of_terminal.Hanging.{ended_of, ask_ended, halt_ended}
 use Rattle.tn_machines.proofs.lemmas.Ending.{Moves, first_cases, moves_as, moves_first, run_moves, fault_came}
-use Rattle.tn_machines.specs.Counting.{first_end}
-use Rattle.tn_machines.specs.server.Ending.{EndsAt, IsEndedAt, IsFaultCause}
-use Rattle.tn_machines.specs.server.Marks.{Turns, Runs, put_or_not, run_after_opening}
+use Rattle.tn_machines.specs.{Counting.first_end, server.{Ending.{EndsAt, IsEndedAt, IsFaultCause}, Marks.{Turns, Runs, put_or_not, run_after_opening}}}
 use Rattle.tn_machines.specs.server.Run.{Run, Acts, ActsUnless, flush, feed, move, stop_job, end_job, in_foreground, after_said, is_end, show, start}
-use Rattle.tn_machines.specs.declared.faults.Ended.{Ended}
-use Rattle.tn_machines.specs.declared.faults.Ended.TheVariants as ended
-use Rattle.tn_machines.specs.declared.faults.SessionFault.{SessionFault}
-use Rattle.tn_machines.specs.declared.faults.SessionFault.TheVariants as fault
-use Rattle.tn_machines.specs.declared.server.messages.ServerMark.{ServerMark}
-use Rattle.tn_machines.specs.declared.server.messages.ServerMark.TheVariants as mark
-use Rattle.tn_machines.specs.declared.messages.Message.{Message}
+use Rattle.tn_machines.specs.declared.{faults.{Ended.Ended, SessionFault.SessionFault}, server.messages.ServerMark.ServerMark, messages.Message.Message}
 use Rattle.tn_machines.specs.declared.messages.Message.TheVariants.{Piece, ReadFailed, Take, Said, Refused}
+use Rattle.tn_machines.specs.declared.faults.Ended.TheVariants as ended
+use Rattle.tn_machines.specs.declared.faults.SessionFault.TheVariants as fault
+use Rattle.tn_machines.specs.declared.server.messages.ServerMark.TheVariants as mark
 
 -- the run ended so before, or ends at this message
 abbrev MovesAt : Run → Message → ServerMark → Ended → Type 0

@@ -1,23 +1,14 @@
 -- The history of the end goes on, one call after another.
 use Rattle.std.proofs.Common.{◌≡◌, ℕ, ◌+◌, ◌≤◌, min, nat_le, Bool, true, false, List, [], ◌∷◌, ◌++◌, length, refl, sym, ap, ◌∙◌, subst, arith, append-nil}
-use Rattle.std.proofs.Common.{append_assoc, length-append, length-take, length-drop, if◌then◌else◌}
-use Rattle.std.proofs.lemmas.List.{length-map}
+use Rattle.std.proofs.{Common.{append_assoc, length-append, length-take, length-drop, if◌then◌else◌}, lemmas.List.length-map}
 use Rattle.tn_discipline.specs.declared.echo.Symbol.{Symbol}
 use Rattle.tn_nvt.proofs.lemmas.Reading.{spells-append}
-use Rattle.tn_nvt.specs.Spelling.{spells}
-use Rattle.tn_nvt.specs.declared.items.Item.{Item}
+use Rattle.tn_nvt.specs.{Spelling.spells, declared.items.Item.Item}
 use Rattle.tn_pty.specs.Terminal.{queue_with}
-use Rattle.tn_server.specs.Course.{in_parts, IsCall}
-use Rattle.tn_server.specs.Events.{Event, History, begun, next, got, wrote, pulled}
-use Rattle.tn_server.specs.Replies.{items_said, replies}
-use Rattle.tn_server.specs.Screen.{queue}
-use Rattle.tn_server.specs.Calls.{End, LeadsTo}
-use Rattle.tn_server.specs.Steps.{end_after, says}
-use Rattle.tn_server.proofs.lemmas.Courses.{calls_read}
-use Rattle.tn_server.proofs.lemmas.Gathering.{call_keeps}
-use Rattle.tn_server.proofs.lemmas.Leading.{stands, says_as}
-use Rattle.tn_machines.specs.server.Reaching.{FollowsPath}
-use Rattle.tn_machines.specs.server.Run.{flushed_history}
+use Rattle.tn_server.specs.{Course.{in_parts, IsCall}, Events.{Event, History, begun, next, got, wrote, pulled}, Replies.{items_said, replies}, Screen.queue}
+use Rattle.tn_server.specs.{Calls.{End, LeadsTo}, Steps.{end_after, says}}
+use Rattle.tn_server.proofs.lemmas.{Courses.calls_read, Gathering.call_keeps, Leading.{stands, says_as}}
+use Rattle.tn_machines.specs.server.{Reaching.FollowsPath, Run.flushed_history}
 
 bounded_if : (b : Bool) (q s : List Symbol) → nat_le (length q + length s) 4096 ≡ b → length q ≤ 4096 → length (if b then q ++ s else q) ≤ 4096
 bounded_if true q s e old = grind (arith, length-append q s)

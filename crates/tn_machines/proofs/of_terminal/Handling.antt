@@ -2,33 +2,18 @@
 use Rattle.std.proofs.Common.{◌≡◌, ℕ, Bool, true, false, not, ◌&&◌, ◌==◌, length, arith, List, [], ◌∷◌, ◌++◌, Option, Some, None, Result, Ok, Err, IfOk, IfErr}
 use Rattle.std.proofs.Common.{refl, sym, ap, ◌∙◌, subst, append-nil}
 use Rattle.tn_discipline.specs.declared.reads.Entry.{Entry}
-use Rattle.tn_jobs.specs.Jobs.{Jobs, state_at, is_foreground}
-use Rattle.tn_jobs.specs.declared.verdicts.JobState.{JobState}
-use Rattle.tn_jobs.specs.declared.verdicts.After.{After}
-use Rattle.tn_jobs.specs.declared.verdicts.Verdict.{Verdict}
-use Rattle.tn_jobs.specs.Judging.{judged}
-use Rattle.tn_server.specs.Replies.{items_said}
-use Rattle.tn_machines.specs.declared.messages.Message.{Message}
-use Rattle.tn_machines.specs.declared.messages.Message.TheVariants.{Piece, HangUp, ReadFailed, Take, Refused, Left, Resized, Asked}
-use Rattle.tn_machines.specs.declared.faults.Ended.TheVariants.{Fault}
-use Rattle.tn_machines.specs.declared.faults.SessionFault.TheVariants as fault
-use Rattle.tn_streams.specs.declared.control.Control.{Control}
-use Rattle.tn_streams.specs.declared.window.WindowSize.{WindowSize}
-use Rattle.tn_machines.specs.declared.server.messages.Put.{Put}
-use Rattle.tn_machines.specs.declared.server.messages.Put.TheVariants.{Nothing}
-use Rattle.tn_machines.specs.declared.server.progress.ServerProgress.{ServerProgress}
-use Rattle.tn_machines.specs.declared.server.terminal.Term.{Term}
-use Rattle.tn_machines.specs.declared.server.terminal.Stuck.{Stuck}
+use Rattle.tn_jobs.specs.{Jobs.{Jobs, state_at, is_foreground}, declared.verdicts.{JobState.JobState, After.After, Verdict.Verdict}, Judging.judged}
+use Rattle.tn_server.specs.{Replies.items_said, Events.{next, took}, Lines.waiting}
+use Rattle.tn_machines.specs.declared.messages.Message.{Message, TheVariants.{Piece, HangUp, ReadFailed, Take, Refused, Left, Resized, Asked}}
+use Rattle.tn_machines.specs.declared.{faults.Ended.TheVariants.Fault, server.{messages.Put.{Put, TheVariants.Nothing}, progress.ServerProgress.ServerProgress}}
+use Rattle.tn_machines.specs.{declared.server.terminal.{Term.Term, Stuck.Stuck}, server.Run.{verdict, verdict_at, has_text, answer, Acts, ActsUnless}}
 use Rattle.tn_machines.specs.server.Run.{Run, puts_of, flush, hang_up, ends_by, feed, ask, ask_if, show, move, after_said, halt, halt_if, is_end, in_foreground}
-use Rattle.tn_machines.specs.server.Run.{verdict, verdict_at, has_text, answer, Acts, ActsUnless}
 use Rattle.tn_machines.specs.server.Reaching.{LeadsTo, AdvancesRun, BreaksOff, Feeds, FeedBreaksOff, Says, SayBreaksOff, DoesWhole, StopsWithin, HaltsIf}
-use Rattle.tn_machines.proofs.of_terminal.Doing.{does_then, does_same, does_halt_if, foreground_as}
+use Rattle.tn_machines.specs.server.{Counting.{after_request, after_piece}, Marks.unput}
+use Rattle.tn_machines.specs.declared.faults.SessionFault.TheVariants as fault
+use Rattle.tn_streams.specs.declared.{control.Control.Control, window.WindowSize.WindowSize}
+use Rattle.tn_machines.proofs.of_terminal.{Doing.{does_then, does_same, does_halt_if, foreground_as}, Breaking.rest_more}
 use Rattle.tn_machines.proofs.of_terminal.Breaking.{breaks_after, breaks_same, breaks_halt_if, grows_then, grows_ask, grows_ask_if, grows_flushed, spelled_more}
-use Rattle.tn_machines.proofs.of_terminal.Breaking.{rest_more}
-use Rattle.tn_machines.specs.server.Counting.{after_request, after_piece}
-use Rattle.tn_machines.specs.server.Marks.{unput}
-use Rattle.tn_server.specs.Events.{next, took}
-use Rattle.tn_server.specs.Lines.{waiting}
 use Rattle.tn_nvt.specs.Spelling.{spells}
 use Rattle.tn_nvt.proofs.lemmas.Reading.{spells-append}
 

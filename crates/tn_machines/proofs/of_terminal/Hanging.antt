@@ -2,33 +2,21 @@
 use Rattle.std.proofs.Common.{◌≡◌, ◌≢◌, ℕ, ◌+◌, nat_lt, Bool, true, false, ◌&&◌, Option, Some, None, List, [], ◌∷◌, ◌++◌, length, drop, map, refl, sym, ap, ◌∙◌}
 use Rattle.std.proofs.Common.{subst, append-nil, append_assoc, drop-drop, if◌then◌else◌}
 use Rattle.std.specs.List.{FoldsTo}
-use Rattle.tn_discipline.specs.Canon.{Canon}
-use Rattle.tn_discipline.specs.declared.reads.Entry.{Entry}
-use Rattle.tn_jobs.specs.Jobs.{Jobs, state_at, with_state, is_foreground}
-use Rattle.tn_jobs.specs.declared.verdicts.After.{After}
+use Rattle.tn_discipline.specs.{Canon.Canon, declared.reads.Entry.Entry}
+use Rattle.tn_jobs.specs.{Jobs.{Jobs, state_at, with_state, is_foreground}, declared.verdicts.{After.After, JobState.JobState, Verdict.Verdict}}
 use Rattle.tn_jobs.specs.declared.verdicts.After.TheVariants as next
-use Rattle.tn_jobs.specs.declared.verdicts.JobState.{JobState}
 use Rattle.tn_jobs.specs.declared.verdicts.JobState.TheVariants as job
-use Rattle.tn_jobs.specs.declared.verdicts.Verdict.{Verdict}
-use Rattle.tn_server.specs.Events.{History, next as grown, took, wrote}
-use Rattle.tn_server.specs.Lines.{entries, taken_count, waiting}
-use Rattle.tn_server.specs.declared.wishes.Editing.{Editing}
+use Rattle.tn_server.specs.{Events.{History, next as grown, took, wrote}, Lines.{entries, taken_count, waiting}, declared.wishes.Editing.Editing}
 use Rattle.tn_machines.proofs.lemmas.server.Giving.{acts_of, gives_acts, gives_gets, gives_start}
-use Rattle.tn_machines.specs.Counting.{first_end}
-use Rattle.tn_machines.specs.server.Giving.{entries_put, Gives}
-use Rattle.tn_machines.specs.Pieces.{bytes_in}
-use Rattle.tn_machines.specs.server.Hearing.{heard, at_end_after, MayCome, MayAllCome, KeepsOn, AllKeepOn, HangsUp}
-use Rattle.tn_machines.specs.server.Marks.{Turns, Runs, put_or_not, run_after_opening}
+use Rattle.tn_machines.specs.{Counting.first_end, server.{Giving.{entries_put, Gives}, Marks.{Turns, Runs, put_or_not, run_after_opening}}, Pieces.bytes_in}
+use Rattle.tn_machines.specs.{server.Hearing.{heard, at_end_after, MayCome, MayAllCome, KeepsOn, AllKeepOn, HangsUp}, declared.faults.Ended.Ended}
 use Rattle.tn_machines.specs.server.Run.{Run, Acts, ActsUnless, flush, feed, ask, ask_if, answer, end_if, hang_up, move, stop_job, end_job, in_foreground}
-use Rattle.tn_machines.specs.server.Run.{verdict, verdict_at, has_text, tostop, after_said, halt_if, is_end, show, start}
-use Rattle.tn_machines.specs.declared.faults.Ended.{Ended}
-use Rattle.tn_machines.specs.declared.faults.Ended.TheVariants as ended
-use Rattle.tn_machines.specs.declared.faults.SessionFault.{SessionFault}
-use Rattle.tn_machines.specs.declared.faults.SessionFault.TheVariants as fault
-use Rattle.tn_machines.specs.declared.server.messages.ServerMark.{ServerMark}
-use Rattle.tn_machines.specs.declared.server.messages.ServerMark.TheVariants as mark
-use Rattle.tn_machines.specs.declared.messages.Message.{Message}
+use Rattle.tn_machines.specs.{server.Run.{verdict, verdict_at, has_text, tostop, after_said, halt_if, is_end, show, start}, declared.messages.Message.Message}
+use Rattle.tn_machines.specs.declared.{faults.SessionFault.SessionFault, server.messages.ServerMark.ServerMark}
 use Rattle.tn_machines.specs.declared.messages.Message.TheVariants.{Piece, HangUp, ReadFailed, Take, Said, Refused, Left, Resized, Asked}
+use Rattle.tn_machines.specs.declared.faults.Ended.TheVariants as ended
+use Rattle.tn_machines.specs.declared.faults.SessionFault.TheVariants as fault
+use Rattle.tn_machines.specs.declared.server.messages.ServerMark.TheVariants as mark
 
 true_false : true ≡ false → ⊥
 true_false e = cc

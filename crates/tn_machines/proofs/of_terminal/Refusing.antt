@@ -2,46 +2,25 @@
 use Rattle.std.proofs.Common.{◌≡◌, ◌⊎◌, inl, inr, ℕ, Bool, true, false, List, [], ◌∷◌, ◌++◌, map, take, Option, Result, Ok, Err, OnErr, IfErr, refl, sym, ap}
 use Rattle.std.proofs.Common.{◌∙◌, subst, append-nil, arith, ◌<◌, All}
 use Rattle.std.specs.List.{concat}
-use Rattle.tn_discipline.specs.declared.echo.Symbol.{Symbol}
-use Rattle.tn_discipline.specs.declared.reads.Entry.{Entry}
-use Rattle.tn_jobs.specs.declared.held_jobs.JobId.{JobId}
-use Rattle.tn_jobs.specs.declared.verdicts.After.{After}
-use Rattle.tn_jobs.specs.declared.verdicts.JobState.{JobState}
+use Rattle.tn_discipline.specs.declared.{echo.Symbol.Symbol, reads.Entry.Entry}
+use Rattle.tn_jobs.specs.{declared.{held_jobs.JobId.JobId, verdicts.{After.After, JobState.JobState, Verdict.Verdict}}, Jobs.state_at}
 use Rattle.tn_jobs.specs.declared.verdicts.JobState.TheVariants as job
-use Rattle.tn_jobs.specs.declared.verdicts.Verdict.{Verdict}
-use Rattle.tn_jobs.specs.Jobs.{state_at}
-use Rattle.tn_nvt.specs.Feeding.{DecoderState}
+use Rattle.tn_nvt.specs.{Feeding.DecoderState, declared.items.Item.Item}
 use Rattle.tn_nvt.specs.Feeding as nvt
-use Rattle.tn_nvt.specs.declared.items.Item.{Item}
-use Rattle.tn_pty.specs.Terminal.{fitting_count, output_symbols}
-use Rattle.tn_pty.specs.declared.pty.PtyFault.{PtyFault}
+use Rattle.tn_pty.specs.{Terminal.{fitting_count, output_symbols}, declared.pty.PtyFault.PtyFault}
 use Rattle.tn_pty.specs.declared.pty.PtyFault.TheVariants as pty
-use Rattle.tn_server.proofs.lemmas.Stopping.{has_read}
-use Rattle.tn_server.proofs.lemmas.Causes.{causes}
-use Rattle.tn_server.proofs.lemmas.Leading.{stands_all}
-use Rattle.tn_server.specs.Answering.{StopsWithin, IsStopCause}
-use Rattle.tn_server.specs.Calls.{End}
-use Rattle.tn_server.specs.Calls as server_end
-use Rattle.tn_server.specs.Steps.{end_after_items}
-use Rattle.tn_server.specs.Course.{in_parts}
-use Rattle.tn_server.specs.Events.{History, next, took, wrote, pulled, gets, items}
-use Rattle.tn_server.specs.Faults.{IsOfItem, IsOfPiece, SaysSomething}
-use Rattle.tn_server.specs.Lines.{waiting}
-use Rattle.tn_server.specs.Replies.{data_of}
-use Rattle.tn_server.specs.Screen.{queue}
-use Rattle.tn_server.specs.Terms.{settings}
+use Rattle.tn_server.proofs.lemmas.{Stopping.has_read, Causes.causes, Leading.stands_all}
+use Rattle.tn_server.specs.{Answering.{StopsWithin, IsStopCause}, Calls.End, Steps.end_after_items, Course.in_parts, Lines.waiting, Replies.data_of}
+use Rattle.tn_server.specs.{Events.{History, next, took, wrote, pulled, gets, items}, Faults.{IsOfItem, IsOfPiece, SaysSomething}, Screen.queue, Terms.settings}
 use Rattle.tn_server.specs.declared.faults.ServerFault.{ServerFault}
+use Rattle.tn_server.specs.Calls as server_end
 use Rattle.tn_server.specs.declared.faults.ServerFault.TheVariants as server
-use Rattle.tn_machines.proofs.of_terminal.Breaking.{read_past, kept_history}
-use Rattle.tn_machines.proofs.of_terminal.Handling.{same_verdict}
-use Rattle.tn_machines.specs.server.Reaching.{LeadsTo, RefusesFor, AdvancesRun, Feeds}
+use Rattle.tn_machines.proofs.of_terminal.{Breaking.{read_past, kept_history}, Handling.same_verdict}
+use Rattle.tn_machines.specs.{server.{Reaching.{LeadsTo, RefusesFor, AdvancesRun, Feeds}, Refusing.IsRefusalCause}, declared.messages.Message.Message}
 use Rattle.tn_machines.specs.server.Refusing.{SymbolsWait, SymbolsWaitWithin, WaitsWithText, WaitsWithRequest, WaitsIf, RefusesAtItem, RefusesAtByte}
-use Rattle.tn_machines.specs.server.Refusing.{IsRefusalCause}
 use Rattle.tn_machines.specs.server.Run.{Run, Reads, Cuts, ask, feed, move, show, stop_job, end_job, in_foreground, verdict_at, has_text, writes}
-use Rattle.tn_machines.specs.declared.messages.Message.{Message}
 use Rattle.tn_machines.specs.declared.messages.Message.TheVariants.{Piece, HangUp, ReadFailed, Take, Said, Refused, Left, Resized, Asked}
-use Rattle.tn_machines.specs.declared.server.terminal.Stuck.{Stuck}
-use Rattle.tn_machines.specs.declared.server.terminal.Term.{Term}
+use Rattle.tn_machines.specs.declared.server.terminal.{Stuck.Stuck, Term.Term}
 
 true_false : true ≡ false → ⊥
 true_false e = cc

@@ -1,25 +1,15 @@
 -- What is put answers requests, message by message.
 use Rattle.std.proofs.Common.{arith, ◌≡◌, ℕ, ◌+◌, ◌≤◌, Bool, true, false, not, ◌&&◌, Option, Some, None, List, [], ◌∷◌, ◌++◌, length, refl, sym, ap, ◌∙◌}
-use Rattle.tn_discipline.specs.Canon.{Canon}
-use Rattle.tn_discipline.specs.declared.reads.Entry.{Entry}
-use Rattle.tn_jobs.specs.Jobs.{Jobs}
-use Rattle.tn_jobs.specs.declared.verdicts.JobState.{JobState}
+use Rattle.tn_discipline.specs.{Canon.Canon, declared.reads.Entry.Entry}
+use Rattle.tn_jobs.specs.{Jobs.Jobs, declared.verdicts.{JobState.JobState, Verdict.Verdict, Why.Why}}
 use Rattle.tn_jobs.specs.declared.verdicts.JobState.TheVariants as job
-use Rattle.tn_jobs.specs.declared.verdicts.Verdict.{Verdict}
-use Rattle.tn_jobs.specs.declared.verdicts.Why.{Why}
-use Rattle.tn_machines.specs.declared.faults.SessionFault.{SessionFault}
-use Rattle.tn_machines.specs.declared.faults.SessionFault.TheVariants as fault
-use Rattle.tn_machines.specs.declared.messages.Message.{Message}
-use Rattle.tn_machines.specs.declared.messages.Message.TheVariants.{Piece, HangUp, ReadFailed, Take, Said, Refused}
-use Rattle.tn_machines.specs.declared.faults.Ended.TheVariants.{Fault}
-use Rattle.tn_server.specs.Events.{next, took}
-use Rattle.tn_server.specs.Lines.{waiting}
-use Rattle.tn_server.specs.declared.wishes.Editing.{Editing}
-use Rattle.tn_machines.specs.server.Marks.{Turns, Runs, run_after_opening, unput, put_or_not}
-use Rattle.tn_machines.specs.server.Requests.{open_requests, request_of, requests_among, AnswersRequests}
+use Rattle.tn_machines.specs.{declared.faults.SessionFault.SessionFault, server.Run.{halt_if, in_foreground, is_end, idle, ends_by, verdict, Acts, ActsUnless}}
+use Rattle.tn_machines.specs.{declared.messages.Message.Message, server.Marks.{Turns, Runs, run_after_opening, unput, put_or_not}}
+use Rattle.tn_machines.specs.declared.{messages.Message.TheVariants.{Piece, HangUp, ReadFailed, Take, Said, Refused}, server.messages.ServerMark.ServerMark}
+use Rattle.tn_machines.specs.{declared.faults.Ended.TheVariants.Fault, server.Requests.{open_requests, request_of, requests_among, AnswersRequests}}
 use Rattle.tn_machines.specs.server.Run.{Run, start, answer, ask, ask_if, feed, hang_up, halt, fail, end_if, after_said, show, flush, move, stop_job, end_job}
-use Rattle.tn_machines.specs.server.Run.{halt_if, in_foreground, is_end, idle, ends_by, verdict, Acts, ActsUnless}
-use Rattle.tn_machines.specs.declared.server.messages.ServerMark.{ServerMark}
+use Rattle.tn_machines.specs.declared.faults.SessionFault.TheVariants as fault
+use Rattle.tn_server.specs.{Events.{next, took}, Lines.waiting, declared.wishes.Editing.Editing}
 use Rattle.tn_machines.specs.declared.server.messages.ServerMark.TheVariants as mark
 
 -- what was put, and a request that waits

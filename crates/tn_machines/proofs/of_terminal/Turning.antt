@@ -1,25 +1,14 @@
 -- One message with its mark.
 use Rattle.std.proofs.Common.{◌≡◌, ℕ, Bool, true, false, List, [], ◌++◌, Option, refl, sym, ap, ◌∙◌, subst, append-nil, append_assoc}
 use Rattle.tn_discipline.specs.declared.reads.Entry.{Entry}
-use Rattle.tn_machines.proofs.lemmas.Pieces.{from_none, all_spelled}
-use Rattle.tn_nvt.specs.Spelling.{spells}
-use Rattle.tn_nvt.specs.declared.items.Item.{Item}
-use Rattle.tn_server.specs.Events.{History}
-use Rattle.tn_server.specs.Replies.{items_said}
-use Rattle.tn_server.specs.declared.faults.ServerFault.{ServerFault}
-use Rattle.tn_machines.proofs.of_terminal.Doing.{is_over}
-use Rattle.tn_machines.specs.server.Counting.{after_end, after_halt}
-use Rattle.tn_machines.specs.server.Marks.{put_or_not}
-use Rattle.tn_machines.specs.server.Reaching.{DoesWhole, StopsWithin, RefusesFor, IsTurn}
-use Rattle.tn_machines.specs.server.Run.{Run, puts_of, ActsUnless, idle, idle_puts, fail, end_if}
-use Rattle.tn_machines.specs.declared.faults.Ended.TheVariants.{Fault}
+use Rattle.tn_machines.proofs.{lemmas.Pieces.{from_none, all_spelled}, of_terminal.Doing.is_over}
+use Rattle.tn_nvt.specs.{Spelling.spells, declared.items.Item.Item}
+use Rattle.tn_server.specs.{Events.History, Replies.items_said, declared.faults.ServerFault.ServerFault}
+use Rattle.tn_machines.specs.server.{Counting.{after_end, after_halt}, Marks.put_or_not, Reaching.{DoesWhole, StopsWithin, RefusesFor, IsTurn}}
+use Rattle.tn_machines.specs.{server.Run.{Run, puts_of, ActsUnless, idle, idle_puts, fail, end_if}, declared.faults.Ended.TheVariants.Fault}
+use Rattle.tn_machines.specs.declared.{server.messages.{ServerMark.TheVariants.{Whole, Refused}, Put.{Put, TheVariants.Nothing}}, messages.Message.Message}
+use Rattle.tn_machines.specs.declared.server.{progress.ServerProgress.ServerProgress, terminal.Term.Term}
 use Rattle.tn_machines.specs.declared.faults.SessionFault.TheVariants as fault
-use Rattle.tn_machines.specs.declared.server.messages.ServerMark.TheVariants.{Whole, Refused}
-use Rattle.tn_machines.specs.declared.messages.Message.{Message}
-use Rattle.tn_machines.specs.declared.server.messages.Put.{Put}
-use Rattle.tn_machines.specs.declared.server.messages.Put.TheVariants.{Nothing}
-use Rattle.tn_machines.specs.declared.server.progress.ServerProgress.{ServerProgress}
-use Rattle.tn_machines.specs.declared.server.terminal.Term.{Term}
 
 true_false : true ≡ false → ⊥
 true_false e = cc

@@ -1,17 +1,11 @@
 -- What the messages brought, and what came of it at the client end.
 use Rattle.std.specs.Prelude.{◌≡◌, ℕ, IsFalse, Option, Some, None, List, [], ◌∷◌, ◌++◌, flat_map, map}
-use Rattle.tn_client.specs.Events.{History, begun, next, items}
+use Rattle.tn_client.specs.{Events.{History, begun, next, items}, declared.commands.UserCommand.UserCommand}
 use Rattle.tn_client.specs.Events as client
-use Rattle.tn_client.specs.declared.commands.UserCommand.{UserCommand}
-use Rattle.tn_machines.specs.client.Commands.{command_of}
-use Rattle.tn_machines.specs.client.Run.{Run}
+use Rattle.tn_machines.specs.{client.Commands.command_of, Pieces.bytes_in}
+use Rattle.tn_machines.specs.{client.Run.Run, declared.messages.Message.{Message, TheVariants.{Piece, Asked}}}
+use Rattle.tn_machines.specs.declared.client.messages.{Origin.{Origin, TheVariants.{Keys, Net}}, Told.Told}
 use Rattle.tn_streams.specs.declared.control.Control.{Control}
-use Rattle.tn_machines.specs.declared.client.messages.Origin.{Origin}
-use Rattle.tn_machines.specs.declared.client.messages.Origin.TheVariants.{Keys, Net}
-use Rattle.tn_machines.specs.declared.client.messages.Told.{Told}
-use Rattle.tn_machines.specs.Pieces.{bytes_in}
-use Rattle.tn_machines.specs.declared.messages.Message.{Message}
-use Rattle.tn_machines.specs.declared.messages.Message.TheVariants.{Piece, Asked}
 use Rattle.tn_linemode.specs.Prefixes.{IsRead}
 
 -- WHAT A USER TYPES: keys, and commands and new lines between them

@@ -1,10 +1,8 @@
 -- What a user asks for between keys, as it happens at a client end: a command is sent, or a new line is entered.
 use Rattle.std.specs.Prelude.{Option, Some, None}
-use Rattle.tn_client.specs.Events.{Event, sent, entered}
-use Rattle.tn_client.specs.declared.commands.UserCommand.{UserCommand}
+use Rattle.tn_client.specs.{Events.{Event, sent, entered}, declared.commands.UserCommand.UserCommand}
 use Rattle.tn_client.specs.declared.commands.UserCommand.TheVariants as user
-use Rattle.tn_streams.specs.declared.control.Control.{Control}
-use Rattle.tn_streams.specs.declared.control.Control.TheVariants.{Brk, Ip, Ayt, NewLine}
+use Rattle.tn_streams.specs.declared.control.Control.{Control, TheVariants.{Brk, Ip, Ayt, NewLine}}
 
 abbrev pub command_of : Control → Option UserCommand
 command_of Brk = Some user.Brk

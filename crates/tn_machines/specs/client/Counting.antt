@@ -1,14 +1,12 @@
 -- How far a client's session is, after each thing that happens.
 use Rattle.std.specs.Prelude.{true, false}
-use Rattle.tn_machines.specs.declared.client.messages.Origin.{Origin}
-use Rattle.tn_machines.specs.declared.client.messages.Origin.TheVariants.{Keys, Net}
+use Rattle.tn_machines.specs.declared.client.messages.Origin.{Origin, TheVariants.{Keys, Net}}
 use Rattle.tn_machines.specs.declared.client.progress.ClientProgress.{ClientProgress}
-use Rattle.tn_machines.specs.Counting.{one_more, first_end}
-use Rattle.tn_machines.specs.declared.faults.Ended.TheVariants as ended
-use Rattle.tn_machines.specs.declared.faults.SessionFault.{SessionFault}
-use Rattle.tn_machines.specs.declared.faults.SessionFault.TheVariants as fault
+use Rattle.tn_machines.specs.{Counting.{one_more, first_end}, declared.faults.SessionFault.SessionFault}
 use Rattle.tn_machines.specs.declared.messages.Message.{Message}
 use Rattle.tn_machines.specs.declared.messages.Message.TheVariants.{HangUp, ReadFailed, Refused, Left}
+use Rattle.tn_machines.specs.declared.faults.Ended.TheVariants as ended
+use Rattle.tn_machines.specs.declared.faults.SessionFault.TheVariants as fault
 
 abbrev pub nothing_yet : ClientProgress
 nothing_yet = record { at_end = false; closed = false; over = false; ended = ended.HangUp; pieces = 0 }

@@ -1,16 +1,12 @@
 -- What a run ends by: the message that brought the fault, or the mark that it left.
 use Rattle.std.specs.Prelude.{◌≡◌, List, ◌⊎◌}
-use Rattle.tn_machines.specs.client.Marks.{Turns}
-use Rattle.tn_machines.specs.client.Refusing.{IsRefusalCause}
-use Rattle.tn_machines.specs.client.Run.{Run}
-use Rattle.tn_machines.specs.declared.client.messages.ClientMark.{ClientMark}
-use Rattle.tn_machines.specs.declared.client.messages.ClientMark.TheVariants as mark
-use Rattle.tn_machines.specs.declared.client.messages.Told.{Told}
-use Rattle.tn_machines.specs.Ending as run
-use Rattle.tn_machines.specs.declared.faults.Ended.{Ended}
+use Rattle.tn_machines.specs.client.{Marks.Turns, Refusing.IsRefusalCause, Run.Run}
+use Rattle.tn_machines.specs.declared.{client.messages.{ClientMark.ClientMark, Told.Told}, faults.Ended.Ended}
 use Rattle.tn_machines.specs.declared.faults.Ended.TheVariants.{HangUp, Done, Fault}
 use Rattle.tn_machines.specs.declared.faults.SessionFault.TheVariants.{Read, Write, Server, Client, Memory}
 use Rattle.tn_machines.specs.declared.faults.SessionFault.TheVariants.{Start, Channel}
+use Rattle.tn_machines.specs.declared.client.messages.ClientMark.TheVariants as mark
+use Rattle.tn_machines.specs.Ending as run
 use Rattle.tn_machines.specs.declared.messages.Message.TheVariants as message
 
 -- this message with this mark is why the run ended so

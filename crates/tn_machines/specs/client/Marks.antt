@@ -1,11 +1,8 @@
 -- The run of the messages, each with its mark: how far it was done.
-use Rattle.std.specs.Prelude.{◌≡◌, Bool, true, false, IsFalse, ◌&&◌, List, [], ◌∷◌}
-use Rattle.std.specs.List.{FoldsTo}
-use Rattle.tn_machines.specs.client.Refusing.{IsRefusalCause}
-use Rattle.tn_machines.specs.client.Run.{Run, Handles, fail}
-use Rattle.tn_machines.specs.declared.client.messages.ClientMark.{ClientMark}
+use Rattle.std.specs.{Prelude.{◌≡◌, Bool, true, false, IsFalse, ◌&&◌, List, [], ◌∷◌}, List.FoldsTo}
+use Rattle.tn_machines.specs.client.{Refusing.IsRefusalCause, Run.{Run, Handles, fail}}
+use Rattle.tn_machines.specs.declared.client.messages.{ClientMark.ClientMark, Told.Told}
 use Rattle.tn_machines.specs.declared.client.messages.ClientMark.TheVariants as mark
-use Rattle.tn_machines.specs.declared.client.messages.Told.{Told}
 use Rattle.tn_machines.specs.declared.faults.SessionFault.TheVariants as fault
 
 -- A message with its mark. None is written, and no call is made, once nothing has any effect. A call that was

@@ -1,22 +1,14 @@
 -- Where a run leads the core, and what a message adds to it, whatever the run was.
 use Rattle.std.specs.Prelude.{◌≡◌, ℕ, ◌<◌, All, Bool, true, IsTrue, false, IsFalse, List, [], ◌++◌}
-use Rattle.tn_client.specs.Calls.{End}
+use Rattle.tn_client.specs.{Calls.End, Events.items, declared.faults.ClientFault.ClientFault}
+use Rattle.tn_client.specs.{Replies.items_said, Screen.text_shown, Steps.{end_after_key, says_key, shows_key}}
 use Rattle.tn_client.specs.Calls as client
-use Rattle.tn_client.specs.Events.{items}
-use Rattle.tn_client.specs.Replies.{items_said}
-use Rattle.tn_client.specs.Screen.{text_shown}
 use Rattle.tn_linemode.specs.Folding.{after_all, said_all}
-use Rattle.tn_client.specs.Steps.{end_after_key, says_key, shows_key}
-use Rattle.tn_client.specs.declared.faults.ClientFault.{ClientFault}
-use Rattle.tn_machines.specs.client.Marks.{Turns, is_written, is_whole}
-use Rattle.tn_machines.specs.client.Refusing.{IsRefusalCause}
-use Rattle.tn_machines.specs.client.Run.{Run, Handles, sent_after}
-use Rattle.tn_machines.specs.declared.client.machine.Core.{Core}
-use Rattle.tn_machines.specs.declared.client.messages.ClientMark.{ClientMark}
-use Rattle.tn_machines.specs.declared.client.messages.Told.{Told}
+use Rattle.tn_machines.specs.client.{Marks.{Turns, is_written, is_whole}, Refusing.IsRefusalCause}
+use Rattle.tn_machines.specs.{client.Run.{Run, Handles, sent_after}, declared.client.machine.Core.Core}
+use Rattle.tn_machines.specs.declared.client.messages.{ClientMark.ClientMark, Told.Told}
 use Rattle.tn_nvt.specs.Feeding as nvt
-use Rattle.tn_nvt.specs.Spelling.{spells}
-use Rattle.tn_nvt.specs.declared.items.Item.{Item}
+use Rattle.tn_nvt.specs.{Spelling.spells, declared.items.Item.Item}
 
 -- what holds while messages have their effect
 pub record IsLive (c : Run) (core : Core) : Type 0 where

@@ -1,19 +1,12 @@
 -- Why a call of the client end is refused within a message: memory runs out for what the message leads to.
 use Rattle.std.specs.Prelude.{◌≡◌, ◌≢◌, ℕ, ◌⊎◌, List, [], ◌∷◌, ◌++◌}
-use Rattle.tn_client.specs.Calls.{ReadsList}
-use Rattle.tn_client.specs.Events.{Event, History, typed, got, resized, gets, items}
-use Rattle.tn_client.specs.Replies.{replies}
-use Rattle.tn_client.specs.Screen.{shows}
-use Rattle.tn_client.specs.Terms.{options}
-use Rattle.tn_client.specs.declared.faults.ClientFault.{ClientFault}
-use Rattle.tn_client.specs.declared.faults.ClientFault.TheVariants.{Memory}
-use Rattle.tn_machines.specs.client.Run.{Run, Reads, types}
-use Rattle.tn_machines.specs.declared.client.messages.Origin.{Origin}
-use Rattle.tn_machines.specs.declared.client.messages.Origin.TheVariants.{Keys, Net}
+use Rattle.tn_client.specs.{Calls.ReadsList, Events.{Event, History, typed, got, resized, gets, items}}
+use Rattle.tn_client.specs.{Replies.replies, Screen.shows, Terms.options}
+use Rattle.tn_client.specs.declared.faults.ClientFault.{ClientFault, TheVariants.Memory}
+use Rattle.tn_machines.specs.{client.Run.{Run, Reads, types}, Pieces.WantsMemoryWithin}
+use Rattle.tn_machines.specs.declared.client.messages.Origin.{Origin, TheVariants.{Keys, Net}}
+use Rattle.tn_machines.specs.declared.messages.Message.{Message, TheVariants.{Piece, Resized, Asked}}
 use Rattle.tn_nvt.specs.declared.items.Item.{Item}
-use Rattle.tn_machines.specs.Pieces.{WantsMemoryWithin}
-use Rattle.tn_machines.specs.declared.messages.Message.{Message}
-use Rattle.tn_machines.specs.declared.messages.Message.TheVariants.{Piece, Resized, Asked}
 
 -- the event makes the client say or show something
 abbrev pub SaysOrShows : History → Event → Type 0

@@ -1,20 +1,14 @@
 -- What the messages do: a fold over those that were handled, over the history of the client end.
 use Rattle.std.specs.Prelude.{◌≡◌, ℕ, Bool, true, false, List, [], ◌++◌}
 use Rattle.tn_client.specs.Events.{History, begun, next, typed, resized, gets, items}
-use Rattle.tn_linemode.specs.Folding.{after_all}
-use Rattle.tn_machines.specs.client.Commands.{event_of}
+use Rattle.tn_linemode.specs.{Folding.after_all, Prefixes.IsRead}
+use Rattle.tn_machines.specs.{client.Commands.event_of, declared.faults.SessionFault.SessionFault}
+use Rattle.tn_machines.specs.declared.client.{messages.Origin.Origin, progress.ClientProgress.ClientProgress}
+use Rattle.tn_machines.specs.declared.client.messages.{Origin.TheVariants.{Keys, Net}, Told.Told}
+use Rattle.tn_machines.specs.declared.messages.Message.{Message, TheVariants.{Piece, Resized, Asked}}
 use Rattle.tn_machines.specs.client.Counting as counting
-use Rattle.tn_machines.specs.declared.client.messages.Origin.{Origin}
-use Rattle.tn_machines.specs.declared.client.messages.Origin.TheVariants.{Keys, Net}
-use Rattle.tn_machines.specs.declared.client.messages.Told.{Told}
-use Rattle.tn_machines.specs.declared.client.progress.ClientProgress.{ClientProgress}
 use Rattle.tn_nvt.specs.declared.items.Item.{Item}
-use Rattle.tn_machines.specs.declared.faults.SessionFault.{SessionFault}
-use Rattle.tn_machines.specs.declared.messages.Message.{Message}
-use Rattle.tn_machines.specs.declared.messages.Message.TheVariants.{Piece, Resized, Asked}
-use Rattle.tn_streams.specs.declared.control.Control.{Control}
-use Rattle.tn_streams.specs.declared.window.WindowSize.{WindowSize}
-use Rattle.tn_linemode.specs.Prefixes.{IsRead}
+use Rattle.tn_streams.specs.declared.{control.Control.Control, window.WindowSize.WindowSize}
 
 -- All that has happened at the core: at its client end, with the network's pieces joined; the first part of
 -- that, whose replies go to the network; and how far the session is.

@@ -1,8 +1,6 @@
 -- Two runs of the same messages with the same marks.
 use Rattle.std.specs.Prelude.{◌≡◌}
-use Rattle.tn_server.specs.Events.{items}
-use Rattle.tn_server.specs.Lines.{entries, waiting}
-use Rattle.tn_server.specs.Replies.{items_said}
+use Rattle.tn_server.specs.{Events.items, Lines.{entries, waiting}, Replies.items_said}
 use Rattle.tn_machines.specs.server.Run.{Run}
 
 -- the same was sent and put, the same came, and the session and its jobs are at the same point; the parts in

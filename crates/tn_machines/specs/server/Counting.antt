@@ -1,9 +1,7 @@
 -- How far a session is, after each thing that happens.
 use Rattle.std.specs.Prelude.{true, false, not}
-use Rattle.tn_machines.specs.Counting.{one_more, first_end}
-use Rattle.tn_machines.specs.declared.faults.Ended.{Ended}
-use Rattle.tn_machines.specs.declared.faults.Ended.TheVariants.{HangUp}
-use Rattle.tn_machines.specs.declared.server.progress.ServerProgress.{ServerProgress}
+use Rattle.tn_machines.specs.{Counting.{one_more, first_end}, declared.faults.Ended.TheVariants.HangUp}
+use Rattle.tn_machines.specs.declared.{faults.Ended.Ended, server.progress.ServerProgress.ServerProgress}
 
 abbrev pub nothing_yet : ServerProgress
 nothing_yet =

@@ -1,17 +1,12 @@
 -- What a run ends by: the message that brought the fault, or the mark that it left.
 use Rattle.std.specs.Prelude.{◌≡◌, Bool, IsFalse, List, ◌⊎◌}
 use Rattle.tn_machines.specs.Ending as run
-use Rattle.tn_machines.specs.server.Marks.{Turns}
-use Rattle.tn_machines.specs.server.Refusing.{IsRefusalCause}
-use Rattle.tn_machines.specs.server.Run.{Run}
-use Rattle.tn_machines.specs.declared.faults.Ended.{Ended}
-use Rattle.tn_machines.specs.declared.faults.Ended.TheVariants.{HangUp, Done, Fault}
-use Rattle.tn_machines.specs.declared.faults.SessionFault.{SessionFault}
+use Rattle.tn_machines.specs.server.{Marks.Turns, Refusing.IsRefusalCause, Run.Run}
+use Rattle.tn_machines.specs.declared.faults.Ended.{Ended, TheVariants.{HangUp, Done, Fault}}
+use Rattle.tn_machines.specs.declared.faults.SessionFault.{SessionFault, TheVariants.{Start, Channel}}
 use Rattle.tn_machines.specs.declared.faults.SessionFault.TheVariants.{Read, Write, Server, Client, Memory}
-use Rattle.tn_machines.specs.declared.faults.SessionFault.TheVariants.{Start, Channel}
-use Rattle.tn_machines.specs.declared.server.messages.ServerMark.{ServerMark}
+use Rattle.tn_machines.specs.declared.{server.messages.ServerMark.ServerMark, messages.Message.Message}
 use Rattle.tn_machines.specs.declared.server.messages.ServerMark.TheVariants as mark
-use Rattle.tn_machines.specs.declared.messages.Message.{Message}
 use Rattle.tn_machines.specs.declared.messages.Message.TheVariants as message
 
 -- this message with this mark is why the run ended so

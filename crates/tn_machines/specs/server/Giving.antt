@@ -1,8 +1,7 @@
 -- The entries that went to the foreground job.
 use Rattle.std.specs.Prelude.{◌≡◌, ◌≤◌, Option, Some, None, List, [], ◌∷◌, ◌++◌, length}
 use Rattle.tn_discipline.specs.declared.reads.Entry.{Entry}
-use Rattle.tn_server.specs.Events.{History}
-use Rattle.tn_server.specs.Lines.{entries, taken_count, waiting}
+use Rattle.tn_server.specs.{Events.History, Lines.{entries, taken_count, waiting}}
 
 -- the entries among what was put
 abbrev pub entries_put : List (Option Entry) → List Entry

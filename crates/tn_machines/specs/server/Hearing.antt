@@ -1,17 +1,12 @@
 -- What the messages bring from the network, and runs that a hang-up ends.
 use Rattle.std.specs.Prelude.{◌≡◌, ◌≢◌, ℕ, Bool, true, IsFalse, Option, Some, None, List, [], ◌∷◌, ◌++◌, map}
 use Rattle.std.specs.Prelude.{flat_map}
-use Rattle.tn_discipline.specs.Canon.{Canon}
-use Rattle.tn_discipline.specs.declared.reads.Entry.{Entry}
+use Rattle.tn_discipline.specs.{Canon.Canon, declared.reads.Entry.Entry}
 use Rattle.tn_jobs.specs.declared.verdicts.After.TheVariants.{Done}
 use Rattle.tn_nvt.specs.declared.items.Item.{Item}
-use Rattle.tn_server.specs.Events.{items, gets}
-use Rattle.tn_server.specs.Lines.{entries}
-use Rattle.tn_server.specs.declared.wishes.Editing.{Editing}
+use Rattle.tn_server.specs.{Events.{items, gets}, Lines.entries, declared.wishes.Editing.Editing}
 use Rattle.tn_linemode.specs.Prefixes.{IsRead}
-use Rattle.tn_machines.specs.server.Run.{Run, opening}
-use Rattle.tn_machines.specs.Pieces.{bytes_in}
-use Rattle.tn_machines.specs.declared.messages.Message.{Message}
+use Rattle.tn_machines.specs.{server.Run.{Run, opening}, Pieces.bytes_in, declared.messages.Message.Message}
 use Rattle.tn_machines.specs.declared.messages.Message.TheVariants.{Piece, HangUp, ReadFailed, Said, Refused}
 
 -- the pieces joined

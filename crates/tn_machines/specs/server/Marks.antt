@@ -1,13 +1,10 @@
 -- The run of the messages, each with its mark: how far it was done.
-use Rattle.std.specs.Prelude.{◌≡◌, Bool, true, false, IsFalse, ◌&&◌, List, [], ◌∷◌}
-use Rattle.std.specs.List.{FoldsTo}
-use Rattle.tn_machines.specs.server.Refusing.{IsRefusalCause}
-use Rattle.tn_machines.specs.server.Run.{Run, Handles, fail}
-use Rattle.tn_machines.specs.declared.faults.SessionFault.TheVariants as fault
-use Rattle.tn_machines.specs.declared.server.messages.ServerMark.{ServerMark}
-use Rattle.tn_machines.specs.declared.server.messages.ServerMark.TheVariants as mark
-use Rattle.tn_machines.specs.declared.messages.Message.{Message}
+use Rattle.std.specs.{Prelude.{◌≡◌, Bool, true, false, IsFalse, ◌&&◌, List, [], ◌∷◌}, List.FoldsTo}
+use Rattle.tn_machines.specs.server.{Refusing.IsRefusalCause, Run.{Run, Handles, fail}}
+use Rattle.tn_machines.specs.declared.{server.messages.ServerMark.ServerMark, messages.Message.Message}
 use Rattle.tn_machines.specs.declared.messages.Message.TheVariants.{Take}
+use Rattle.tn_machines.specs.declared.faults.SessionFault.TheVariants as fault
+use Rattle.tn_machines.specs.declared.server.messages.ServerMark.TheVariants as mark
 
 -- whether a request waits where the message gave nothing
 abbrev pub asks_at : Message → Run → Bool

@@ -1,23 +1,16 @@
 -- Where a run leads the terminal, and what a call adds to it, whatever the run was.
 use Rattle.std.specs.Prelude.{◌≡◌, ℕ, ◌<◌, All, Bool, true, IsTrue, false, IsFalse, Option, List, [], ◌++◌}
 use Rattle.tn_discipline.specs.declared.reads.Entry.{Entry}
-use Rattle.tn_nvt.specs.Spelling.{spells}
+use Rattle.tn_nvt.specs.{Spelling.spells, declared.items.Item.Item}
 use Rattle.tn_nvt.specs.Feeding as nvt
-use Rattle.tn_nvt.specs.declared.items.Item.{Item}
-use Rattle.tn_server.specs.Events.{History, items, gets, opening_settings}
-use Rattle.tn_server.specs.Replies.{items_said}
-use Rattle.tn_server.specs.Calls.{End}
-use Rattle.tn_server.specs.Calls as server
-use Rattle.tn_machines.specs.server.Marks.{Turns, is_whole, put_or_not}
-use Rattle.tn_machines.specs.server.Counting.{after_piece, after_halt}
-use Rattle.tn_machines.specs.server.Refusing.{IsRefusalCause}
-use Rattle.tn_machines.specs.server.Run.{Run, Handles, Reads, feed, writes, Cuts, after_said, end_if, puts_of}
-use Rattle.tn_jobs.specs.declared.verdicts.Verdict.{Verdict}
+use Rattle.tn_server.specs.{Events.{History, items, gets, opening_settings}, Replies.items_said, Calls.End}
 use Rattle.tn_server.specs.declared.faults.ServerFault.{ServerFault}
-use Rattle.tn_machines.specs.declared.server.messages.ServerMark.{ServerMark}
-use Rattle.tn_machines.specs.declared.server.messages.Put.{Put}
-use Rattle.tn_machines.specs.declared.messages.Message.{Message}
-use Rattle.tn_machines.specs.declared.server.terminal.Term.{Term}
+use Rattle.tn_server.specs.Calls as server
+use Rattle.tn_machines.specs.server.{Marks.{Turns, is_whole, put_or_not}, Counting.{after_piece, after_halt}}
+use Rattle.tn_machines.specs.{server.Refusing.IsRefusalCause, declared.messages.Message.Message}
+use Rattle.tn_machines.specs.server.Run.{Run, Handles, Reads, feed, writes, Cuts, after_said, end_if, puts_of}
+use Rattle.tn_machines.specs.declared.server.{messages.{ServerMark.ServerMark, Put.Put}, terminal.Term.Term}
+use Rattle.tn_jobs.specs.declared.verdicts.Verdict.{Verdict}
 
 -- what holds while messages have their effect
 pub record IsLive (c : Run) (t : Term) : Type 0 where

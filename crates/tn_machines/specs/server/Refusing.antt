@@ -1,20 +1,14 @@
 -- Why a call of the end is refused within a message.
-use Rattle.std.specs.Prelude.{◌≡◌, ◌≢◌, ◌⊎◌, ℕ, Bool, true, false, List, [], ◌∷◌, ◌++◌}
-use Rattle.std.specs.List.{concat}
+use Rattle.std.specs.{Prelude.{◌≡◌, ◌≢◌, ◌⊎◌, ℕ, Bool, true, false, List, [], ◌∷◌, ◌++◌}, List.concat}
 use Rattle.tn_nvt.specs.declared.items.Item.{Item}
 use Rattle.tn_pty.specs.declared.pty.PtyFault.{PtyFault}
 use Rattle.tn_pty.specs.declared.pty.PtyFault.TheVariants as pty
-use Rattle.tn_server.specs.Course.{in_parts}
-use Rattle.tn_server.specs.Events.{History, next, took, wrote, gets, items}
-use Rattle.tn_server.specs.Faults.{IsCause, SaysSomething}
-use Rattle.tn_server.specs.Screen.{queue}
-use Rattle.tn_server.specs.declared.faults.ServerFault.{ServerFault}
+use Rattle.tn_server.specs.{Course.in_parts, Events.{History, next, took, wrote, gets, items}, Screen.queue}
+use Rattle.tn_server.specs.{Faults.{IsCause, SaysSomething}, declared.faults.ServerFault.ServerFault}
 use Rattle.tn_server.specs.declared.faults.ServerFault.TheVariants.{Pty, Memory, Failed, Char, NotOn}
-use Rattle.tn_machines.specs.server.Run.{Run, Reads, verdict, writes}
-use Rattle.tn_machines.specs.Pieces.{WantsMemoryWithin}
-use Rattle.tn_machines.specs.declared.messages.Message.{Message}
+use Rattle.tn_machines.specs.{server.Run.{Run, Reads, verdict, writes}, Pieces.WantsMemoryWithin}
+use Rattle.tn_machines.specs.declared.messages.Message.{Message, TheVariants.{Refused, Left, Resized, Asked}}
 use Rattle.tn_machines.specs.declared.messages.Message.TheVariants.{Piece, HangUp, ReadFailed, Take, Said}
-use Rattle.tn_machines.specs.declared.messages.Message.TheVariants.{Refused, Left, Resized, Asked}
 
 -- symbols wait to be sent
 abbrev pub SymbolsWait : History → Type 0

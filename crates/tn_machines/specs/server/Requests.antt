@@ -1,8 +1,6 @@
 -- What is put for the foreground job answers what it asked for.
 use Rattle.std.specs.Prelude.{ℕ, ◌+◌, ◌≤◌, Bool, true, false, List, [], ◌∷◌, length}
-use Rattle.tn_machines.specs.declared.messages.Message.{Message}
-use Rattle.tn_machines.specs.declared.messages.Message.TheVariants.{Take}
-use Rattle.tn_machines.specs.server.Run.{Run}
+use Rattle.tn_machines.specs.{declared.messages.Message.{Message, TheVariants.Take}, server.Run.Run}
 use Rattle.tn_machines.specs.declared.server.messages.ServerMark.{ServerMark}
 
 -- a request that is not answered yet

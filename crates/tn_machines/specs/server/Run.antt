@@ -1,34 +1,22 @@
 -- What the messages do: a fold over those that were handled, over the history of the server end.
 use Rattle.std.specs.Prelude.{◌≡◌, ℕ, ◌≤◌, Bool, true, false, ◌&&◌, Option, Some, None, List, [], ◌∷◌, ◌++◌}
-use Rattle.std.specs.Prelude.{length, All}
-use Rattle.std.specs.List.{concat}
-use Rattle.tn_discipline.specs.Canon.{Canon}
-use Rattle.tn_discipline.specs.declared.reads.Entry.{Entry}
-use Rattle.tn_jobs.specs.Jobs.{Jobs, state_at, with_state, is_foreground}
-use Rattle.tn_jobs.specs.Judging.{judged}
-use Rattle.tn_jobs.specs.declared.verdicts.After.{After}
-use Rattle.tn_jobs.specs.declared.verdicts.JobState.{JobState}
+use Rattle.std.specs.{Prelude.{length, All}, List.concat}
+use Rattle.tn_discipline.specs.{Canon.Canon, declared.reads.Entry.Entry}
+use Rattle.tn_jobs.specs.{Jobs.{Jobs, state_at, with_state, is_foreground}, Judging.judged}
+use Rattle.tn_jobs.specs.declared.verdicts.{After.After, JobState.JobState, Why.Why, Verdict.Verdict}
 use Rattle.tn_jobs.specs.declared.verdicts.JobState.TheVariants as job
-use Rattle.tn_jobs.specs.declared.verdicts.Why.{Why}
-use Rattle.tn_jobs.specs.declared.verdicts.Verdict.{Verdict}
 use Rattle.tn_nvt.specs.declared.items.Item.{Item}
-use Rattle.tn_server.specs.Course.{in_parts}
-use Rattle.tn_linemode.specs.Prefixes.{IsRead}
+use Rattle.tn_server.specs.{Course.in_parts, Lines.waiting, Screen.queue, declared.wishes.Editing.Editing}
 use Rattle.tn_server.specs.Events.{History, begun, next, took, pulled, wished, gets, items, opening_settings}
-use Rattle.tn_server.specs.Lines.{waiting}
-use Rattle.tn_server.specs.Screen.{queue}
-use Rattle.tn_server.specs.declared.wishes.Editing.{Editing}
+use Rattle.tn_linemode.specs.Prefixes.{IsRead}
 use Rattle.tn_machines.specs.server.Counting as counting
-use Rattle.tn_machines.specs.declared.faults.Ended.{Ended}
-use Rattle.tn_machines.specs.declared.faults.Ended.TheVariants.{Done, Fault}
-use Rattle.tn_machines.specs.declared.faults.SessionFault.{SessionFault}
-use Rattle.tn_machines.specs.declared.faults.SessionFault.TheVariants as fault
-use Rattle.tn_machines.specs.declared.messages.Message.{Message}
+use Rattle.tn_machines.specs.declared.faults.Ended.{Ended, TheVariants.{Done, Fault}}
+use Rattle.tn_machines.specs.declared.{faults.SessionFault.SessionFault, messages.Message.Message}
 use Rattle.tn_machines.specs.declared.messages.Message.TheVariants.{Piece, HangUp, ReadFailed, Take, Said}
 use Rattle.tn_machines.specs.declared.messages.Message.TheVariants.{Refused, Left, Resized, Asked}
-use Rattle.tn_machines.specs.declared.server.messages.Put.{Put}
+use Rattle.tn_machines.specs.declared.server.{messages.Put.Put, progress.ServerProgress.ServerProgress}
+use Rattle.tn_machines.specs.declared.faults.SessionFault.TheVariants as fault
 use Rattle.tn_machines.specs.declared.server.messages.Put.TheVariants as put
-use Rattle.tn_machines.specs.declared.server.progress.ServerProgress.{ServerProgress}
 
 -- All that has happened at the terminal: at its server end, with the pieces joined; what was put for the
 -- foreground job, where None is the end of its entries; the jobs; and how far the session is.

@@ -1,13 +1,9 @@
 //! Laws of the definitions alone.
 
 ghost use Rattle.std.specs.Prelude.{◌≡◌, ℕ, List, map};
-ghost use Rattle.tn_machines.specs.client.Bringing.{TakesInOrder};
-ghost use Rattle.tn_machines.specs.client.Ending.{IsEndedAt};
-ghost use Rattle.tn_machines.specs.client.Marks.{Runs};
-ghost use Rattle.tn_machines.specs.client.Run.{Run, start};
-ghost use Rattle.tn_machines.specs.declared.client.messages.ClientMark.{ClientMark};
-ghost use Rattle.tn_machines.specs.declared.client.messages.Told.{Told};
-ghost use Rattle.tn_machines.specs.declared.faults.Ended.TheVariants.{Fault};
+ghost use Rattle.tn_machines.specs.client.{Bringing.TakesInOrder, Ending.IsEndedAt, Marks.Runs};
+ghost use Rattle.tn_machines.specs.{client.Run.{Run, start}, declared.client.messages.ClientMark.ClientMark};
+ghost use Rattle.tn_machines.specs.declared.{client.messages.Told.Told, faults.Ended.TheVariants.Fault};
 ghost use Rattle.tn_machines.specs.declared.faults.SessionFault.{SessionFault};
 
 /// The keys that were typed with the commands between them, and the bytes from the network whose items came,

@@ -2,12 +2,10 @@
 
 ghost use Rattle.std.specs.Prelude.{◌≡◌, ℕ, List, IsTrue, IsFalse, OnOk, OnErr, IfOk, IfErr, []};
 ghost use Rattle.tn_machines.specs.client.Counting as counting;
-ghost use Rattle.tn_machines.specs.client.Marks.{no_write_failed, no_show_failed};
+ghost use Rattle.tn_machines.specs.client.{Marks.{no_write_failed, no_show_failed}, Reaching.sent_bytes};
 ghost use Rattle.tn_machines.specs.client.Reaching.{LeadsTo, DoesWhole, StopsWithin, RefusesFor, IsTurn};
-ghost use Rattle.tn_machines.specs.client.Reaching.{sent_bytes};
+ghost use Rattle.tn_machines.specs.client.{Run.Run, Terms.terms_at};
 ghost use Rattle.tn_machines.specs.client.Run as run;
-ghost use Rattle.tn_machines.specs.client.Run.{Run};
-ghost use Rattle.tn_machines.specs.client.Terms.{terms_at};
 
 use crate::client::commands::command_of;
 use crate::client::messages::{ClientMark, Origin, Told};

@@ -2,23 +2,15 @@
 
 ghost use Rattle.std.specs.Prelude.{◌≡◌, ℕ, Bool, false, Some, List, map};
 ghost use Rattle.tn_discipline.specs.Canon.{Canon};
-ghost use Rattle.tn_jobs.specs.Jobs.{Jobs, state_at};
-ghost use Rattle.tn_jobs.specs.declared.verdicts.JobState.TheVariants.{Foreground};
+ghost use Rattle.tn_jobs.specs.{Jobs.{Jobs, state_at}, declared.verdicts.JobState.TheVariants.Foreground};
 ghost use Rattle.tn_server.specs.declared.wishes.Editing.{Editing};
-ghost use Rattle.tn_machines.specs.server.Agreeing.{Agree};
-ghost use Rattle.tn_machines.specs.server.Ending.{IsFaultCause};
-ghost use Rattle.tn_machines.specs.server.Giving.{GivesPrefix};
-ghost use Rattle.tn_machines.specs.server.Hearing.{Hears, HangsUp, MayAllCome};
-ghost use Rattle.tn_machines.specs.server.Marks.{Turns, Runs, run_after_opening};
-ghost use Rattle.tn_machines.specs.server.Reaching.{LeadsTo};
-ghost use Rattle.tn_machines.specs.server.Requests.{AnswersRequests, requests_among};
-ghost use Rattle.tn_machines.specs.server.Run.{Run, start};
-ghost use Rattle.tn_machines.specs.declared.faults.Ended.TheVariants.{HangUp, Fault};
-ghost use Rattle.tn_machines.specs.declared.faults.SessionFault.{SessionFault};
-ghost use Rattle.tn_machines.specs.server.Welcoming.{IsWelcome, too_far_ahead};
-ghost use Rattle.tn_machines.specs.declared.server.messages.ServerMark.{ServerMark};
-ghost use Rattle.tn_machines.specs.declared.server.terminal.Term.{Term};
-ghost use Rattle.tn_machines.specs.declared.messages.Message.{Message};
+ghost use Rattle.tn_machines.specs.{server.Agreeing.Agree, declared.faults.Ended.TheVariants.{HangUp, Fault}};
+ghost use Rattle.tn_machines.specs.server.{Ending.IsFaultCause, Requests.{AnswersRequests, requests_among}};
+ghost use Rattle.tn_machines.specs.server.{Giving.GivesPrefix, Marks.{Turns, Runs, run_after_opening}};
+ghost use Rattle.tn_machines.specs.server.{Hearing.{Hears, HangsUp, MayAllCome}, Reaching.LeadsTo};
+ghost use Rattle.tn_machines.specs.server.{Run.{Run, start}, Welcoming.{IsWelcome, too_far_ahead}};
+ghost use Rattle.tn_machines.specs.declared.{faults.SessionFault.SessionFault, messages.Message.Message};
+ghost use Rattle.tn_machines.specs.declared.server.{messages.ServerMark.ServerMark, terminal.Term.Term};
 
 use tn_jobs::laws::one_job_changes;
 

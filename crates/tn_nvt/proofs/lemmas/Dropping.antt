@@ -1,7 +1,6 @@
 -- A subnegotiation that is discarded: a prefix of a piece of it adds no item, and the byte after that wants no memory.
 use Rattle.std.proofs.Common.{◌≡◌, ℕ, List, [], ◌∷◌, ◌++◌, refl, subst, inr}
-use Rattle.tn_nvt.specs.declared.items.Item.{Item}
-use Rattle.tn_nvt.specs.Feeding.{DecoderState, Advances, KeepsParameter, IsLetGo}
+use Rattle.tn_nvt.specs.{declared.items.Item.Item, Feeding.{DecoderState, Advances, KeepsParameter, IsLetGo}}
 use Rattle.tn_nvt.proofs.LettingGo as inner
 
 pub gives_nothing : (old here : DecoderState) (piece front back : List ℕ) (items : List Item) → piece ≡ front ++ back → IsLetGo old piece

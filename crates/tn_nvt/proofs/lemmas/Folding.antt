@@ -1,11 +1,7 @@
 -- What an end learns of its sink: what holds of each call holds of all, and what each call keeps is kept.
-use Rattle.std.proofs.Common.{◌≡◌, ℕ, List, [], ◌∷◌, ◌++◌, Result, Ok, Err, OnOk, IsErrOf, refl, sym, ◌∙◌, ap, subst}
-use Rattle.std.proofs.lemmas.Grind.{flat_map-append}
-use Rattle.tn_nvt.specs.declared.decoding.NvtFault.{NvtFault}
-use Rattle.tn_nvt.specs.declared.decoding.NvtFault.TheVariants.{Memory, Failed, Refused}
-use Rattle.tn_nvt.specs.declared.items.Item.{Item}
+use Rattle.std.proofs.{Common.{◌≡◌, ℕ, List, [], ◌∷◌, ◌++◌, Result, Ok, Err, OnOk, IsErrOf, refl, sym, ◌∙◌, ap, subst}, lemmas.Grind.flat_map-append}
+use Rattle.tn_nvt.specs.{declared.{decoding.NvtFault.{NvtFault, TheVariants.{Memory, Failed, Refused}}, items.Item.Item}, Feeding.DecoderState}
 use Rattle.tn_nvt.specs.Sinks.{all_of, calls_of, TakesEach, FeedsTo, StopsAtSink, StopsForMemory}
-use Rattle.tn_nvt.specs.Feeding.{DecoderState}
 
 module _ {S : Type 0} (takes gives_up : S → List Item → S → Type 0) where
   -- what no call, one call and calls one after another give, all of them give

@@ -1,8 +1,6 @@
 -- What does not fit is something.
 use Rattle.std.proofs.Common.{◌≢◌, ℕ, List, [], length, Vec, subst, arith}
-use Rattle.tn_nvt.specs.Room.{LacksRoom}
-use Rattle.tn_nvt.specs.Spelling.{spells}
-use Rattle.tn_nvt.specs.declared.items.Item.{Item}
+use Rattle.tn_nvt.specs.{Room.LacksRoom, Spelling.spells, declared.items.Item.Item}
 
 fits_none : {Z : Type 0} (out : Vec ℕ Z) → LacksRoom out 0 → ⊥
 fits_none out lacks = omega (arith, out.ok.1, lacks)

@@ -1,14 +1,9 @@
 -- A stream has one reading, what was written is read again, and a flight of whole items stays one however
 -- it is cut.
-use Rattle.std.proofs.Common.{◌≡◌, ℕ, ◌<◌, List, [], ◌∷◌, ◌++◌, refl, sym, ◌∙◌, subst, append_assoc, lit<}
+use Rattle.std.proofs.{Common.{◌≡◌, ℕ, ◌<◌, List, [], ◌∷◌, ◌++◌, refl, sym, ◌∙◌, subst, append_assoc, lit<}, lemmas.Grind.flat_map-append}
+use Rattle.std.proofs.lemmas.List.{append-nil, append_cancel_left, Elements.{All-head, All-tail}}
 use Rattle.std.specs.Prelude.{All}
-use Rattle.std.proofs.lemmas.Grind.{flat_map-append}
-use Rattle.std.proofs.lemmas.List.{append-nil, append_cancel_left}
-use Rattle.std.proofs.lemmas.List.Elements.{All-head, All-tail}
-use Rattle.tn_nvt.specs.declared.items.Item.{Item}
-use Rattle.tn_nvt.specs.declared.items.Item.TheVariants.{Newline}
-use Rattle.tn_nvt.specs.Spelling.{spelling, spells, Fits}
-use Rattle.tn_nvt.specs.Stream.{spelled, Reading}
+use Rattle.tn_nvt.specs.{declared.items.Item.{Item, TheVariants.Newline}, Spelling.{spelling, spells, Fits}, Stream.{spelled, Reading}}
 use Rattle.tn_nvt.specs.Feeding.{DecoderState, LeadsTo, Advances}
 use Rattle.tn_nvt.proofs.Exists as exists
 use Rattle.tn_nvt.proofs.Unique as unique

@@ -1,14 +1,10 @@
 -- How long spellings are, and how much the items of a stream weigh at most.
-use Rattle.std.proofs.Common.{◌≡◌, ◌≢◌, ℕ, ◌+◌, ◌*◌, ◌≤◌, List, [], ◌∷◌, ◌++◌, length, refl, ◌∙◌, ap, arith, length-append, inl, inr}
-use Rattle.std.specs.Prelude.{flat_map}
-use Rattle.std.proofs.lemmas.Bool.{ne_eqb}
+use Rattle.std.proofs.{Common.{◌≡◌, ◌≢◌, ℕ, ◌+◌, ◌*◌, ◌≤◌, List, [], ◌∷◌, ◌++◌, length, refl, ◌∙◌, ap, arith, length-append, inl, inr}, lemmas.Bool.ne_eqb}
 use Rattle.std.proofs.lemmas.Bool.Decides.{eqb_tells}
-use Rattle.tn_nvt.specs.declared.items.Item.{Item}
-use Rattle.tn_nvt.specs.declared.items.Item.TheVariants.{Byte, Sub}
-use Rattle.tn_nvt.specs.Spelling.{cr, doubled_byte, doubled_bytes, spelling, spells, Fits}
+use Rattle.std.specs.Prelude.{flat_map}
+use Rattle.tn_nvt.specs.{declared.items.Item.{Item, TheVariants.{Byte, Sub}}, Spelling.{cr, doubled_byte, doubled_bytes, spelling, spells, Fits}}
 use Rattle.tn_nvt.specs.Stream.{Segment, spelled, lone_cr, escaped, unread, cut, IsSegment, text, look_ahead, gives, Splits, Reading}
-use Rattle.tn_nvt.proofs.Doubling.{doubled-append, doubled_none, doubled_one, length-subnegotiation}
-use Rattle.tn_nvt.proofs.lemmas.Reading.{spells-append}
+use Rattle.tn_nvt.proofs.{Doubling.{doubled-append, doubled_none, doubled_one, length-subnegotiation}, lemmas.Reading.spells-append}
 
 -- LENGTHS
 

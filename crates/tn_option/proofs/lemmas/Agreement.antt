@@ -1,10 +1,7 @@
 -- Two ends and the words between them, from their beginning, step by step.
 use Rattle.std.proofs.Common.{◌≡◌, ℕ, Some, List, [], ◌∷◌, ◌++◌, refl, ◌∙◌, ap, subst}
 use Rattle.tn_option.specs.EnginePair.{EnginePair, EngineStep, engine_step, engine_steps, Talk, step_of, talk_steps, TalkTo, pair_of, LeadTo, EnginesAgree}
-use Rattle.tn_option.specs.Options.{known_option}
-use Rattle.tn_option.specs.declared.known.Known.{Known}
-use Rattle.tn_option.specs.declared.negotiation.Agree.{Agree}
-use Rattle.tn_option.specs.declared.q_method.Side.{Side}
+use Rattle.tn_option.specs.{Options.known_option, declared.{known.Known.Known, negotiation.Agree.Agree, q_method.Side.Side}}
 use Rattle.tn_option.proofs.EngineSteps as inner
 
 pub engines-agree : (a b : Agree) (list : List EngineStep) (side : Side) (code : ℕ) (option : Known)

@@ -1,11 +1,8 @@
 -- What a word or a wish leaves as it was.
 use Rattle.std.proofs.Common.{ℕ, Bool}
 use Rattle.tn_codes.specs.declared.codes.Verb.{Verb}
-use Rattle.tn_option.specs.QMethod.{side_of, cause_of, wish_for}
-use Rattle.tn_option.specs.Options.{Options, known_option, options_after_cause, options_after_word, options_after_wish}
-use Rattle.tn_option.specs.Laws.{LeavesOthers, AgreesAsBefore}
-use Rattle.tn_option.specs.declared.q_method.OptionEvent.{OptionEvent}
-use Rattle.tn_option.specs.declared.q_method.Side.{Side}
+use Rattle.tn_option.specs.{QMethod.{side_of, cause_of, wish_for}, Options.{Options, known_option, options_after_cause, options_after_word, options_after_wish}}
+use Rattle.tn_option.specs.{Laws.{LeavesOthers, AgreesAsBefore}, declared.q_method.{OptionEvent.OptionEvent, Side.Side}}
 use Rattle.tn_option.proofs.OptionLaws as inner
 
 pub LeavesOthers-moved : (o : Options) (side : Side) (code : ℕ) (cause : OptionEvent)

@@ -1,11 +1,8 @@
 -- The bytes that close an edited line, as they are looked for: what is in front of the first of them joins it.
 use Rattle.std.proofs.Common.{◌≡◌, ◌<◌, ◌≤◌, ℕ, ◌==◌, ◌||◌, Bool, true, false, Option, Some, None, All, List, length, take, get_or, unwrap_or, refl, sym, ap}
-use Rattle.std.proofs.Common.{subst, ◌∙◌, if◌then◌else◌, arith, length-take}
-use Rattle.std.proofs.lemmas.List.{get_or-take}
-use Rattle.std.proofs.lemmas.List.Elements.{All-from_get_or}
+use Rattle.std.proofs.{Common.{subst, ◌∙◌, if◌then◌else◌, arith, length-take}, lemmas.List.{get_or-take, Elements.All-from_get_or}}
 use Rattle.memchr.specs.Find.{is_byte3, Passes, Nowhere}
-use Rattle.tn_discipline.specs.Characters.{Characters, is_set_to}
-use Rattle.tn_discipline.specs.declared.keys.Role.{Role}
+use Rattle.tn_discipline.specs.{Characters.{Characters, is_set_to}, declared.keys.Role.Role}
 use Rattle.tn_discipline.specs.declared.keys.Role.TheVariants as role
 use Rattle.tn_pty.specs.Typing.{JoinsEdited}
 

@@ -1,22 +1,12 @@
 -- Bytes that come to the master and make no entry, and of which nothing is shown.
 use Rattle.std.proofs.Common.{◌≡◌, ℕ, suc, Bool, true, false, ◌&&◌, All, List, [], ◌∷◌, ◌++◌, map, refl, sym, ap, ◌∙◌, if◌then◌else◌, arith, append-nil}
-use Rattle.tn_discipline.specs.Characters.{Characters}
-use Rattle.tn_discipline.specs.HalfLine.{HalfLine, effect_of, line_after}
-use Rattle.tn_discipline.specs.Keys.{role_of_key, literal_role, gives_entry}
-use Rattle.tn_discipline.specs.Runs.{line_after_all, ordinary_roles}
-use Rattle.tn_discipline.specs.Echo.{echo_at, one_shown, ordinary_shown, is_erased, wiping_symbols, no_echo}
-use Rattle.tn_discipline.specs.declared.termios.Flags.{Flags}
-use Rattle.tn_discipline.specs.declared.termios.Settings.{Settings}
-use Rattle.tn_discipline.specs.declared.keys.Role.{Role}
+use Rattle.tn_discipline.specs.{Characters.Characters, HalfLine.{HalfLine, effect_of, line_after}, Keys.{role_of_key, literal_role, gives_entry}}
+use Rattle.tn_discipline.specs.{Runs.{line_after_all, ordinary_roles}, Echo.{echo_at, one_shown, ordinary_shown, is_erased, wiping_symbols, no_echo}}
+use Rattle.tn_discipline.specs.declared.{termios.{Flags.Flags, Settings.Settings}, keys.Role.Role, half_line.Effect.Effect, echo.Symbol.TheVariants.Newline}
 use Rattle.tn_discipline.specs.declared.keys.Role.TheVariants as role
-use Rattle.tn_discipline.specs.declared.half_line.Effect.{Effect}
-use Rattle.tn_discipline.specs.declared.echo.Symbol.TheVariants.{Newline}
 use Rattle.tn_discipline.proofs.lemmas.Editing.{quiet_gain}
-use Rattle.tn_pty.specs.Terminal.{Terminal, queue_with}
-use Rattle.tn_pty.specs.Typing.{gain_of, symbols_in, role_of_input, input_symbols, after_byte, after_all, JoinsEdited}
-use Rattle.tn_pty.specs.Faults.{AcceptsAll}
-use Rattle.tn_pty.specs.declared.pty.Input.{Input}
-use Rattle.tn_pty.specs.declared.pty.Input.TheVariants.{Keys, Edited}
+use Rattle.tn_pty.specs.{Terminal.{Terminal, queue_with}, Typing.{gain_of, symbols_in, role_of_input, input_symbols, after_byte, after_all, JoinsEdited}}
+use Rattle.tn_pty.specs.{Faults.AcceptsAll, declared.pty.Input.{Input, TheVariants.{Keys, Edited}}}
 use Rattle.tn_pty.proofs.lemmas.Typed.{queue_still, same_parts}
 
 -- without ECHO nothing is shown of a key that makes no entry

@@ -1,33 +1,18 @@
 -- Bytes that come to the master, one after another.
 use Rattle.std.proofs.Common.{◌≡◌, ◌<◌, ◌≤◌, ℕ, suc, ◌+◌, ◌-◌, min, nat_le, Bool, true, false, ◌&&◌, All, List, [], ◌∷◌, ◌++◌, length, map, take, drop, get_or}
 use Rattle.std.proofs.Common.{Result, Ok, Err, OnOk, refl, sym, ap, subst, ◌∙◌, if◌then◌else◌, arith, append-nil, append_assoc, length-append, length-take}
-use Rattle.std.proofs.Math.Seq.{take-add}
-use Rattle.std.proofs.lemmas.List.{take-append-drop, take_all, take_more, drop_more, length-drop}
-use Rattle.std.proofs.lemmas.List.Elements.{All-take, All-drop}
-use Rattle.tn_discipline.specs.HalfLine.{HalfLine, line_length, is_full, effect_of, line_after}
-use Rattle.tn_discipline.specs.Keys.{roles_of, role_of_key, literal_role}
-use Rattle.tn_discipline.specs.Characters.{Characters}
-use Rattle.tn_discipline.specs.Limits.{max_counted}
-use Rattle.tn_discipline.specs.RolesTable.{IsPlain}
-use Rattle.tn_discipline.specs.Runs.{line_after_all, gains_from}
-use Rattle.tn_discipline.specs.Advancing.{Advances}
-use Rattle.tn_discipline.specs.Echo.{echo_at, one_shown, ordinary_shown}
-use Rattle.tn_discipline.specs.declared.termios.Settings.{Settings}
-use Rattle.tn_discipline.specs.declared.reads.Entry.{Entry}
-use Rattle.tn_discipline.specs.declared.keys.Role.{Role}
+use Rattle.std.proofs.{Math.Seq.take-add, lemmas.List.{take-append-drop, take_all, take_more, drop_more, length-drop, Elements.{All-take, All-drop}}}
+use Rattle.tn_discipline.specs.{HalfLine.{HalfLine, line_length, is_full, effect_of, line_after}, Keys.{roles_of, role_of_key, literal_role}}
+use Rattle.tn_discipline.specs.{Characters.Characters, Limits.max_counted, RolesTable.IsPlain, Runs.{line_after_all, gains_from}, Advancing.Advances}
+use Rattle.tn_discipline.specs.{Echo.{echo_at, one_shown, ordinary_shown}, declared.{termios.Settings.Settings, reads.Entry.Entry, keys.Role.Role}}
+use Rattle.tn_discipline.specs.declared.echo.Symbol.{Symbol, TheVariants.Byte}
 use Rattle.tn_discipline.specs.declared.keys.Role.TheVariants as role
 use Rattle.tn_discipline.specs.declared.half_line.Effect.TheVariants as effect
-use Rattle.tn_discipline.specs.declared.echo.Symbol.{Symbol}
-use Rattle.tn_discipline.specs.declared.echo.Symbol.TheVariants.{Byte}
-use Rattle.tn_discipline.proofs.lemmas.KeyRoles.{literal_roles}
-use Rattle.tn_discipline.proofs.lemmas.Lines.{advances, advances_nothing}
+use Rattle.tn_discipline.proofs.lemmas.{KeyRoles.literal_roles, Lines.{advances, advances_nothing}}
 use Rattle.tn_discipline.proofs.lemmas.Runs.{keys_advance, advances_both, ordinary_gains, not_full, is_filled, one_kept}
-use Rattle.tn_pty.specs.Terminal.{Terminal, queue_symbols, queue_with, queue_with_each}
-use Rattle.tn_pty.specs.Typing.{gain_of, symbols_in, terminal_after, role_of_input, after_byte, after_all, input_gains}
-use Rattle.tn_pty.specs.Faults.{Accepts, AcceptsAll, Refuses, StopsWithin}
-use Rattle.tn_pty.specs.declared.pty.Input.{Input}
-use Rattle.tn_pty.specs.declared.pty.Input.TheVariants.{Keys, Edited}
-use Rattle.tn_pty.specs.declared.pty.PtyFault.{PtyFault}
+use Rattle.tn_pty.specs.{Terminal.{Terminal, queue_symbols, queue_with, queue_with_each}, Faults.{Accepts, AcceptsAll, Refuses, StopsWithin}}
+use Rattle.tn_pty.specs.{Typing.{gain_of, symbols_in, terminal_after, role_of_input, after_byte, after_all, input_gains}, declared.pty.Input.Input}
+use Rattle.tn_pty.specs.declared.pty.{Input.TheVariants.{Keys, Edited}, PtyFault.PtyFault}
 
 module _ (input : Input) where
   pub input-settings : (old : Terminal) (bytes : List ℕ) → (after_all input old bytes).settings ≡ old.settings

@@ -1,8 +1,7 @@
 -- Each step of a channel in which one puts and one takes keeps its rule.
 use Rattle.std.proofs.Common.{◌≡◌, ◌⊎◌, ℕ, Bool, true, false, List, [], ◌∷◌, ◌++◌, Option, Some, None, refl, sym, ap, ◌∙◌, inl, inr, append_assoc}
 use Rattle.crossbeam_channel.specs.Fifo.{Pushes, Pops, Forks, Merges, Learns}
-use Rattle.tn_queue.specs.Queue.{slot, InOrder, more, put_more, taken_more, no_hand, both_hands, one_of, joined_hands, LeftOver}
-use Rattle.tn_queue.specs.declared.Hand.{Hand}
+use Rattle.tn_queue.specs.{Queue.{slot, InOrder, more, put_more, taken_more, no_hand, both_hands, one_of, joined_hands, LeftOver}, declared.Hand.Hand}
 use Rattle.tn_streams.proofs.lemmas.Seats.{or_held, same_held, begins, learns, moves, Cuts, forks, merges}
 use Rattle.tn_streams.specs.Seats.{Kept}
 

@@ -1,23 +1,13 @@
 -- Why an item was refused, said of the history.
 use Rattle.std.proofs.Common.{◌<◌, inl, inr, ℕ, length, sym, ap, ◌∙◌, subst}
-use Rattle.tn_discipline.specs.HalfLine.{HalfLine, GivesText}
-use Rattle.tn_discipline.specs.Keys.{gives_entry}
-use Rattle.tn_discipline.specs.declared.keys.Role.{Role}
+use Rattle.tn_discipline.specs.{HalfLine.{HalfLine, GivesText}, Keys.gives_entry, declared.keys.Role.Role}
 use Rattle.tn_linemode.specs.Words.{IsList}
 use Rattle.tn_nvt.specs.declared.items.Item.{Item}
 use Rattle.tn_pty.specs.Terminal.{max_waiting}
 use Rattle.tn_pty.specs.declared.pty.PtyFault.TheVariants as pty
-use Rattle.tn_server.specs.Calls.{End, LeadsTo}
-use Rattle.tn_server.specs.Events.{History}
-use Rattle.tn_server.specs.Faults.{IsCause}
-use Rattle.tn_server.specs.Lines.{role_of_item}
-use Rattle.tn_server.specs.Steps.{IsRefusedFor}
-use Rattle.tn_server.specs.Terms.{Terms, payload_at}
-use Rattle.tn_server.specs.declared.faults.ServerFault.{ServerFault}
-use Rattle.tn_server.specs.declared.faults.ServerFault.TheVariants.{Pty, Memory, Failed, Char, NotOn}
-use Rattle.tn_server.proofs.lemmas.Ends.{line_is, waits_are}
-use Rattle.tn_server.proofs.lemmas.Leading.{replies_item}
-use Rattle.tn_server.proofs.Standings.{role_is}
+use Rattle.tn_server.specs.{Calls.{End, LeadsTo}, Events.History, Faults.IsCause, Lines.role_of_item, Steps.IsRefusedFor, Terms.{Terms, payload_at}}
+use Rattle.tn_server.specs.declared.faults.ServerFault.{ServerFault, TheVariants.{Pty, Memory, Failed, Char, NotOn}}
+use Rattle.tn_server.proofs.{lemmas.{Ends.{line_is, waits_are}, Leading.replies_item}, Standings.role_is}
 
 pub causes : (h : History) (old : End) (item : Item) (f : ServerFault) → LeadsTo h old → IsRefusedFor old item f → IsCause h item f
 causes h old item (Pty pty.Closed) s x = tt

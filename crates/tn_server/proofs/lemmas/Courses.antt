@@ -1,30 +1,18 @@
 -- Where a course leads.
 use Rattle.std.proofs.Common.{◌≡◌, ◌<◌, ℕ, List, [], ◌∷◌, ◌++◌, length, map, take, drop, refl, sym, ap, ◌∙◌, subst, append-nil, append_assoc, arith, min, ◌≤◌}
-use Rattle.std.proofs.Math.Seq.{take-length}
-use Rattle.std.specs.Prelude.{All}
-use Rattle.std.proofs.lemmas.List.Elements.{All-head, All-tail}
-use Rattle.tn_discipline.specs.declared.echo.Symbol.{Symbol}
+use Rattle.std.proofs.{Math.Seq.take-length, lemmas.List.Elements.{All-head, All-tail}}
+use Rattle.std.specs.{Prelude.All, List.flat_map}
+use Rattle.tn_discipline.specs.{declared.{echo.Symbol.Symbol, termios.Flags.Flags}, Canon.Canon}
 use Rattle.tn_pty.specs.Terminal.{output_symbol, output_symbols, fitting_count}
-use Rattle.tn_discipline.specs.declared.termios.Flags.{Flags}
-use Rattle.std.specs.List.{flat_map}
-use Rattle.tn_discipline.specs.Canon.{Canon}
 use Rattle.tn_nvt.specs.Feeding as nvt
-use Rattle.tn_nvt.specs.Stream.{Reading}
-use Rattle.tn_nvt.specs.declared.items.Item.{Item}
+use Rattle.tn_nvt.specs.{Stream.Reading, declared.items.Item.Item}
 use Rattle.tn_nvt.proofs.lemmas.Reading.{reads_none, has_reading}
 use Rattle.tn_linemode.proofs.lemmas.Reading.{same_more, part_in_two}
-use Rattle.tn_server.specs.Course.{Course, started, fed, called, stream, IsCall, ReadsAs, CourseLeadsTo, in_parts}
+use Rattle.tn_server.specs.{Course.{Course, started, fed, called, stream, IsCall, ReadsAs, CourseLeadsTo, in_parts}, Replies.{data_of, items_said}}
+use Rattle.tn_server.specs.{Events.{Event, History, begun, next, got, wrote, pulled, items, gets}, Screen.queue, Terms.settings, Answering.Feeds}
+use Rattle.tn_server.specs.{Calls.{End, LeadsTo}, Steps.{end_after, says_items}}
 use Rattle.tn_linemode.specs.Prefixes.{IsRead}
-use Rattle.tn_server.specs.Events.{Event, History, begun, next, got, wrote, pulled, items, gets}
-use Rattle.tn_server.specs.Replies.{data_of, items_said}
-use Rattle.tn_server.specs.Screen.{queue}
-use Rattle.tn_server.specs.Terms.{settings}
-use Rattle.tn_server.specs.Answering.{Feeds}
-use Rattle.tn_server.specs.Calls.{End, LeadsTo}
-use Rattle.tn_server.specs.Steps.{end_after, says_items}
-use Rattle.tn_server.proofs.lemmas.Leading.{stands, stands_fed, says_all}
-use Rattle.tn_server.proofs.lemmas.Gathering.{call_keeps}
-use Rattle.tn_server.proofs.lemmas.Histories.{items-gets, gets-append}
+use Rattle.tn_server.proofs.lemmas.{Leading.{stands, stands_fed, says_all}, Gathering.call_keeps, Histories.{items-gets, gets-append}}
 
 pub one_history : (c : Course) (h k : History) → ReadsAs c h → ReadsAs c k → h ≡ k
 one_history (started canon) h k a b = a ∙ sym b

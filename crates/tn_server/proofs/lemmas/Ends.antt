@@ -1,22 +1,12 @@
 -- What an end shows of the history that leads to it.
 use Rattle.std.proofs.Common.{◌≡◌, ◌≤◌, ℕ, ◌+◌, nat_lt, Bool, true, false, List, [], ◌∷◌, ◌++◌, length, take, drop, refl, sym, ap, ◌∙◌, arith, if◌then◌else◌}
-use Rattle.std.proofs.Common.{append-nil, length-append, take-add}
-use Rattle.std.proofs.lemmas.Bool.{ltb-true, ltb-false}
+use Rattle.std.proofs.{Common.{append-nil, length-append, take-add}, lemmas.Bool.{ltb-true, ltb-false}, Math.Seq.drop-append_seam}
 use Rattle.std.proofs.lemmas.List.{take-append-drop, take-append-le, length-take-le, drop_all}
-use Rattle.std.proofs.Math.Seq.{drop-append_seam}
 use Rattle.tn_discipline.proofs.lemmas.Histories.{entries-all}
-use Rattle.tn_discipline.specs.Entries.{half_of}
-use Rattle.tn_discipline.specs.Keys.{roles_from}
-use Rattle.tn_discipline.specs.Steps.{gain_all}
-use Rattle.tn_discipline.specs.HalfLine.{HalfLine}
-use Rattle.tn_discipline.specs.declared.reads.Entry.{Entry}
-use Rattle.tn_nvt.specs.Feeding.{failed}
-use Rattle.tn_nvt.specs.declared.items.Item.{Item}
-use Rattle.tn_server.specs.Events.{History, begun, next, got, took, limit}
-use Rattle.tn_server.specs.Lines.{roles, role_of_item, half, entries, taken_count, line, waiting}
-use Rattle.tn_server.specs.Calls.{End, LeadsTo}
-use Rattle.tn_server.specs.Screen.{queue, size, due}
-use Rattle.tn_server.specs.Terms.{terms, asked_mask, mode, chars, settings}
+use Rattle.tn_discipline.specs.{Entries.half_of, Keys.roles_from, Steps.gain_all, HalfLine.HalfLine, declared.reads.Entry.Entry}
+use Rattle.tn_nvt.specs.{Feeding.failed, declared.items.Item.Item}
+use Rattle.tn_server.specs.{Events.{History, begun, next, got, took, limit}, Lines.{roles, role_of_item, half, entries, taken_count, line, waiting}}
+use Rattle.tn_server.specs.{Calls.{End, LeadsTo}, Screen.{queue, size, due}, Terms.{terms, asked_mask, mode, chars, settings}}
 
 -- where nothing is ahead, the half line is what is held
 pub line_is : (h : History) (end : End) → LeadsTo h end → end.terminal.line ≡ line h

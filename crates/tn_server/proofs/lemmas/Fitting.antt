@@ -1,40 +1,23 @@
 -- Each item that a server end sends fits a stream.
 use Rattle.std.proofs.Common.{ℕ, Bool, true, false, not, ◌&&◌, Option, Some, None, Result, Ok, Err, List, [], ◌∷◌, ◌++◌, map, take, if◌then◌else◌, arith, lit≤}
-use Rattle.std.proofs.Common.{length-take}
+use Rattle.std.proofs.{Common.length-take, lemmas.List.Elements.{All-nil, All-cons, All-append}}
 use Rattle.std.specs.Prelude.{All}
-use Rattle.std.proofs.lemmas.List.Elements.{All-nil, All-cons, All-append}
-use Rattle.tn_codes.specs.declared.codes.Command.TheVariants.{Ga}
-use Rattle.tn_codes.specs.declared.codes.Func.{Func}
-use Rattle.tn_codes.specs.declared.codes.Verb.{Verb}
-use Rattle.tn_codes.specs.declared.codes.Verb.TheVariants as verb
-use Rattle.tn_codes.specs.declared.masks.Mask.{Mask}
-use Rattle.tn_codes.specs.Payloads.{parameters_of}
-use Rattle.tn_codes.specs.declared.payloads.Payload.{Payload}
+use Rattle.tn_codes.specs.{declared.{codes.{Command.TheVariants.Ga, Func.Func, Verb.Verb}, masks.Mask.Mask, payloads.Payload.Payload}, Payloads.parameters_of}
 use Rattle.tn_codes.specs.declared.payloads.Payload.TheVariants.{ForwardOn, ForwardOff, Slc}
-use Rattle.tn_discipline.specs.Characters.{Characters, slot}
-use Rattle.tn_discipline.specs.declared.echo.Symbol.{Symbol}
+use Rattle.tn_codes.specs.declared.codes.Verb.TheVariants as verb
+use Rattle.tn_discipline.specs.{Characters.{Characters, slot}, declared.{echo.Symbol.Symbol, termios.Flags.Flags}}
 use Rattle.tn_discipline.specs.declared.echo.Symbol.TheVariants as symbol
-use Rattle.tn_discipline.specs.declared.termios.Flags.{Flags}
-use Rattle.tn_linemode.specs.Exchange.{announcement, server_answers, server_next, server_answer, is_same_value}
-use Rattle.tn_linemode.specs.Triples.{triple_of}
-use Rattle.tn_nvt.specs.Spelling.{Fits}
-use Rattle.tn_nvt.specs.declared.items.Item.{Item}
-use Rattle.tn_nvt.specs.declared.items.Item.TheVariants.{Byte, Newline, Cmd, Neg, Sub}
-use Rattle.tn_option.specs.Options.{Options, reply_to, answer_to, state_of, is_yes}
-use Rattle.tn_option.specs.declared.q_method.AskFault.{AskFault}
-use Rattle.tn_option.specs.declared.q_method.Side.TheVariants.{Us, Them}
+use Rattle.tn_linemode.specs.{Exchange.{announcement, server_answers, server_next, server_answer, is_same_value}, Triples.triple_of}
+use Rattle.tn_linemode.specs.Words.{payload_items, list_items, mode_items}
+use Rattle.tn_nvt.specs.{Spelling.Fits, declared.items.Item.{Item, TheVariants.{Byte, Newline, Cmd, Neg, Sub}}}
+use Rattle.tn_option.specs.{Options.{Options, reply_to, answer_to, state_of, is_yes}, declared.q_method.{AskFault.AskFault, Side.TheVariants.{Us, Them}}}
 use Rattle.tn_server.specs.Events.{History, Event, begun, next, got, took, wrote, pulled, wished, char_set, echo_set, mask_set}
 use Rattle.tn_server.specs.Terms.{Terms, terms, options, flags, chars, linemode, payload_at, options_after, wish_at, is_echo_set, wish_after, mask_told}
-use Rattle.tn_server.specs.Terms.{asks_echo, asked_mask_of, wants_echo, chars_after}
-use Rattle.tn_server.specs.Screen.{queue, sends_ga, none_waits, due}
+use Rattle.tn_server.specs.{Terms.{asks_echo, asked_mask_of, wants_echo, chars_after}, Screen.{queue, sends_ga, none_waits, due}}
 use Rattle.tn_server.specs.Replies.{asked_word_items, reply_items, table_items, new_table_items, echo_items, items_by, items_at, list_replies, triple_items}
-use Rattle.tn_server.specs.Replies.{forward_payload, data_of, opening, replies, items_said}
-use Rattle.tn_linemode.specs.Words.{payload_items, list_items, mode_items}
-use Rattle.tn_server.specs.declared.wishes.Editing.{Editing}
+use Rattle.tn_server.specs.{Replies.{forward_payload, data_of, opening, replies, items_said}, declared.wishes.Editing.Editing}
 use Rattle.tn_codes.proofs.lemmas.Masks.{length-trimmed}
-use Rattle.tn_linemode.proofs.lemmas.Answering.{length-answers_along}
-use Rattle.tn_linemode.proofs.lemmas.Fitting.{word-fits, mode-fits, list-fits}
-use Rattle.tn_linemode.proofs.lemmas.Listing.{IsShortOrNone, short_under}
+use Rattle.tn_linemode.proofs.lemmas.{Answering.length-answers_along, Fitting.{word-fits, mode-fits, list-fits}, Listing.{IsShortOrNone, short_under}}
 use Rattle.tn_server.proofs.Listing.{length-announcement}
 
 asked_fits : (r : Result (Option (Verb × ℕ)) AskFault) → All Fits (asked_word_items r)

@@ -1,17 +1,11 @@
 -- Items one after another, and what neither an item nor a call changes.
 use Rattle.std.proofs.Common.{◌≡◌, ℕ, Bool, Option, Some, None, List, [], ◌∷◌, ◌++◌, map, refl, ap, ◌∙◌}
-use Rattle.tn_codes.specs.declared.payloads.Payload.{Payload}
-use Rattle.tn_codes.specs.declared.payloads.Payload.TheVariants.{Mode}
+use Rattle.tn_codes.specs.declared.payloads.Payload.{Payload, TheVariants.Mode}
 use Rattle.tn_linemode.specs.Modes.{wish_of_mask}
 use Rattle.tn_linemode.proofs.lemmas.Folding as folding
-use Rattle.tn_nvt.specs.Feeding.{DecoderState}
-use Rattle.tn_nvt.specs.declared.items.Item.{Item}
-use Rattle.tn_nvt.specs.declared.items.Item.TheVariants.{Byte, Sub}
-use Rattle.tn_server.specs.Calls.{End}
-use Rattle.tn_server.specs.Events.{Event, got, wished}
+use Rattle.tn_nvt.specs.{Feeding.DecoderState, declared.items.Item.{Item, TheVariants.{Byte, Sub}}}
+use Rattle.tn_server.specs.{Calls.End, Events.{Event, got, wished}, Steps.{says_item, end_after, end_after_items, says_items}, Terms.{payload_at, mask_for}}
 use Rattle.tn_server.specs.Steps.{end_after_wish, says_wished, mask_wished, end_after_mode_by, says_mode_by, end_after_payload, says_sub, end_after_item}
-use Rattle.tn_server.specs.Steps.{says_item, end_after, end_after_items, says_items}
-use Rattle.tn_server.specs.Terms.{payload_at, mask_for}
 
 pub after_both : (old : End) (xs ys : List Item) → end_after_items old (xs ++ ys) ≡ end_after_items (end_after_items old xs) ys
 after_both = folding.after_both end_after_item

@@ -2,19 +2,13 @@
 use Rattle.std.proofs.Common.{◌≡◌, ℕ, List, ◌++◌, take, map, refl, sym, ap, ◌∙◌, subst}
 use Rattle.tn_discipline.specs.declared.echo.Symbol.{Symbol}
 use Rattle.tn_linemode.proofs.lemmas.Folding as folding
-use Rattle.tn_nvt.specs.declared.items.Item.{Item}
-use Rattle.tn_nvt.specs.declared.items.Item.TheVariants.{Byte, Newline, Cmd, Neg, Sub}
-use Rattle.tn_server.specs.Answering.{Feeds, IsHalted}
-use Rattle.tn_server.specs.Calls.{End, LeadsTo}
+use Rattle.tn_nvt.specs.declared.items.Item.{Item, TheVariants.{Byte, Newline, Cmd, Neg, Sub}}
+use Rattle.tn_server.specs.{Answering.{Feeds, IsHalted}, Calls.{End, LeadsTo}, Replies.{replies, items_said, data_of}, Terms.payload_at}
 use Rattle.tn_server.specs.Events.{Event, got, took, wrote, pulled, wished, char_set, echo_set, mask_set, History, next, gets}
-use Rattle.tn_server.specs.Replies.{replies, items_said, data_of}
 use Rattle.tn_server.specs.Steps.{end_after_item, says_item, end_after, says, end_after_items, says_items}
-use Rattle.tn_server.specs.Terms.{payload_at}
 use Rattle.tn_server.proofs.Calling.{stands_took, replies_took, stands_wrote, stands_pulled, stands_wish, replies_wish, stands_char, replies_char, stands_echo}
-use Rattle.tn_server.proofs.Calling.{replies_echo, stands_mask}
-use Rattle.tn_server.proofs.Standings.{end_by_terms, says_by_terms, stands_got, replies_got}
+use Rattle.tn_server.proofs.{Calling.{replies_echo, stands_mask}, Standings.{end_by_terms, says_by_terms, stands_got, replies_got}, Wishing.{sub_got, sub_said}}
 use Rattle.tn_server.proofs.Turning.{IsSound, sound, typed_got, quiet_says, words_got, words_said}
-use Rattle.tn_server.proofs.Wishing.{sub_got, sub_said}
 
 -- AN ITEM
 item_got : (old : End) (item : Item) → IsSound old → end_by_terms old item ≡ end_after_item old item

@@ -1,37 +1,21 @@
 -- How many entries a piece of a stream makes at most.
 use Rattle.std.proofs.Common.{◌≡◌, ◌≢◌, inl, inr, ℕ, ◌+◌, ◌≤◌, ◌<◌, Bool, true, false, if◌then◌else◌, List, [], ◌∷◌, ◌++◌, length, drop, refl, sym, ap, ◌∙◌}
-use Rattle.std.proofs.Common.{subst, arith, append_assoc, length-append, length-drop}
-use Rattle.std.specs.Prelude.{All, flat_map}
-use Rattle.std.proofs.lemmas.Bool.Decides.{eqb_tells, leb_tells}
-use Rattle.std.proofs.lemmas.List.{append_cancel_left}
+use Rattle.std.proofs.{Common.{subst, arith, append_assoc, length-append, length-drop}, lemmas.{Bool.Decides.{eqb_tells, leb_tells}, List.append_cancel_left}}
 use Rattle.std.proofs.lemmas.List.Elements.{All-tail}
+use Rattle.std.specs.Prelude.{All, flat_map}
 use Rattle.tn_discipline.proofs.lemmas.Histories.{entries-all}
-use Rattle.tn_discipline.specs.Admitted.{is_dropped}
-use Rattle.tn_discipline.specs.Entries.{half_of}
-use Rattle.tn_discipline.specs.Keys.{roles_from}
-use Rattle.tn_discipline.specs.Steps.{gain_after, gain_next, gain_all, half_next}
-use Rattle.tn_discipline.specs.declared.keys.Role.{Role}
+use Rattle.tn_discipline.specs.{Admitted.is_dropped, Entries.half_of, Keys.roles_from, Steps.{gain_after, gain_next, gain_all, half_next}}
+use Rattle.tn_discipline.specs.declared.{keys.Role.Role, reads.Entry.Entry}
 use Rattle.tn_discipline.specs.declared.keys.Role.TheVariants as role
-use Rattle.tn_discipline.specs.declared.reads.Entry.{Entry}
-use Rattle.tn_nvt.specs.Feeding.{DecoderState}
-use Rattle.tn_nvt.specs.Spelling.{spelling}
-use Rattle.tn_nvt.specs.Stream.{Segment, spelled, IsSegment, text, look_ahead, gives, Splits, IsPartial, Reading}
-use Rattle.tn_nvt.specs.declared.items.Item.{Item}
-use Rattle.tn_nvt.specs.declared.items.Item.TheVariants.{Byte}
-use Rattle.tn_nvt.proofs.lemmas.Reading.{one_reading, reads_on, has_reading}
-use Rattle.tn_nvt.proofs.lemmas.Sizes.{doubled_some, total, IsWeight, weighs_at_most}
+use Rattle.tn_nvt.specs.{Feeding.DecoderState, Spelling.spelling, Stream.{Segment, spelled, IsSegment, text, look_ahead, gives, Splits, IsPartial, Reading}}
+use Rattle.tn_nvt.specs.declared.items.Item.{Item, TheVariants.Byte}
+use Rattle.tn_nvt.proofs.lemmas.{Reading.{one_reading, reads_on, has_reading}, Sizes.{doubled_some, total, IsWeight, weighs_at_most}}
 use Rattle.tn_pty.specs.declared.pty.PtyFault.TheVariants.{TooFarAhead}
 use Rattle.tn_linemode.specs.Prefixes.{IsRead}
-use Rattle.tn_server.specs.Answering.{IsStopCause, StopsWithin}
-use Rattle.tn_server.specs.Calls.{End}
-use Rattle.tn_server.specs.Course.{Course, fed, stream, ReadsAs, CourseLeadsTo}
-use Rattle.tn_server.specs.Events.{History, next, got, items, gets, limit}
-use Rattle.tn_server.specs.Lines.{roles, entries, role_of_item, taken_count, waiting}
-use Rattle.tn_server.specs.Steps.{end_after_items}
-use Rattle.tn_server.specs.declared.faults.ServerFault.{ServerFault}
-use Rattle.tn_server.specs.declared.faults.ServerFault.TheVariants.{Pty}
-use Rattle.tn_server.proofs.lemmas.Courses.{one_history, reads_all}
-use Rattle.tn_server.proofs.lemmas.Stopping.{has_read, many_wait}
+use Rattle.tn_server.specs.{Answering.{IsStopCause, StopsWithin}, Calls.End, Course.{Course, fed, stream, ReadsAs, CourseLeadsTo}, Steps.end_after_items}
+use Rattle.tn_server.specs.{Events.{History, next, got, items, gets, limit}, Lines.{roles, entries, role_of_item, taken_count, waiting}}
+use Rattle.tn_server.specs.declared.faults.ServerFault.{ServerFault, TheVariants.Pty}
+use Rattle.tn_server.proofs.lemmas.{Courses.{one_history, reads_all}, Stopping.{has_read, many_wait}}
 
 -- LISTS
 

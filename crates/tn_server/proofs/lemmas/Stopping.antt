@@ -1,25 +1,13 @@
 -- What a refused piece leaves, seen from the piece's items.
 use Rattle.std.proofs.Common.{◌≡◌, ◌≢◌, ℕ, List, [], ◌∷◌, ◌++◌, length, refl, sym, ap, ◌∙◌, subst, append_assoc}
-use Rattle.tn_nvt.specs.Feeding.{DecoderState, failed}
+use Rattle.tn_nvt.specs.{Feeding.{DecoderState, failed}, declared.items.Item.Item}
 use Rattle.tn_nvt.specs.Feeding as nvt
-use Rattle.tn_nvt.specs.declared.items.Item.{Item}
-use Rattle.tn_pty.specs.Terminal.{max_waiting}
-use Rattle.tn_pty.specs.declared.pty.PtyFault.TheVariants.{TooFarAhead}
+use Rattle.tn_pty.specs.{Terminal.max_waiting, declared.pty.PtyFault.TheVariants.TooFarAhead}
 use Rattle.tn_linemode.proofs.lemmas.Reading.{stopped_in}
-use Rattle.tn_server.specs.Answering.{first_said, IsStopCause, StopsWithin}
-use Rattle.tn_server.specs.Calls.{End, LeadsTo}
-use Rattle.tn_server.specs.Course.{Course, fed, stream, ReadsAs, CourseLeadsTo}
-use Rattle.tn_server.specs.Events.{History, items, gets}
-use Rattle.tn_server.specs.Lines.{waiting}
-use Rattle.tn_server.specs.Replies.{items_said}
-use Rattle.tn_server.specs.Steps.{end_after_item, end_after_items, says_items}
-use Rattle.tn_server.specs.Stopping.{StopsBetween}
-use Rattle.tn_server.specs.declared.faults.ServerFault.{ServerFault}
-use Rattle.tn_server.specs.declared.faults.ServerFault.TheVariants.{Pty}
-use Rattle.tn_server.proofs.lemmas.Leading.{stands_all, says_all, stands_halted}
-use Rattle.tn_server.proofs.lemmas.Courses.{one_history}
-use Rattle.tn_server.proofs.lemmas.Ends.{waits_are}
-use Rattle.tn_server.proofs.lemmas.Gathering.{says_both}
+use Rattle.tn_server.specs.{Answering.{first_said, IsStopCause, StopsWithin}, Calls.{End, LeadsTo}, Course.{Course, fed, stream, ReadsAs, CourseLeadsTo}}
+use Rattle.tn_server.specs.{Events.{History, items, gets}, Lines.waiting, Replies.items_said, Steps.{end_after_item, end_after_items, says_items}}
+use Rattle.tn_server.specs.{Stopping.StopsBetween, declared.faults.ServerFault.{ServerFault, TheVariants.Pty}}
+use Rattle.tn_server.proofs.lemmas.{Leading.{stands_all, says_all, stands_halted}, Courses.one_history, Ends.waits_are, Gathering.says_both}
 use Rattle.tn_server.proofs.lemmas.Histories.{gets-append}
 
 -- a prefix of the first reply is a prefix of all that the items make the end say

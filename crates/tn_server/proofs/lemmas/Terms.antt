@@ -1,12 +1,9 @@
 -- What stays where nothing new is agreed on.
 use Rattle.std.proofs.Common.{◌≡◌, ℕ, ◌==◌, Bool, true, false, Option, None, [], refl, rules}
-use Rattle.tn_discipline.specs.Characters.{Characters}
-use Rattle.tn_discipline.specs.declared.termios.Flags.{Flags}
-use Rattle.tn_linemode.specs.Modes.{mode_of}
+use Rattle.tn_discipline.specs.{Characters.Characters, declared.termios.Flags.Flags}
+use Rattle.tn_linemode.specs.{Modes.mode_of, Words.differ}
 use Rattle.tn_option.specs.Options.{Options, options_after_wish, state_of}
-use Rattle.tn_server.specs.Terms.{Terms, linemode, asked_mask_while, mode_sent, terms_by, wish_after, options_with_echo}
-use Rattle.tn_linemode.specs.Words.{differ}
-use Rattle.tn_server.specs.Replies.{items_by, new_table_items}
+use Rattle.tn_server.specs.{Terms.{Terms, linemode, asked_mask_while, mode_sent, terms_by, wish_after, options_with_echo}, Replies.{items_by, new_table_items}}
 use Rattle.tn_server.specs.declared.wishes.Editing.{Editing}
 
 -- where nothing is new, nothing is said and all stays

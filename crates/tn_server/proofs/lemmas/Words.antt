@@ -1,43 +1,26 @@
 -- The option words of a server end are those of its option engine, step by step.
 use Rattle.std.proofs.Common.{◌≡◌, ℕ, Bool, true, false, not, ◌&&◌, Option, None, Some, Result, Ok, Err, List, [], ◌∷◌, ◌++◌, map, take, refl, sym, ap, ◌∙◌}
-use Rattle.std.proofs.Common.{if◌then◌else◌, append-nil, append_assoc}
+use Rattle.std.proofs.{Common.{if◌then◌else◌, append-nil, append_assoc}, lemmas.List.append_cancel_left}
 use Rattle.std.specs.Prelude.{option_to_list}
-use Rattle.std.proofs.lemmas.List.{append_cancel_left}
-use Rattle.tn_codes.specs.declared.codes.Command.TheVariants.{Ga}
-use Rattle.tn_codes.specs.declared.codes.Func.{Func}
-use Rattle.tn_codes.specs.declared.codes.Verb.{Verb}
-use Rattle.tn_codes.specs.declared.masks.Mask.{Mask}
-use Rattle.tn_codes.specs.declared.payloads.Payload.{Payload}
+use Rattle.tn_codes.specs.declared.{codes.{Command.TheVariants.Ga, Func.Func, Verb.Verb}, masks.Mask.Mask, payloads.Payload.Payload}
 use Rattle.tn_codes.specs.declared.payloads.Payload.TheVariants as payload
-use Rattle.tn_discipline.specs.Characters.{Characters, slot}
-use Rattle.tn_discipline.specs.declared.echo.Symbol.{Symbol}
+use Rattle.tn_discipline.specs.{Characters.{Characters, slot}, declared.{echo.Symbol.Symbol, termios.Flags.Flags}}
 use Rattle.tn_discipline.specs.declared.echo.Symbol.TheVariants as symbol
-use Rattle.tn_discipline.specs.declared.termios.Flags.{Flags}
-use Rattle.tn_linemode.specs.Exchange.{announcement, server_answers, server_is_asked, is_same_value}
-use Rattle.tn_linemode.specs.Triples.{triple_of}
-use Rattle.tn_nvt.specs.declared.items.Item.{Item}
-use Rattle.tn_nvt.specs.declared.items.Item.TheVariants.{Byte, Newline, Cmd, Neg, Sub}
-use Rattle.tn_option.specs.EnginePair.{EnginePair, talk_steps, wishes_echo, server_hears, asked_word, ask_here, LeadTo}
-use Rattle.tn_option.specs.Options.{Options, new_options, options_after_word, options_after_wish, reply_to, answer_to}
-use Rattle.tn_option.specs.QMethod.{cell}
-use Rattle.tn_option.specs.declared.negotiation.Agree.{Agree}
-use Rattle.tn_option.specs.declared.q_method.AskFault.{AskFault}
-use Rattle.tn_option.specs.declared.q_method.Side.TheVariants.{Us, Them}
-use Rattle.tn_option.proofs.lemmas.Agreement.{Moves, then-Moves}
-use Rattle.tn_linemode.specs.OptionWords.{words_in}
-use Rattle.tn_linemode.proofs.lemmas.OptionWords.{words_in-append, words_in-word, words_in-list, words_in-mode}
+use Rattle.tn_linemode.specs.{Exchange.{announcement, server_answers, server_is_asked, is_same_value}, Triples.triple_of, OptionWords.words_in}
 use Rattle.tn_linemode.specs.Words.{payload_items, list_items, mode_items}
-use Rattle.tn_server.specs.Calls.{End, LeadsTo}
-use Rattle.tn_server.specs.Steps.{end_after, says, end_after_items, says_items}
-use Rattle.tn_server.proofs.lemmas.Leading.{stands, says_as, stands_all, says_all}
-use Rattle.tn_server.specs.Course.{IsCall}
+use Rattle.tn_nvt.specs.declared.items.Item.{Item, TheVariants.{Byte, Newline, Cmd, Neg, Sub}}
+use Rattle.tn_option.specs.{EnginePair.{EnginePair, talk_steps, wishes_echo, server_hears, asked_word, ask_here, LeadTo}, QMethod.cell}
+use Rattle.tn_option.specs.{Options.{Options, new_options, options_after_word, options_after_wish, reply_to, answer_to}, declared.negotiation.Agree.Agree}
+use Rattle.tn_option.specs.declared.q_method.{AskFault.AskFault, Side.TheVariants.{Us, Them}}
+use Rattle.tn_option.proofs.lemmas.Agreement.{Moves, then-Moves}
+use Rattle.tn_linemode.proofs.lemmas.OptionWords.{words_in-append, words_in-word, words_in-list, words_in-mode}
+use Rattle.tn_server.specs.{Calls.{End, LeadsTo}, Steps.{end_after, says, end_after_items, says_items}, Course.IsCall, declared.wishes.Editing.Editing}
 use Rattle.tn_server.specs.Events.{Event, History, next, got, took, wrote, pulled, wished, char_set, echo_set, mask_set, gets}
 use Rattle.tn_server.specs.Replies.{asked_word_items, reply_items, table_items, new_table_items, echo_items, items_by, items_at, list_replies, triple_items}
-use Rattle.tn_server.specs.Replies.{forward_payload, data_of, opening, replies, items_said}
-use Rattle.tn_server.specs.Screen.{queue, sends_ga, none_waits, due}
+use Rattle.tn_server.specs.{Replies.{forward_payload, data_of, opening, replies, items_said}, Screen.{queue, sends_ga, none_waits, due}}
 use Rattle.tn_server.specs.Terms.{Terms, terms, agreement, opening_options, options, flags, chars, linemode, payload_at, options_after, wish_at, wish_after}
 use Rattle.tn_server.specs.Terms.{mask_told, asks_echo, asked_mask_of, wants_echo, options_with_echo, chars_after}
-use Rattle.tn_server.specs.declared.wishes.Editing.{Editing}
+use Rattle.tn_server.proofs.lemmas.Leading.{stands, says_as, stands_all, says_all}
 
 -- a server's options and those of its client, and the words that are on their way to each
 abbrev pub pair : Options → Options → List (Verb × ℕ) → List (Verb × ℕ) → EnginePair

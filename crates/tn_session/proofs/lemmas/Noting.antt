@@ -2,8 +2,7 @@
 use Rattle.std.proofs.Common.{◌≡◌, ◌⊎◌, inl, inr, ℕ, Bool, true, false, Some, List, [], ◌∷◌, ◌++◌, refl, sym, ap, ◌∙◌, subst, map, append_assoc, append-nil}
 use Rattle.std.specs.List.{FoldsTo}
 use Rattle.tn_session.proofs.lemmas.Transcribing.{prefix_trans}
-use Rattle.tn_session.specs.Notes.{Note}
-use Rattle.tn_session.specs.Transcripts.{Exchange, IsExchange, IsStep, exchange_of, total}
+use Rattle.tn_session.specs.{Notes.Note, Transcripts.{Exchange, IsExchange, IsStep, exchange_of, total}}
 use Rattle.tn_workers.specs.declared.mail.Mail.{Mail}
 use Rattle.tn_streams.specs.Prefixes.{IsPrefixOf}
 

@@ -4,18 +4,12 @@ use Rattle.tn_discipline.specs.declared.reads.Entry.{Entry}
 use Rattle.tn_jobs.specs.declared.verdicts.Verdict.{Verdict}
 use Rattle.tn_nvt.specs.declared.items.Item.{Item}
 use Rattle.tn_server.proofs.lemmas.Histories.{items-gets}
-use Rattle.tn_server.specs.Course.{in_parts}
-use Rattle.tn_server.specs.Events.{History, next, got, took, wrote, pulled, items, gets}
-use Rattle.tn_server.specs.Lines.{waiting}
-use Rattle.tn_server.specs.Screen.{queue}
+use Rattle.tn_server.specs.{Course.in_parts, Events.{History, next, got, took, wrote, pulled, items, gets}, Lines.waiting, Screen.queue}
 use Rattle.tn_machines.proofs.lemmas.server.Hearing.{move_keeps}
-use Rattle.tn_machines.specs.server.Marks.{Turns, put_or_not}
+use Rattle.tn_machines.specs.{server.{Marks.{Turns, put_or_not}, Run.{is_end, show}}, declared.server.messages.ServerMark.ServerMark}
 use Rattle.tn_machines.specs.server.Run.{Run, Acts, ActsUnless, flushed_history, flush, feed, ask, ask_if, answer, move, in_foreground, after_said, halt_if}
-use Rattle.tn_machines.specs.server.Run.{is_end, show}
-use Rattle.tn_machines.specs.declared.server.messages.ServerMark.{ServerMark}
+use Rattle.tn_machines.specs.declared.messages.Message.{Message, TheVariants.{Piece, HangUp, ReadFailed, Take, Said, Refused, Left, Resized, Asked}}
 use Rattle.tn_machines.specs.declared.server.messages.ServerMark.TheVariants as mark
-use Rattle.tn_machines.specs.declared.messages.Message.{Message}
-use Rattle.tn_machines.specs.declared.messages.Message.TheVariants.{Piece, HangUp, ReadFailed, Take, Said, Refused, Left, Resized, Asked}
 use Rattle.tn_streams.specs.Prefixes.{IsPrefixOf}
 
 -- kept by each event of a terminal, where the items that come begin these

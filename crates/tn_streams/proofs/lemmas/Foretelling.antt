@@ -1,8 +1,6 @@
 -- Calls one after another, and what was foretold of them.
 use Rattle.std.proofs.Common.{◌≡◌, ◌≢◌, ℕ, ◌+◌, Option, Some, None, Ok, Err, inl, inr, ⊎_elim, refl, ap, arith}
-use Rattle.std.specs.IoError.{error_kind}
-use Rattle.std.specs.declared.io.Error.{Error}
-use Rattle.std.specs.declared.io.ErrorKind.TheVariants.{Interrupted}
+use Rattle.std.specs.{IoError.error_kind, declared.io.{Error.Error, ErrorKind.TheVariants.Interrupted}}
 use Rattle.tn_streams.specs.Foretelling.{Failures, ForetellsCall, HasCome, WillFail}
 
 pub come_none : (f : Option Failures) → HasCome 0 0 f f

@@ -1,9 +1,7 @@
 -- Calls one after another, and what they tell.
 use Rattle.std.proofs.Common.{◌≡◌, ◌≢◌, ℕ, ◌+◌, ◌<◌, Bool, true, false, ◌&&◌, List, length, Option, Some, None, Ok, Err, inl, inr, ⊎_elim, ◌⊎◌, refl, ap}
 use Rattle.std.proofs.Common.{◌∙◌, arith}
-use Rattle.std.specs.IoError.{error_kind}
-use Rattle.std.specs.declared.io.Error.{Error}
-use Rattle.std.specs.declared.io.ErrorKind.TheVariants.{Interrupted}
+use Rattle.std.specs.{IoError.error_kind, declared.io.{Error.Error, ErrorKind.TheVariants.Interrupted}}
 use Rattle.tn_streams.specs.Telling.{Calls, TellsCall, CountsRead, CountsWrite, HasMade, HasFailed, AccountsFor, SomeFailed}
 
 pub made_none : (told : Option Calls) → HasMade 0 told told

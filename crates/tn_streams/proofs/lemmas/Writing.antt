@@ -3,9 +3,7 @@ use Rattle.std.proofs.Common.{◌≡◌, ℕ, ◌≤◌, ◌<◌, ◌==◌, nat_
 use Rattle.std.proofs.Common.{append_assoc, append-nil, take-append-drop, arith, length, take, drop}
 use Rattle.std.specs.Io.KnownBytes.{Appends, Keeps, WriteAppends}
 use Rattle.tn_streams.proofs.lemmas.Telling.{accounts_both}
-use Rattle.tn_streams.specs.Sending.{Sending, written_on, StaysOpen}
-use Rattle.tn_streams.specs.Telling.{Calls}
-use Rattle.tn_streams.specs.Writing.{Writes, Tells, max_writes}
+use Rattle.tn_streams.specs.{Sending.{Sending, written_on, StaysOpen}, Telling.Calls, Writing.{Writes, Tells, max_writes}}
 
 pub appends_more : (a b c : Option (List ℕ)) (xs ys : List ℕ) → Appends a b xs → Appends b c ys → Appends a c (xs ++ ys)
 appends_more None b c xs ys one two = tt

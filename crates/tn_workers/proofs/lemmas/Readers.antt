@@ -1,25 +1,14 @@
 -- A sender's list, message by message, and that of a thread that reads.
 use Rattle.std.proofs.Common.{◌≡◌, ◌≢◌, ℕ, Bool, true, false, List, [], ◌∷◌, ◌++◌, Option, Some, None, option_to_list, append-nil, refl, sym, ap, ◌∙◌, ⊎_elim}
-use Rattle.std.proofs.Common.{◌⊎◌, inl, inr, append_assoc, length, map, subst, All}
-use Rattle.std.proofs.lemmas.List.{map-append}
-use Rattle.std.proofs.lemmas.List.Elements.{All-push}
-use Rattle.std.specs.Io.KnownBytes.{Consumes}
-use Rattle.std.specs.List.{concat}
-use Rattle.tn_jobs.specs.declared.held_jobs.JobId.{JobId}
-use Rattle.tn_jobs.specs.declared.verdicts.After.TheVariants.{Stay}
-use Rattle.tn_workers.specs.Mailbox.{mail, sender}
-use Rattle.tn_workers.specs.Reader.{Closes, TypingSends, SaysAll, SaysEnd, SaysLast, SaysThese, one_size, one_control, said_by, sends}
+use Rattle.std.proofs.{Common.{◌⊎◌, inl, inr, append_assoc, length, map, subst, All}, lemmas.List.{map-append, Elements.All-push}}
+use Rattle.std.specs.{Io.KnownBytes.Consumes, List.concat}
+use Rattle.tn_jobs.specs.declared.{held_jobs.JobId.JobId, verdicts.After.TheVariants.Stay}
+use Rattle.tn_workers.specs.{Mailbox.{mail, sender}, Reader.{Closes, TypingSends, SaysAll, SaysEnd, SaysLast, SaysThese, one_size, one_control, said_by, sends}}
 use Rattle.tn_workers.specs.Reading.{IsEnding, IsPiece, IsReadCause, Telling, piece_told, size_told, control_told, message_of, told_messages, pieces_in}
-use Rattle.tn_workers.specs.Reading.{sizes_in, controls_in}
-use Rattle.tn_streams.specs.Known.{KnownReader, KnownTyping}
-use Rattle.tn_workers.specs.declared.channels.View.{View}
-use Rattle.tn_workers.specs.declared.mail.Mail.{Mail}
-use Rattle.tn_workers.specs.declared.mail.Sender.{Sender}
-use Rattle.tn_machines.specs.declared.messages.Message.{Message}
-use Rattle.tn_machines.specs.declared.messages.Message.TheVariants.{Piece, HangUp, ReadFailed, Take, Said, Refused, Left, Resized, Asked}
-use Rattle.tn_streams.specs.Beside.{TellsNext, TellsList, TellsFirst}
-use Rattle.tn_streams.specs.declared.control.Control.{Control}
+use Rattle.tn_workers.specs.{Reading.{sizes_in, controls_in}, declared.{channels.View.View, mail.{Mail.Mail, Sender.Sender}}}
+use Rattle.tn_streams.specs.{Known.{KnownReader, KnownTyping}, Beside.{TellsNext, TellsList, TellsFirst}, declared.control.Control.Control}
 use Rattle.tn_streams.specs.declared.window.WindowSize.{WindowSize}
+use Rattle.tn_machines.specs.declared.messages.Message.{Message, TheVariants.{Piece, HangUp, ReadFailed, Take, Said, Refused, Left, Resized, Asked}}
 
 -- what one call of `say` tells
 abbrev pub Says : Sender → Message → View → View → Type 0

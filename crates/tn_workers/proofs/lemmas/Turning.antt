@@ -1,24 +1,14 @@
 -- One more step of a background job.
 use Rattle.std.proofs.Common.{◌≡◌, ℕ, ◌==◌, Bool, true, false, not, List, [], ◌∷◌, ◌++◌, ◌⊎◌, ⊎_elim, inl, inr, map, drop, length, length-drop, arith, ◌<◌}
-use Rattle.std.proofs.Common.{None, append_assoc, refl, sym, ap, ◌∙◌, subst, if◌then◌else◌, eq-eqb, eqb-true}
-use Rattle.std.proofs.lemmas.Fn.{FoldsTo-push}
-use Rattle.std.proofs.lemmas.List.{map-append}
+use Rattle.std.proofs.{Common.{None, append_assoc, refl, sym, ap, ◌∙◌, subst, if◌then◌else◌, eq-eqb, eqb-true}, lemmas.{Fn.FoldsTo-push, List.map-append}}
 use Rattle.std.specs.List.{FoldsTo}
-use Rattle.tn_jobs.specs.Judging.{judged}
-use Rattle.tn_jobs.specs.declared.held_jobs.JobId.{JobId}
+use Rattle.tn_jobs.specs.{Judging.judged, declared.{held_jobs.JobId.JobId, reactions.Reaction.Reaction}}
 use Rattle.tn_jobs.specs.declared.verdicts.JobState.TheVariants as job
-use Rattle.tn_workers.specs.declared.back.Runner.{Runner}
-use Rattle.tn_jobs.specs.declared.reactions.Reaction.{Reaction}
-use Rattle.tn_workers.specs.Acts.{JobActs}
+use Rattle.tn_workers.specs.{declared.{back.Runner.Runner, channels.View.View}, Acts.JobActs, Stepping.{leaves_in_background, stays}, Mailbox.{sender, mail}}
 use Rattle.tn_workers.specs.Stepping.{IsIn, AreBy, Steps, AreSteps, LeavesFor, LeavesLast, StepInTurn, TakesItsTurn, reactions_of, step_said, turned}
-use Rattle.tn_workers.specs.Stepping.{leaves_in_background, stays}
-use Rattle.tn_workers.specs.Mailbox.{sender, mail}
-use Rattle.tn_workers.specs.declared.channels.View.{View}
 use Rattle.tn_workers.specs.declared.mail.Sender.TheVariants.{Back}
-use Rattle.tn_machines.specs.server.Run.{has_text}
-use Rattle.tn_machines.specs.declared.messages.Message.{Message}
-use Rattle.tn_machines.specs.declared.messages.Message.TheVariants.{Refused, Left}
 use Rattle.tn_workers.specs.Turning.{ids_of, AreApart, EachBegan, Holds, Chain, EachRuns, AllStay, EachStays, Running, standing, AdvancesQueue}
+use Rattle.tn_machines.specs.{server.Run.has_text, declared.messages.Message.{Message, TheVariants.{Refused, Left}}}
 
 abbrev Said : Type 0
 Said = JobId × Reaction

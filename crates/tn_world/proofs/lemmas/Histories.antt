@@ -1,48 +1,32 @@
 -- The relation of two histories, with no end and no flight of bytes: it holds of the opening where the special
 -- characters are the standard ones, and each event keeps it.
 use Rattle.std.proofs.Common.{◌≡◌, ℕ, false, List, [], ◌∷◌, ◌++◌, refl, sym, ap, ◌∙◌, subst, append_assoc, append-nil}
-use Rattle.std.specs.Prelude.{Option, Some, None, option_to_list}
 use Rattle.std.proofs.lemmas.List.{append_cancel_left, take-append-drop}
+use Rattle.std.specs.Prelude.{Option, Some, None, option_to_list}
 use Rattle.tn_client.specs.Events as client
 use Rattle.tn_client.specs.Replies as client_says
-use Rattle.tn_client.specs.Replies.{command_sent}
-use Rattle.tn_client.specs.declared.commands.UserCommand.{UserCommand}
+use Rattle.tn_client.specs.{Replies.command_sent, declared.commands.UserCommand.UserCommand, Steps.{end_after, says}}
 use Rattle.tn_client.specs.declared.commands.UserCommand.TheVariants as user
 use Rattle.tn_codes.specs.declared.codes.Command.TheVariants as command
-use Rattle.tn_discipline.specs.Canon.{Canon, typed_entries}
-use Rattle.tn_discipline.specs.Characters.{standard_characters}
-use Rattle.tn_discipline.specs.declared.termios.Settings.{Settings}
-use Rattle.tn_discipline.specs.declared.reads.Entry.{Entry}
+use Rattle.tn_discipline.specs.{Canon.{Canon, typed_entries}, Characters.standard_characters, declared.{termios.Settings.Settings, reads.Entry.Entry}}
 use Rattle.tn_discipline.specs.HalfLine.{HalfLine}
 use Rattle.tn_linemode.specs.Modes.{Modes, edits}
-use Rattle.tn_nvt.specs.Spelling.{lf}
-use Rattle.tn_nvt.specs.declared.items.Item.{Item}
-use Rattle.tn_nvt.specs.declared.items.Item.TheVariants.{Cmd}
+use Rattle.tn_nvt.specs.{Spelling.lf, declared.items.Item.{Item, TheVariants.Cmd}, Feeding.failed}
 use Rattle.tn_server.specs.Events as server
-use Rattle.tn_server.specs.Calls.{End as ServerEnd, LeadsTo}
-use Rattle.tn_server.specs.Lines.{entries, taken_count}
+use Rattle.tn_server.specs.{Calls.{End as ServerEnd, LeadsTo}, Lines.{entries, taken_count}, Steps.{end_after as server_after, says as server_said}}
+use Rattle.tn_server.specs.{Terms.Terms, declared.wishes.Editing.Editing}
 use Rattle.tn_server.specs.Replies as server_says
-use Rattle.tn_server.specs.Steps.{end_after as server_after, says as server_said}
 use Rattle.tn_server.specs.Terms as server_terms
-use Rattle.tn_server.specs.Terms.{Terms}
 use Rattle.tn_server.proofs.lemmas.Ends.{end_at as server_at, stands_there as server_there, taken_at, taken_got, taken_took, line_is, waits_are}
 use Rattle.tn_server.proofs.lemmas.Leading as server_leads
-use Rattle.tn_server.specs.declared.wishes.Editing.{Editing}
-use Rattle.tn_client.specs.Steps.{end_after, says}
-use Rattle.tn_client.proofs.lemmas.Standings.{says_as}
-use Rattle.tn_client.proofs.lemmas.Lines.{end_at, end_next, stands_there}
-use Rattle.tn_nvt.specs.Feeding.{failed}
-use Rattle.tn_world.proofs.Tied.{key-tied, line-tied, interrupt-tied, aside-tied, resize-tied, return-tied, client-as, reach-tied, call-tied, take-tied, server-as, tied-begins, tied-complete}
-use Rattle.tn_world.proofs.ClientSteps as client_steps
-use Rattle.tn_world.proofs.Interrupting.{interrupts_there}
-use Rattle.tn_world.proofs.Opening.{begun_tied}
-use Rattle.tn_world.proofs.ServerSteps as server_steps
-use Rattle.tn_world.proofs.ServerSteps.{IsCall}
-use Rattle.tn_streams.specs.Prefixes.{IsPrefixOf}
-use Rattle.tn_world.specs.Commands.{IsTypeable, key_for, interrupt_key}
+use Rattle.tn_client.proofs.lemmas.{Standings.says_as, Lines.{end_at, end_next, stands_there}}
+use Rattle.tn_world.proofs.Tied.{key-tied, line-tied, interrupt-tied, aside-tied, resize-tied, return-tied, client-as, reach-tied, call-tied, take-tied}
+use Rattle.tn_world.proofs.{Tied.{server-as, tied-begins, tied-complete}, Interrupting.interrupts_there, Opening.begun_tied, ServerSteps.IsCall}
 use Rattle.tn_world.proofs.Machine.{SaysItems}
-use Rattle.tn_world.specs.relation.Pictures.{server_core, ServerStays}
-use Rattle.tn_world.specs.relation.Relation.{IsTied}
+use Rattle.tn_world.proofs.ClientSteps as client_steps
+use Rattle.tn_world.proofs.ServerSteps as server_steps
+use Rattle.tn_streams.specs.Prefixes.{IsPrefixOf}
+use Rattle.tn_world.specs.{Commands.{IsTypeable, key_for, interrupt_key}, relation.{Pictures.{server_core, ServerStays}, Relation.IsTied}}
 
 -- TWO ENDS that one history leads to
 same_core : (h : server.History) (a b : ServerEnd) → LeadsTo h a → LeadsTo h b → server_core a ≡ server_core b

@@ -1,19 +1,14 @@
 -- What is in flight after a mark, and from the opening on: nothing that turns LINEMODE off or changes a
 -- special character, and nothing that turns it on but where the special characters are the standard ones.
 use Rattle.std.specs.Prelude.{◌≡◌, ◌⊎◌, ℕ, ◌==◌, Bool, true, IsTrue, false, IsFalse, Option, Some}
-use Rattle.tn_codes.specs.declared.codes.Verb.{Verb}
-use Rattle.tn_codes.specs.declared.codes.Verb.TheVariants.{Will, DoIt}
-use Rattle.tn_codes.specs.OptionCodes as option_code
-use Rattle.tn_codes.specs.PayloadOf.{payload_of}
+use Rattle.tn_codes.specs.{declared.codes.Verb.{Verb, TheVariants.{Will, DoIt}}, PayloadOf.payload_of}
 use Rattle.tn_codes.specs.declared.payloads.Payload.{Payload}
+use Rattle.tn_codes.specs.OptionCodes as option_code
 use Rattle.tn_codes.specs.declared.payloads.Payload.TheVariants as payload
-use Rattle.tn_discipline.specs.Characters.{standard_characters}
-use Rattle.tn_discipline.specs.declared.termios.Settings.{Settings}
-use Rattle.tn_linemode.specs.Exchange.{announcement}
-use Rattle.tn_linemode.specs.Modes.{edits, is_acknowledged, traps}
+use Rattle.tn_discipline.specs.{Characters.standard_characters, declared.termios.Settings.Settings}
+use Rattle.tn_linemode.specs.{Exchange.announcement, Modes.{edits, is_acknowledged, traps}}
 use Rattle.tn_server.specs.Terms.{allows_local}
-use Rattle.tn_nvt.specs.declared.items.Item.{Item}
-use Rattle.tn_nvt.specs.declared.items.Item.TheVariants.{Neg, Sub}
+use Rattle.tn_nvt.specs.declared.items.Item.{Item, TheVariants.{Neg, Sub}}
 
 -- RFC 1184, section 2.2: the two bits of a mask that both ends keep
 pub record Mode : Type 0 where

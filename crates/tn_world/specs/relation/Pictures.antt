@@ -1,16 +1,12 @@
 -- The server as the relation between both ends sees it, and what stays as it was at a mark.
 use Rattle.std.specs.Prelude.{◌≡◌, ◌⊎◌, ℕ, Bool, IsTrue, Some, List}
-use Rattle.tn_discipline.specs.declared.reads.Entry.{Entry}
-use Rattle.tn_codes.specs.OptionCodes as option_code
-use Rattle.tn_discipline.specs.Canon.{Canon}
-use Rattle.tn_discipline.specs.declared.termios.Flags.{Flags}
+use Rattle.tn_discipline.specs.{declared.{reads.Entry.Entry, termios.Flags.Flags}, Canon.Canon}
 use Rattle.tn_discipline.specs.declared.termios.Settings.{Settings}
+use Rattle.tn_codes.specs.OptionCodes as option_code
 use Rattle.tn_linemode.specs.Modes.{edits}
-use Rattle.tn_option.specs.Options.{agrees_to, state_of}
-use Rattle.tn_option.specs.declared.q_method.QState.{QState}
+use Rattle.tn_option.specs.{Options.{agrees_to, state_of}, declared.q_method.Side.TheVariants.{Us, Them}}
+use Rattle.tn_option.specs.declared.q_method.QState.{QState, TheVariants.{WantYesEmpty, WantYesOpposite}}
 use Rattle.tn_option.specs.declared.q_method.QState.TheVariants.{No, Yes, WantNoEmpty, WantNoOpposite}
-use Rattle.tn_option.specs.declared.q_method.QState.TheVariants.{WantYesEmpty, WantYesOpposite}
-use Rattle.tn_option.specs.declared.q_method.Side.TheVariants.{Us, Them}
 use Rattle.tn_server.specs.Calls as server
 use Rattle.tn_server.specs.Terms as server_terms
 use Rattle.tn_server.specs.declared.wishes.Editing.TheVariants.{Local}

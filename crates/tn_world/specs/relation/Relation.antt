@@ -1,28 +1,18 @@
 -- The relation between both ends that every quiet event keeps, while no end has failed.
-use Rattle.std.specs.Prelude.{◌≡◌, ℕ, Bool, IsTrue, IsFalse, All, List, [], ◌∷◌, ◌++◌, length}
-use Rattle.std.specs.Prelude.{if◌then◌else◌}
-use Rattle.tn_discipline.specs.Characters.{Characters}
-use Rattle.tn_discipline.specs.Canon.{Canon, typed_entries, typed_half}
-use Rattle.tn_discipline.specs.Keys.{literal_role}
+use Rattle.std.specs.Prelude.{◌≡◌, ℕ, Bool, IsTrue, IsFalse, All, List, [], ◌∷◌, ◌++◌, length, if◌then◌else◌}
+use Rattle.tn_discipline.specs.{Characters.Characters, Canon.{Canon, typed_entries, typed_half}}
+use Rattle.tn_discipline.specs.{Keys.literal_role, declared.reads.Entry.Entry}
 use Rattle.tn_discipline.specs.declared.keys.Role.TheVariants as role
-use Rattle.tn_discipline.specs.declared.reads.Entry.{Entry}
-use Rattle.tn_nvt.specs.declared.items.Item.{Item}
-use Rattle.tn_server.specs.Terms.{allows_local}
+use Rattle.tn_nvt.specs.{declared.items.Item.Item, Spelling.Fits}
+use Rattle.tn_server.specs.{Terms.allows_local, Steps.end_after_items}
 use Rattle.tn_client.specs.Calls as client
 use Rattle.tn_server.specs.Calls as server
 use Rattle.tn_client.specs.Terms.{linemode}
 use Rattle.tn_linemode.specs.Modes.{edits}
-use Rattle.tn_world.specs.Headline.{local_entries}
+use Rattle.tn_world.specs.{Headline.local_entries, Past.HasPast, Flight.InFlight, Worlds.World}
+use Rattle.tn_world.specs.relation.Calm.{IsCalmToServer, IsCalmToClient, bits, IsAskable}
+use Rattle.tn_world.specs.relation.Pictures.{Server, server_core, ServerStays, ClientStays}
 use Rattle.tn_streams.specs.Prefixes.{IsPrefixOf}
-use Rattle.tn_world.specs.Past.{HasPast}
-use Rattle.tn_world.specs.relation.Calm.{IsCalmToServer, IsCalmToClient}
-use Rattle.tn_world.specs.Flight.{InFlight}
-use Rattle.tn_world.specs.relation.Calm.{bits, IsAskable}
-use Rattle.tn_world.specs.relation.Pictures.{Server}
-use Rattle.tn_nvt.specs.Spelling.{Fits}
-use Rattle.tn_server.specs.Steps.{end_after_items}
-use Rattle.tn_world.specs.relation.Pictures.{server_core, ServerStays, ClientStays}
-use Rattle.tn_world.specs.Worlds.{World}
 
 -- a server with these
 abbrev pub server_at : Bool → Bool → List ℕ → List Entry → Server

@@ -1,9 +1,7 @@
 use Rattle.std.proofs.Common.{refl, [], ◌∷◌}
 use Rattle.tn_codes.specs.declared.codes.Verb.TheVariants.{DoIt}
-use Rattle.tn_nvt.specs.Spelling.{doubled_bytes}
-use Rattle.tn_nvt.specs.declared.items.Item.TheVariants.{Neg}
-use Rattle.tn_option.specs.Options.{new_options, options_after_word, reply_to, state_of}
-use Rattle.tn_option.specs.QMethod.{cell}
+use Rattle.tn_nvt.specs.{Spelling.doubled_bytes, declared.items.Item.TheVariants.Neg}
+use Rattle.tn_option.specs.{Options.{new_options, options_after_word, reply_to, state_of}, QMethod.cell}
 use Rattle.tn_client.specs.Events.{begun, next, got}
 use Rattle.tn_client.proofs.laws.bounds_are_met.Goals as goal
 

@@ -1,10 +1,8 @@
 use Rattle.std.proofs.Common.{◌≤◌, ℕ, Bool, true, false, length, if◌then◌else◌, arith}
 use Rattle.tn_discipline.proofs.lemmas.Histories.{half_of-fits}
-use Rattle.tn_discipline.specs.Entries.{half_of}
-use Rattle.tn_discipline.specs.Limits.{max_counted}
+use Rattle.tn_discipline.specs.{Entries.half_of, Limits.max_counted}
 use Rattle.tn_linemode.specs.Modes.{edits}
-use Rattle.tn_client.specs.Lines.{line_limit, edited_roles, roles_under}
-use Rattle.tn_client.specs.Terms.{mode}
+use Rattle.tn_client.specs.{Lines.{line_limit, edited_roles, roles_under}, Terms.mode}
 use Rattle.tn_client.proofs.laws.half_lines_fit.Goals as goal
 
 pub returns-clause-here : goal.returns-clause-here

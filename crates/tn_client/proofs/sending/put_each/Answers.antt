@@ -1,6 +1,4 @@
-use Rattle.std.proofs.Common.{arith}
-use Rattle.std.proofs.lemmas.Grind.{common_steps}
-use Rattle.std.proofs.lemmas.Result.{err_from_is_err_and}
+use Rattle.std.proofs.{Common.arith, lemmas.{Grind.common_steps, Result.err_from_is_err_and}}
 use Rattle.tn_client.proofs.Growing.{no_longer, lacks_whole}
 use Rattle.tn_client.proofs.sending.put_each.Goals as goal
 

@@ -1,7 +1,6 @@
 use Rattle.std.proofs.Common.{◌≡◌, ◌≤◌, ◌++◌, take, vec_capacity}
 use Rattle.std.specs.List.{flat_map}
-use Rattle.tn_nvt.specs.Spelling.{spelling}
-use Rattle.tn_nvt.specs.declared.items.Item.TheVariants.{Byte}
+use Rattle.tn_nvt.specs.{Spelling.spelling, declared.items.Item.TheVariants.Byte}
 use Rattle.tn_client.proofs.sending.put_each.Given as goal
 
 abbrev pub invariant-loop-byte : goal.invariant-loop-byte

@@ -1,9 +1,7 @@
-use Rattle.std.proofs.Common.{◌≡◌, ◌<◌, length, take, sym, arith, ◌∙◌}
-use Rattle.std.proofs.lemmas.List.{take_all}
+use Rattle.std.proofs.{Common.{◌≡◌, ◌<◌, length, take, sym, arith, ◌∙◌}, lemmas.List.take_all}
 use Rattle.tn_codes.specs.Masks.{trimmed_octets}
-use Rattle.tn_codes.proofs.Trimming.{trimmed_none, trimmed_more, trimmed_more_zero}
+use Rattle.tn_codes.proofs.{Trimming.{trimmed_none, trimmed_more, trimmed_more_zero}, writing.trimmed_len.Goals.{then-octet-ne0, else-octet-ne0}}
 use Rattle.tn_codes.proofs.writing.trimmed_len.Goals as goal
-use Rattle.tn_codes.proofs.writing.trimmed_len.Goals.{then-octet-ne0, else-octet-ne0}
 
 pub loop-i-init : goal.loop-i-init
 loop-i-init c = record { in_range = omega arith; so_far = trimmed_none }

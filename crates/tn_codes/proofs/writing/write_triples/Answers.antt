@@ -1,5 +1,4 @@
-use Rattle.std.proofs.Common.{arith}
-use Rattle.std.proofs.lemmas.Result.{err_from_is_err_and}
+use Rattle.std.proofs.{Common.arith, lemmas.Result.err_from_is_err_and}
 use Rattle.tn_codes.proofs.Grammar.{length-octets}
 use Rattle.tn_codes.proofs.writing.write_triples.Goals as goal
 

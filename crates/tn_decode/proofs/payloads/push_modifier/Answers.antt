@@ -1,5 +1,4 @@
-use Rattle.std.proofs.Common.{◌++◌, List, ℕ, ap, ◌∙◌}
-use Rattle.std.proofs.lemmas.Result.{on_ok_weaker}
+use Rattle.std.proofs.{Common.{◌++◌, List, ℕ, ap, ◌∙◌}, lemmas.Result.on_ok_weaker}
 use Rattle.tn_decode.proofs.lemmas.Appending.{behind}
 use Rattle.tn_decode.proofs.payloads.push_modifier.Goals as goal
 

@@ -1,6 +1,4 @@
-use Rattle.std.proofs.Common.{◌++◌, List, ℕ, sym, ap, ◌∙◌, append-nil}
-use Rattle.std.proofs.lemmas.Bool.{eqb-true, eqb-false}
-use Rattle.std.proofs.lemmas.Result.{on_ok_weaker}
+use Rattle.std.proofs.{Common.{◌++◌, List, ℕ, sym, ap, ◌∙◌, append-nil}, lemmas.{Bool.{eqb-true, eqb-false}, Result.on_ok_weaker}}
 use Rattle.tn_decode.proofs.lemmas.Taking.{decoded_empty, held_line}
 use Rattle.tn_decode.specs.Printing.{prefix_text}
 use Rattle.tn_decode.proofs.printer.push_held.Goals as goal

@@ -1,8 +1,5 @@
-use Rattle.std.proofs.Common.{sym, ap, ◌∙◌, ◌+◌, get_or, take}
-use Rattle.std.proofs.lemmas.List.{take_more}
-use Rattle.std.proofs.lemmas.List.Elements.{All-push}
-use Rattle.tn_discipline.specs.Keys.{gives_entry}
-use Rattle.tn_discipline.specs.Editing.{IsQuiet, line_at}
+use Rattle.std.proofs.{Common.{sym, ap, ◌∙◌, ◌+◌, get_or, take}, lemmas.List.{take_more, Elements.All-push}}
+use Rattle.tn_discipline.specs.{Keys.gives_entry, Editing.{IsQuiet, line_at}}
 use Rattle.tn_discipline.proofs.lemmas.Editing.{edited_more}
 use Rattle.tn_discipline.proofs.editing.edit_front.Goals as goal
 

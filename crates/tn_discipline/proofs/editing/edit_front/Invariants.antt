@@ -1,6 +1,5 @@
 use Rattle.std.proofs.Common.{◌≡◌, ◌+◌, ◌<◌, ◌≤◌, All, take, vec_len, vec_capacity}
-use Rattle.tn_discipline.specs.Editing.{IsQuiet, line_at}
-use Rattle.tn_discipline.specs.Runs.{line_after_all, each_role}
+use Rattle.tn_discipline.specs.{Editing.{IsQuiet, line_at}, Runs.{line_after_all, each_role}}
 use Rattle.tn_discipline.proofs.editing.edit_front.Given as goal
 
 -- the keys so far made no entry, and did to the parts what they do

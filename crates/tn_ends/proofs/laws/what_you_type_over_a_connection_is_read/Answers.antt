@@ -1,6 +1,5 @@
 use Rattle.tn_ends.proofs.Programs.{headline_of_programs}
-use Rattle.tn_session.specs.Facts.{job_facts}
-use Rattle.tn_session.specs.Makers.{begins}
+use Rattle.tn_session.specs.{Facts.job_facts, Makers.begins}
 use Rattle.tn_ends.proofs.laws.what_you_type_over_a_connection_is_read.Goals as goal
 
 pub returns : goal.returns

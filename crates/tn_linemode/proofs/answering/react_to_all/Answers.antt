@@ -1,5 +1,4 @@
-use Rattle.std.proofs.Common.{append-nil, refl, arith, ◌+◌}
-use Rattle.std.proofs.lemmas.Result.{err_from_is_err_and}
+use Rattle.std.proofs.{Common.{append-nil, refl, arith, ◌+◌}, lemmas.Result.err_from_is_err_and}
 use Rattle.tn_linemode.proofs.lemmas.Answering.{answers_along-nil, table-more, answers-more, length-more, length-front}
 use Rattle.tn_linemode.proofs.answering.react_to_all.Goals as goal
 

@@ -1,6 +1,5 @@
 use Rattle.std.proofs.Common.{◌<◌, ◌+◌, ◌*◌, ◌∷◌, ◌++◌, [], ℕ, List, length, slice_index_or, ap, ◌∙◌, arith}
-use Rattle.tn_codes.specs.Payloads.{slc}
-use Rattle.tn_codes.specs.declared.triples.Triple.{Triple}
+use Rattle.tn_codes.specs.{Payloads.slc, declared.triples.Triple.Triple}
 use Rattle.tn_linemode.proofs.Filling.{length-three, three_more, octets_more}
 use Rattle.tn_linemode.proofs.parameters.list_parameters.Goals as goal
 

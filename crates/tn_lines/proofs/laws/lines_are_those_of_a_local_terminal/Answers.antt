@@ -1,7 +1,5 @@
 use Rattle.std.proofs.Common.{List, [], ap}
-use Rattle.tn_discipline.specs.Entries.{entries_of}
-use Rattle.tn_discipline.specs.Keys.{roles_of}
-use Rattle.tn_discipline.specs.declared.keys.Role.{Role}
+use Rattle.tn_discipline.specs.{Entries.entries_of, Keys.roles_of, declared.keys.Role.Role}
 use Rattle.tn_lines.specs.Said.{due}
 use Rattle.tn_lines.proofs.Taking.{taken-plain}
 use Rattle.tn_lines.proofs.laws.lines_are_those_of_a_local_terminal.Goals as goal

@@ -1,5 +1,4 @@
-use Rattle.std.proofs.Common.{◌≡◌, ℕ, ◌==◌, Bool, true, false, List, [], ◌∷◌, ◌++◌, sym, ap, ◌∙◌, append_assoc, if◌then◌else◌}
-use Rattle.std.proofs.lemmas.Bool.{ne_eqb}
+use Rattle.std.proofs.{Common.{◌≡◌, ℕ, ◌==◌, Bool, true, false, List, [], ◌∷◌, ◌++◌, sym, ap, ◌∙◌, append_assoc, if◌then◌else◌}, lemmas.Bool.ne_eqb}
 use Rattle.tn_lines.specs.LineEnds.{end_bytes}
 use Rattle.tn_lines.proofs.Ends.{said_last}
 use Rattle.tn_lines.proofs.line_ends.say_line.Goals as goal

@@ -2,24 +2,15 @@
 use Rattle.std.proofs.Common.{◌≡◌, ℕ, Bool, true, false, Option, Some, None, List, [], ◌∷◌, ◌++◌, map, flat_map, refl, sym, ap, ◌∙◌, subst, append-nil, append_assoc}
 use Rattle.std.proofs.lemmas.Grind.{flat_map-append}
 use Rattle.tn_client.proofs.lemmas.Histories.{items-gets}
-use Rattle.tn_client.specs.Events.{History, next, typed, got, gets, items}
-use Rattle.tn_client.specs.declared.commands.UserCommand.{UserCommand}
-use Rattle.tn_machines.proofs.of_core.Typing.{items-types}
-use Rattle.tn_machines.specs.client.Bringing.{Input, key_typed, key_in, keys_in, input_by, inputs, inputs_from, inputs_brought, brought_from, brought, TakesInOrder}
-use Rattle.tn_machines.specs.client.Commands.{command_of, event_by}
-use Rattle.tn_machines.specs.client.Marks.{Turns, Runs}
-use Rattle.tn_machines.specs.client.Run.{Run, Acts, ActsUnless, Asks, Handles, TakesPiece, types, start}
-use Rattle.tn_machines.specs.declared.client.messages.ClientMark.{ClientMark}
-use Rattle.tn_machines.specs.declared.client.messages.ClientMark.TheVariants as mark
-use Rattle.tn_machines.specs.declared.client.messages.Origin.{Origin}
-use Rattle.tn_machines.specs.declared.client.messages.Origin.TheVariants.{Keys, Net}
-use Rattle.tn_machines.specs.declared.client.messages.Told.{Told}
-use Rattle.tn_machines.proofs.lemmas.Folding.{run_takes}
-use Rattle.tn_machines.proofs.lemmas.Pieces.{brings_none}
-use Rattle.tn_machines.specs.Pieces.{TakesFront}
-use Rattle.tn_nvt.proofs.lemmas.Reading.{reads_none}
-use Rattle.tn_machines.specs.declared.messages.Message.{Message}
+use Rattle.tn_client.specs.{Events.{History, next, typed, got, gets, items}, declared.commands.UserCommand.UserCommand}
+use Rattle.tn_machines.proofs.{of_core.Typing.items-types, lemmas.{Folding.run_takes, Pieces.brings_none}}
+use Rattle.tn_machines.specs.client.Bringing.{Input, key_typed, key_in, keys_in, input_by, inputs, inputs_from, inputs_brought, brought_from, brought}
+use Rattle.tn_machines.specs.{client.{Bringing.TakesInOrder, Commands.{command_of, event_by}, Marks.{Turns, Runs}}, declared.client.messages.Origin.Origin}
+use Rattle.tn_machines.specs.{client.Run.{Run, Acts, ActsUnless, Asks, Handles, TakesPiece, types, start}, declared.client.messages.ClientMark.ClientMark}
+use Rattle.tn_machines.specs.{declared.{client.messages.{Origin.TheVariants.{Keys, Net}, Told.Told}, messages.Message.Message}, Pieces.TakesFront}
 use Rattle.tn_machines.specs.declared.messages.Message.TheVariants.{Piece, HangUp, ReadFailed, Take, Said, Refused, Left, Resized, Asked}
+use Rattle.tn_machines.specs.declared.client.messages.ClientMark.TheVariants as mark
+use Rattle.tn_nvt.proofs.lemmas.Reading.{reads_none}
 use Rattle.tn_nvt.specs.declared.items.Item.{Item}
 use Rattle.tn_streams.specs.declared.control.Control.{Control}
 use Rattle.tn_linemode.specs.Prefixes.{IsRead}

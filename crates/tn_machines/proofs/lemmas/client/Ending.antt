@@ -1,21 +1,13 @@
 -- A run ends by a fault only where its cause was there.
 use Rattle.std.proofs.Common.{◌≡◌, inl, inr, ℕ, Bool, true, false, List, refl, ap}
-use Rattle.tn_machines.specs.client.Ending.{EndsAt, IsEndedAt}
-use Rattle.tn_machines.specs.client.Marks.{Turns, Runs}
-use Rattle.tn_machines.specs.client.Run.{Run, Acts, ActsUnless, start}
-use Rattle.tn_machines.specs.declared.client.messages.ClientMark.{ClientMark}
-use Rattle.tn_machines.specs.declared.client.messages.ClientMark.TheVariants as mark
-use Rattle.tn_machines.specs.declared.client.messages.Origin.{Origin}
-use Rattle.tn_machines.specs.declared.client.messages.Origin.TheVariants.{Keys, Net}
-use Rattle.tn_machines.specs.declared.client.messages.Told.{Told}
-use Rattle.tn_machines.proofs.lemmas.Ending.{Moves, moves_first, fault_came}
-use Rattle.tn_machines.specs.Counting.{first_end}
-use Rattle.tn_machines.specs.declared.faults.Ended.{Ended}
-use Rattle.tn_machines.specs.declared.faults.Ended.TheVariants as ended
-use Rattle.tn_machines.specs.declared.faults.SessionFault.{SessionFault}
-use Rattle.tn_machines.specs.declared.faults.SessionFault.TheVariants as fault
-use Rattle.tn_machines.specs.declared.messages.Message.{Message}
+use Rattle.tn_machines.specs.{client.{Ending.{EndsAt, IsEndedAt}, Marks.{Turns, Runs}, Run.{Run, Acts, ActsUnless, start}}, declared.client.messages.Told.Told}
+use Rattle.tn_machines.specs.{declared.client.messages.{ClientMark.ClientMark, Origin.{Origin, TheVariants.{Keys, Net}}}, Counting.first_end}
+use Rattle.tn_machines.specs.declared.{faults.{Ended.Ended, SessionFault.SessionFault}, messages.Message.Message}
 use Rattle.tn_machines.specs.declared.messages.Message.TheVariants.{Piece, HangUp, ReadFailed, Take, Said, Refused, Left, Resized, Asked}
+use Rattle.tn_machines.specs.declared.client.messages.ClientMark.TheVariants as mark
+use Rattle.tn_machines.proofs.lemmas.Ending.{Moves, moves_first, fault_came}
+use Rattle.tn_machines.specs.declared.faults.Ended.TheVariants as ended
+use Rattle.tn_machines.specs.declared.faults.SessionFault.TheVariants as fault
 
 abbrev ended_of : Run → Ended
 ended_of c = c.progress.ended

@@ -1,38 +1,23 @@
 -- Entries are put in order, each once.
 use Rattle.std.proofs.Common.{◌≡◌, ℕ, ◌+◌, ◌<◌, Bool, true, false, ◌&&◌, Option, Some, None, List, [], ◌∷◌, ◌++◌, length, drop, refl, sym, ap, ◌∙◌, subst}
-use Rattle.std.proofs.Common.{arith, append-nil, append_assoc, length-append, length-drop, drop-drop, if◌then◌else◌}
-use Rattle.std.proofs.lemmas.Bool.{lt-ltb, le-ltb}
+use Rattle.std.proofs.{Common.{arith, append-nil, append_assoc, length-append, length-drop, drop-drop, if◌then◌else◌}, lemmas.Bool.{lt-ltb, le-ltb}}
 use Rattle.std.proofs.lemmas.List.{drop-append-le}
 use Rattle.tn_machines.proofs.lemmas.Folding.{run_keeps}
 use Rattle.tn_discipline.proofs.lemmas.Histories.{entries-all}
-use Rattle.tn_discipline.specs.Entries.{half_of}
-use Rattle.tn_discipline.specs.Steps.{gain_all}
-use Rattle.tn_discipline.specs.Keys.{roles_from}
-use Rattle.tn_discipline.specs.declared.reads.Entry.{Entry}
-use Rattle.tn_jobs.specs.declared.verdicts.JobState.{JobState}
+use Rattle.tn_discipline.specs.{Entries.half_of, Steps.gain_all, Keys.roles_from, declared.reads.Entry.Entry, Canon.Canon}
+use Rattle.tn_jobs.specs.{declared.verdicts.{JobState.JobState, Verdict.Verdict}, Jobs.Jobs}
 use Rattle.tn_jobs.specs.declared.verdicts.JobState.TheVariants as job
-use Rattle.tn_jobs.specs.declared.verdicts.Verdict.{Verdict}
 use Rattle.tn_linemode.specs.Modes.{edits}
 use Rattle.tn_nvt.specs.declared.items.Item.{Item}
-use Rattle.tn_server.specs.Events.{History, next, got, took, wrote, gets}
-use Rattle.tn_server.specs.Lines.{entries, taken_count, waiting, roles, role_at}
-use Rattle.tn_server.specs.Terms.{settings, mode}
-use Rattle.tn_machines.specs.server.Giving.{entries_put, Gives, GivesPrefix}
+use Rattle.tn_server.specs.{Events.{History, next, got, took, wrote, gets, limit}, Lines.{entries, taken_count, waiting, roles, role_at}, Course.in_parts}
+use Rattle.tn_server.specs.{Terms.{settings, mode}, declared.wishes.Editing.Editing}
+use Rattle.tn_machines.specs.server.{Giving.{entries_put, Gives, GivesPrefix}, Marks.{Turns, Runs, unput, put_or_not, run_after_opening}}
 use Rattle.tn_machines.specs.server.Run.{Run, flushed_history, flush, feed, ask, ask_if, answer, end_if, show, move, stop_job, end_job, in_foreground}
 use Rattle.tn_machines.specs.server.Run.{after_said, halt_if, is_end, hang_up, ends_by, Acts, ActsUnless, idle, idle_puts, fail, opening, start}
-use Rattle.tn_server.specs.Course.{in_parts}
-use Rattle.tn_server.specs.Events.{limit}
-use Rattle.tn_discipline.specs.Canon.{Canon}
-use Rattle.tn_machines.specs.server.Marks.{Turns, Runs, unput, put_or_not, run_after_opening}
-use Rattle.tn_machines.specs.declared.server.messages.ServerMark.{ServerMark}
+use Rattle.tn_machines.specs.declared.{server.messages.ServerMark.ServerMark, faults.{SessionFault.SessionFault, Ended.TheVariants.Fault}}
+use Rattle.tn_machines.specs.declared.messages.Message.{Message, TheVariants.{Piece, HangUp, ReadFailed, Take, Said, Refused}}
 use Rattle.tn_machines.specs.declared.server.messages.ServerMark.TheVariants as mark
-use Rattle.tn_server.specs.declared.wishes.Editing.{Editing}
-use Rattle.tn_machines.specs.declared.faults.SessionFault.{SessionFault}
-use Rattle.tn_machines.specs.declared.faults.Ended.TheVariants.{Fault}
 use Rattle.tn_machines.specs.declared.faults.SessionFault.TheVariants as fault
-use Rattle.tn_machines.specs.declared.messages.Message.{Message}
-use Rattle.tn_machines.specs.declared.messages.Message.TheVariants.{Piece, HangUp, ReadFailed, Take, Said, Refused}
-use Rattle.tn_jobs.specs.Jobs.{Jobs}
 
 pub entries_put-append : (ps qs : List (Option Entry)) → entries_put (ps ++ qs) ≡ entries_put ps ++ entries_put qs
 entries_put-append [] qs = refl

@@ -1,41 +1,25 @@
 -- What was heard of the pieces, and the entries that it gives.
 use Rattle.std.proofs.Common.{◌≡◌, ℕ, Bool, true, false, ◌&&◌, Option, Some, None, List, [], ◌∷◌, ◌++◌, map, refl, sym, ap, ◌∙◌, subst, append-nil}
 use Rattle.std.proofs.Common.{append_assoc}
-use Rattle.tn_machines.proofs.lemmas.Folding.{run_takes}
+use Rattle.tn_machines.proofs.{lemmas.{Folding.run_takes, server.Giving.acts_of}, of_terminal.Alike.items_parts}
+use Rattle.tn_machines.proofs.of_terminal.Alike.{OfItems, SameLines, lines_self, lines_took, lines_flushed, lines_parts, same_entries, of_items_gets}
 use Rattle.tn_discipline.proofs.lemmas.Histories.{entries-all}
-use Rattle.tn_discipline.specs.Canon.{Canon}
-use Rattle.tn_discipline.specs.Entries.{half_of}
-use Rattle.tn_discipline.specs.Keys.{roles_from}
-use Rattle.tn_discipline.specs.Steps.{gain_all}
-use Rattle.tn_discipline.specs.declared.reads.Entry.{Entry}
-use Rattle.tn_jobs.specs.Jobs.{Jobs}
-use Rattle.tn_jobs.specs.declared.verdicts.JobState.{JobState}
+use Rattle.tn_discipline.specs.{Canon.Canon, Entries.half_of, Keys.roles_from, Steps.gain_all, declared.reads.Entry.Entry}
+use Rattle.tn_jobs.specs.{Jobs.Jobs, declared.verdicts.{JobState.JobState, Verdict.Verdict}}
 use Rattle.tn_jobs.specs.declared.verdicts.JobState.TheVariants as job
-use Rattle.tn_jobs.specs.declared.verdicts.Verdict.{Verdict}
-use Rattle.tn_linemode.specs.Modes.{edits}
+use Rattle.tn_linemode.specs.{Modes.edits, Prefixes.IsRead}
 use Rattle.tn_nvt.proofs.lemmas.Reading.{reads_none, reads_on, one_reading}
 use Rattle.tn_nvt.specs.declared.items.Item.{Item}
 use Rattle.tn_server.proofs.lemmas.Histories.{items-gets, gets-append}
-use Rattle.tn_server.specs.Course.{in_parts}
-use Rattle.tn_server.specs.Events.{History, next, got, took, items, gets, limit}
-use Rattle.tn_server.specs.Lines.{entries, roles, role_at, waiting}
-use Rattle.tn_server.specs.Terms.{settings, mode}
-use Rattle.tn_server.specs.declared.wishes.Editing.{Editing}
-use Rattle.tn_linemode.specs.Prefixes.{IsRead}
-use Rattle.tn_machines.proofs.of_terminal.Alike.{OfItems, SameLines, lines_self, lines_took, lines_flushed, lines_parts, same_entries, of_items_gets}
-use Rattle.tn_machines.proofs.of_terminal.Alike.{items_parts}
-use Rattle.tn_machines.proofs.lemmas.server.Giving.{acts_of}
-use Rattle.tn_machines.specs.Pieces.{bytes_in}
-use Rattle.tn_machines.specs.server.Hearing.{heard, Hears, entries_by}
-use Rattle.tn_machines.specs.server.Marks.{Turns, Runs, put_or_not, run_after_opening}
+use Rattle.tn_server.specs.{Course.in_parts, Events.{History, next, got, took, items, gets, limit}, Lines.{entries, roles, role_at, waiting}}
+use Rattle.tn_server.specs.{Terms.{settings, mode}, declared.wishes.Editing.Editing}
+use Rattle.tn_machines.specs.{Pieces.bytes_in, server.{Hearing.{heard, Hears, entries_by}, Marks.{Turns, Runs, put_or_not, run_after_opening}}}
 use Rattle.tn_machines.specs.server.Run.{Run, Acts, ActsUnless, flushed_history, flush, feed, ask, ask_if, answer, hang_up, ends_by, move, stop_job, end_job}
-use Rattle.tn_machines.specs.server.Run.{in_foreground, after_said, halt_if, is_end, show, fail, opening, start}
-use Rattle.tn_machines.specs.declared.faults.Ended.TheVariants.{Fault}
-use Rattle.tn_machines.specs.declared.faults.SessionFault.TheVariants as fault
-use Rattle.tn_machines.specs.declared.server.messages.ServerMark.{ServerMark}
-use Rattle.tn_machines.specs.declared.server.messages.ServerMark.TheVariants as mark
-use Rattle.tn_machines.specs.declared.messages.Message.{Message}
+use Rattle.tn_machines.specs.{server.Run.{in_foreground, after_said, halt_if, is_end, show, fail, opening, start}, declared.faults.Ended.TheVariants.Fault}
+use Rattle.tn_machines.specs.declared.{server.messages.ServerMark.ServerMark, messages.Message.Message}
 use Rattle.tn_machines.specs.declared.messages.Message.TheVariants.{Piece, HangUp, ReadFailed, Take, Said, Refused, Left, Resized, Asked}
+use Rattle.tn_machines.specs.declared.faults.SessionFault.TheVariants as fault
+use Rattle.tn_machines.specs.declared.server.messages.ServerMark.TheVariants as mark
 
 -- the history of a stream
 record Heard (first : History) (stream : List ℕ) (h : History) : Type 0 where

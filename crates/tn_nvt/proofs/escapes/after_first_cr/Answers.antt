@@ -1,8 +1,6 @@
 use Rattle.std.proofs.Common.{◌∷◌, [], inl, refl, lit<, arith}
-use Rattle.tn_nvt.specs.declared.items.Item.TheVariants.{Byte, Newline}
-use Rattle.tn_nvt.specs.Machine.{Outside, AfterCr}
-use Rattle.tn_nvt.proofs.Escaping.{then_second}
-use Rattle.tn_nvt.proofs.Steps.{cr, cr_lf, cr_nul}
+use Rattle.tn_nvt.specs.{declared.items.Item.TheVariants.{Byte, Newline}, Machine.{Outside, AfterCr}}
+use Rattle.tn_nvt.proofs.{Escaping.then_second, Steps.{cr, cr_lf, cr_nul}}
 use Rattle.tn_nvt.proofs.escapes.after_first_cr.Goals as goal
 
 pub returns-in-10-clause-escapes : goal.returns-in-10-clause-escapes

@@ -1,7 +1,6 @@
 use Rattle.std.proofs.Common.{refl, lit<, arith}
 use Rattle.tn_nvt.specs.Machine.{Outside, AfterIac, AfterVerb}
-use Rattle.tn_nvt.proofs.Escaping.{then_second, then_third}
-use Rattle.tn_nvt.proofs.Steps.{iac, iac_verb, verb_option}
+use Rattle.tn_nvt.proofs.{Escaping.{then_second, then_third}, Steps.{iac, iac_verb, verb_option}}
 use Rattle.tn_nvt.proofs.escapes.after_first_iac.Goals as goal
 
 pub returns-in-Some-clause-escapes : goal.returns-in-Some-clause-escapes

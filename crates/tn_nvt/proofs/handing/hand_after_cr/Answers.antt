@@ -1,9 +1,6 @@
 use Rattle.std.proofs.Common.{◌≡◌, ℕ, Bool, true, false, List, [], ◌∷◌, ◌<◌, inl, refl, length, take, get_or, map}
-use Rattle.tn_nvt.specs.declared.items.Item.TheVariants.{Byte}
-use Rattle.tn_nvt.specs.Machine.{Outside, AfterCr, StepAdvances}
-use Rattle.tn_nvt.specs.Runs.{BeginsRun, HasRun}
-use Rattle.tn_nvt.proofs.Feeding.{still}
-use Rattle.tn_nvt.proofs.Runs.{front_after_cr}
+use Rattle.tn_nvt.specs.{declared.items.Item.TheVariants.Byte, Machine.{Outside, AfterCr, StepAdvances}, Runs.{BeginsRun, HasRun}}
+use Rattle.tn_nvt.proofs.{Feeding.still, Runs.front_after_cr}
 use Rattle.tn_nvt.proofs.Taking.{on_err, byte_front, byte_stops, run_some, run_refused, refuses_first, refuses_second, takes_two}
 use Rattle.tn_nvt.proofs.handing.hand_after_cr.Goals as goal
 

@@ -1,5 +1,4 @@
-use Rattle.tn_nvt.proofs.Feeding.{still}
-use Rattle.tn_nvt.proofs.Taking.{on_err, escape_front, escape_stops}
+use Rattle.tn_nvt.proofs.{Feeding.still, Taking.{on_err, escape_front, escape_stops}}
 use Rattle.tn_nvt.proofs.handing.hand_escape.Goals as goal
 
 pub returns-in_err-hand_to-clause-refused : goal.returns-in_err-hand_to-clause-refused

@@ -1,8 +1,6 @@
 use Rattle.std.proofs.Common.{[]}
 use Rattle.tn_nvt.specs.Machine.{Outside}
-use Rattle.tn_nvt.proofs.Cuts.{rest_of}
-use Rattle.tn_nvt.proofs.Runs.{plain_run}
-use Rattle.tn_nvt.proofs.Taking.{on_err, run_some, run_refused, refuses_first, takes_one, some_on, stops_on}
+use Rattle.tn_nvt.proofs.{Cuts.rest_of, Runs.plain_run, Taking.{on_err, run_some, run_refused, refuses_first, takes_one, some_on, stops_on}}
 use Rattle.tn_nvt.proofs.handing.hand_outside.Goals as goal
 
 pub returns-in_err-run-clause-refused : goal.returns-in_err-run-clause-refused

@@ -1,6 +1,5 @@
 use Rattle.std.proofs.Common.{◌≤◌, ◌-◌, length, take, drop}
-use Rattle.tn_nvt.specs.Machine.{Outside}
-use Rattle.tn_nvt.specs.Runs.{HandsFront}
+use Rattle.tn_nvt.specs.{Machine.Outside, Runs.HandsFront}
 use Rattle.tn_nvt.proofs.handing.hand_outside.Given as goal
 
 abbrev pub invariant-loop-at : goal.invariant-loop-at

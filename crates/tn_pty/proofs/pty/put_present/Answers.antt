@@ -1,9 +1,7 @@
 use Rattle.std.proofs.Common.{◌<◌, ◌++◌, ◌∷◌, [], length, take, sym, ap, ◌∙◌, arith, append_assoc, length-append}
 use Rattle.tn_pty.specs.Typing.{symbols_in}
-use Rattle.tn_pty.proofs.Queues.{one_fits}
-use Rattle.tn_pty.proofs.Shown.{present_some, present_none, present_room}
+use Rattle.tn_pty.proofs.{Queues.one_fits, Shown.{present_some, present_none, present_room}, pty.put_present.Goals.{in-Some, in_default}}
 use Rattle.tn_pty.proofs.pty.put_present.Goals as goal
-use Rattle.tn_pty.proofs.pty.put_present.Goals.{in-Some, in_default}
 
 pub loop-symbol-preserved : goal.loop-symbol-preserved
 loop-symbol-preserved c =

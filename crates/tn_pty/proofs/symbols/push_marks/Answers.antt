@@ -2,8 +2,7 @@ use Rattle.std.proofs.Common.{◌≡◌, ◌+◌, ◌-◌, ◌++◌, Bool, List,
 use Rattle.std.proofs.lemmas.List.{length-replicate, length-take, length-drop, replicate-append-replicate}
 use Rattle.circular_buffer.specs.Buffer.{Buffer, buffer}
 use Rattle.tn_pty.specs.Runs.{feeds}
-use Rattle.tn_pty.proofs.lemmas.Typed.{left_of}
-use Rattle.tn_pty.proofs.Marked.{feeds_parts, feeds_rest}
+use Rattle.tn_pty.proofs.{lemmas.Typed.left_of, Marked.{feeds_parts, feeds_rest}}
 use Rattle.tn_pty.proofs.symbols.push_marks.Goals as goal
 
 pub push_mark-at-requires-clause-room : goal.push_mark-at-requires-clause-room

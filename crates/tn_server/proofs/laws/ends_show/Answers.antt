@@ -1,9 +1,6 @@
 use Rattle.std.proofs.Common.{sym}
-use Rattle.tn_server.specs.Events.{next, took}
-use Rattle.tn_server.specs.Steps.{end_after}
-use Rattle.tn_server.proofs.Calling.{tells_mode}
-use Rattle.tn_server.proofs.lemmas.Leading.{stands}
-use Rattle.tn_server.proofs.lemmas.Ends.{waits_are}
+use Rattle.tn_server.specs.{Events.{next, took}, Steps.end_after}
+use Rattle.tn_server.proofs.{Calling.tells_mode, lemmas.{Leading.stands, Ends.waits_are}}
 use Rattle.tn_server.proofs.laws.ends_show.Goals as goal
 
 pub returns-clause-waiting : goal.returns-clause-waiting

@@ -1,6 +1,5 @@
 use Rattle.tn_discipline.proofs.lemmas.Histories.{half_of-fits}
-use Rattle.tn_server.specs.Events.{limit}
-use Rattle.tn_server.specs.Lines.{roles}
+use Rattle.tn_server.specs.{Events.limit, Lines.roles}
 use Rattle.tn_server.proofs.Overflowing.{queue_fits}
 use Rattle.tn_server.proofs.laws.nothing_overflows.Goals as goal
 

@@ -1,5 +1,4 @@
-use Rattle.tn_server.proofs.lemmas.Causes.{causes}
-use Rattle.tn_server.proofs.lemmas.Stopping.{stands_stopped}
+use Rattle.tn_server.proofs.lemmas.{Causes.causes, Stopping.stands_stopped}
 use Rattle.tn_server.proofs.laws.stops_stand.Goals as goal
 
 pub returns-clause-leads : goal.returns-clause-leads

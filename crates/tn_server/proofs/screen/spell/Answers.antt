@@ -1,5 +1,4 @@
-use Rattle.std.proofs.Common.{arith}
-use Rattle.std.proofs.lemmas.Grind.{common_steps}
+use Rattle.std.proofs.{Common.arith, lemmas.Grind.common_steps}
 use Rattle.tn_server.proofs.screen.spell.Goals as goal
 
 pub returns-in-Newline-clause-items : goal.returns-in-Newline-clause-items

@@ -1,5 +1,4 @@
-use Rattle.std.proofs.Common.{◌++◌, length, map, take, drop, ap, ◌∙◌, arith, length-drop}
-use Rattle.std.proofs.lemmas.List.{drop-drop}
+use Rattle.std.proofs.{Common.{◌++◌, length, map, take, drop, ap, ◌∙◌, arith, length-drop}, lemmas.List.drop-drop}
 use Rattle.tn_nvt.specs.Spelling.{spells}
 use Rattle.tn_server.specs.Replies.{data_of}
 use Rattle.tn_server.proofs.Spelling.{spelled_both, shown_still}

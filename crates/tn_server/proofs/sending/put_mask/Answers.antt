@@ -1,7 +1,5 @@
-use Rattle.std.proofs.Common.{◌≡◌, ◌≤◌, ℕ, Some, List, length, ap, ◌∙◌, arith}
-use Rattle.std.proofs.lemmas.List.{take_all}
-use Rattle.tn_codes.specs.declared.masks.Mask.{Mask}
-use Rattle.tn_codes.specs.declared.payloads.Payload.TheVariants.{ForwardOn}
+use Rattle.std.proofs.{Common.{◌≡◌, ◌≤◌, ℕ, Some, List, length, ap, ◌∙◌, arith}, lemmas.List.take_all}
+use Rattle.tn_codes.specs.declared.{masks.Mask.Mask, payloads.Payload.TheVariants.ForwardOn}
 use Rattle.tn_server.specs.Replies.{forward_payload}
 use Rattle.tn_server.proofs.sending.put_mask.Goals as goal
 

@@ -1,6 +1,5 @@
 use Rattle.crossbeam_channel.specs.Claims.{view}
-use Rattle.tn_session.proofs.ClientWhole.{ready_two}
-use Rattle.tn_session.proofs.Mailbox.{starts, cut}
+use Rattle.tn_session.proofs.{ClientWhole.ready_two, Mailbox.{starts, cut}}
 use Rattle.tn_workers.specs.declared.mail.Sender.TheVariants.{Net, Keys}
 use Rattle.tn_session.proofs.client.make_mailbox.Goals as goal
 

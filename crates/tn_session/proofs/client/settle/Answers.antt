@@ -1,6 +1,5 @@
 use Rattle.crossbeam_channel.specs.Claims.{view}
-use Rattle.tn_session.proofs.ClientWhole.{settles_two}
-use Rattle.tn_session.proofs.Mailbox.{joins, totals, cut}
+use Rattle.tn_session.proofs.{ClientWhole.settles_two, Mailbox.{joins, totals, cut}}
 use Rattle.tn_workers.specs.declared.mail.Sender.TheVariants.{Net, Keys}
 use Rattle.tn_session.proofs.client.settle.Goals as goal
 

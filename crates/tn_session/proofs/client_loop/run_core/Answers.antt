@@ -1,19 +1,10 @@
 use Rattle.std.proofs.Common.{◌∙◌, ◌||◌, ◌&&◌, not, ap, refl, sym, [], ◌∷◌, ◌++◌, Option, List, map, subst, arith}
 use Rattle.crossbeam_channel.specs.Claims.{view}
-use Rattle.tn_machines.specs.declared.client.messages.ClientMark.{ClientMark}
-use Rattle.tn_machines.specs.declared.client.messages.Told.{Told}
-use Rattle.tn_machines.specs.declared.client.progress.ClientProgress.{ClientProgress}
-use Rattle.tn_session.proofs.CoreGoing.{told_first, told_next, told_kept, core_told}
-use Rattle.tn_session.proofs.Finishing.{open_none, stands_next, stands_last, stays_done}
-use Rattle.tn_session.proofs.Going.{false_true, lefts_of-push, left_small, notes_next, notes_kept}
-use Rattle.tn_session.proofs.Mailbox.{handled_more}
-use Rattle.tn_session.proofs.Stopped.{left_next, stands_first}
-use Rattle.tn_session.specs.CoreTurns.{TurnsTold, all_told, told_of}
-use Rattle.tn_session.specs.Notes.{Noted, NotesAll, no_notes, noted_of}
-use Rattle.tn_session.specs.Stops.{StandsTold, core_stops}
-use Rattle.tn_workers.specs.declared.mail.Mail.{Mail}
-use Rattle.tn_workers.specs.declared.mail.Sender.TheVariants.{Keys}
-use Rattle.tn_machines.specs.client.Marks.{Runs}
+use Rattle.tn_machines.specs.{declared.client.{messages.{ClientMark.ClientMark, Told.Told}, progress.ClientProgress.ClientProgress}, client.Marks.Runs}
+use Rattle.tn_session.proofs.{CoreGoing.{told_first, told_next, told_kept, core_told}, Finishing.{open_none, stands_next, stands_last, stays_done}}
+use Rattle.tn_session.proofs.{Going.{false_true, lefts_of-push, left_small, notes_next, notes_kept}, Mailbox.handled_more, Stopped.{left_next, stands_first}}
+use Rattle.tn_session.specs.{CoreTurns.{TurnsTold, all_told, told_of}, Notes.{Noted, NotesAll, no_notes, noted_of}, Stops.{StandsTold, core_stops}}
+use Rattle.tn_workers.specs.declared.mail.{Mail.Mail, Sender.TheVariants.Keys}
 use Rattle.tn_streams.specs.Known.{known_writer, known_writing}
 use Rattle.tn_session.proofs.client_loop.run_core.Goals as goal
 

@@ -1,16 +1,9 @@
 use Rattle.std.proofs.Common.{◌≡◌, ◌≤◌, ◌||◌, List, [], map}
-use Rattle.crossbeam_channel.specs.Claims.{view, IsSeatAt}
-use Rattle.crossbeam_channel.specs.Ends.{sends_on, receives_on}
-use Rattle.tn_machines.specs.client.Marks.{Runs}
-use Rattle.tn_machines.specs.client.Reaching.{LeadsTo}
-use Rattle.tn_machines.specs.client.Run.{Run}
-use Rattle.tn_session.specs.CoreTurns.{ToldAll, all_told}
-use Rattle.tn_workers.specs.Mailbox.{with_handled}
-use Rattle.tn_session.specs.Notes.{NotesAll, no_notes, noted_of}
-use Rattle.tn_session.specs.Stops.{IsTold, StandsTold, has_left, core_stops}
+use Rattle.crossbeam_channel.specs.{Claims.{view, IsSeatAt}, Ends.{sends_on, receives_on}}
+use Rattle.tn_machines.specs.client.{Marks.Runs, Reaching.LeadsTo, Run.Run}
+use Rattle.tn_session.specs.{CoreTurns.{ToldAll, all_told}, Notes.{NotesAll, no_notes, noted_of}, Stops.{IsTold, StandsTold, has_left, core_stops}}
 use Rattle.tn_session.specs.Turns.{lefts_of}
-use Rattle.tn_workers.specs.declared.mail.Mail.{Mail}
-use Rattle.tn_workers.specs.declared.mail.Sender.TheVariants.{Keys}
+use Rattle.tn_workers.specs.{Mailbox.with_handled, declared.mail.{Mail.Mail, Sender.TheVariants.Keys}}
 use Rattle.tn_streams.specs.Known.{known_writing}
 use Rattle.tn_session.proofs.Finishing.{StandsAt}
 use Rattle.tn_session.proofs.client_loop.run_core.Given as goal

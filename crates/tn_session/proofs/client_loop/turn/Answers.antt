@@ -1,7 +1,5 @@
 use Rattle.std.proofs.Common.{refl, sym, ◌∙◌}
-use Rattle.tn_session.proofs.CoreGoing.{turned_on, turned_off}
-use Rattle.tn_session.proofs.Finishing.{or_elim}
-use Rattle.tn_session.proofs.Going.{writes_as}
+use Rattle.tn_session.proofs.{CoreGoing.{turned_on, turned_off}, Finishing.or_elim, Going.writes_as}
 use Rattle.tn_session.proofs.client_loop.turn.Goals as goal
 
 pub returns-then-is_done-clause-turned : goal.returns-then-is_done-clause-turned

@@ -1,7 +1,6 @@
 use Rattle.crossbeam_channel.specs.Claims.{view}
-use Rattle.tn_session.proofs.Mailbox.{joins, totals, cut}
+use Rattle.tn_session.proofs.{Mailbox.{joins, totals, cut}, Whole.settles}
 use Rattle.tn_queue.proofs.lemmas.Queue as channel
-use Rattle.tn_session.proofs.Whole.{settles}
 use Rattle.tn_workers.specs.declared.mail.Sender.TheVariants.{Net, Desk, Back}
 use Rattle.tn_session.proofs.joining.settle.Goals as goal
 

@@ -1,6 +1,5 @@
 use Rattle.std.proofs.Common.{refl, ap, ◌∙◌, Some}
-use Rattle.tn_jobs.specs.Jobs.{Jobs, state_at}
-use Rattle.tn_jobs.specs.declared.verdicts.JobState.TheVariants.{Foreground, Background}
+use Rattle.tn_jobs.specs.{Jobs.{Jobs, state_at}, declared.verdicts.JobState.TheVariants.{Foreground, Background}}
 use Rattle.tn_session.proofs.Numbering.{first_alone, made_first}
 use Rattle.tn_session.proofs.making.make_first.Goals as goal
 

@@ -1,5 +1,4 @@
-use Rattle.tn_session.proofs.Makers.{one_last, one_more}
-use Rattle.tn_session.proofs.Numbering.{queue_more}
+use Rattle.tn_session.proofs.{Makers.{one_last, one_more}, Numbering.queue_more}
 use Rattle.tn_session.proofs.making.make_more.Goals as goal
 
 pub returns-clause-more : goal.returns-clause-more

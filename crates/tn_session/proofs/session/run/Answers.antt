@@ -1,10 +1,8 @@
 use Rattle.std.proofs.Common.{Bool, IfOk, subst}
 use Rattle.tn_jobs.specs.declared.held_jobs.JobId.{JobId}
 use Rattle.tn_workers.specs.Acts.{job_acts}
-use Rattle.tn_session.specs.Facts.{session_result}
-use Rattle.tn_session.specs.Session.{RunsOn}
+use Rattle.tn_session.specs.{Facts.session_result, Session.RunsOn, Notes.noted_of}
 use Rattle.tn_streams.specs.Known.{known_reader, known_writing}
-use Rattle.tn_session.specs.Notes.{noted_of}
 use Rattle.tn_session.proofs.session.run.Goals as goal
 
 pub returns-clause-ran : goal.returns-clause-ran

@@ -1,6 +1,5 @@
 use Rattle.std.proofs.lemmas.Result.{IfOk-weaker}
-use Rattle.tn_session.proofs.Finishing.{open_finished}
-use Rattle.tn_session.proofs.Reach.{reach_opened, opened_as}
+use Rattle.tn_session.proofs.{Finishing.open_finished, Reach.{reach_opened, opened_as}}
 use Rattle.tn_session.proofs.session.run_begun.Goals as goal
 
 pub returns-clause-ran : goal.returns-clause-ran

@@ -1,19 +1,11 @@
 use Rattle.std.proofs.Common.{◌≡◌, ◌≤◌, ◌+◌, List, [], Option, ◌++◌, length, map}
-use Rattle.crossbeam_channel.specs.Claims.{view, IsSeatAt}
-use Rattle.crossbeam_channel.specs.Ends.{sends_on, receives_on}
+use Rattle.crossbeam_channel.specs.{Claims.{view, IsSeatAt}, Ends.{sends_on, receives_on}}
 use Rattle.tn_discipline.specs.declared.reads.Entry.{Entry}
-use Rattle.tn_workers.specs.Credits.{owed_one, pieces_among, steps_among}
-use Rattle.tn_workers.specs.Mailbox.{with_handled}
-use Rattle.tn_session.specs.Notes.{NotesAll, noted_of}
+use Rattle.tn_workers.specs.{Credits.{owed_one, pieces_among, steps_among}, Mailbox.with_handled, declared.mail.{Mail.Mail, Sender.TheVariants.Back}}
+use Rattle.tn_session.specs.{Notes.{NotesAll, noted_of}, Stops.{IsTold, StandsTold, has_left, term_stops}, Turns.{GoesOn, StaysInReach, lefts_of, messages_of}}
 use Rattle.tn_queue.specs.Queue.{putter}
-use Rattle.tn_session.specs.Stops.{IsTold, StandsTold, has_left, term_stops}
-use Rattle.tn_session.specs.Turns.{GoesOn, StaysInReach, lefts_of, messages_of}
-use Rattle.tn_workers.specs.declared.mail.Mail.{Mail}
-use Rattle.tn_workers.specs.declared.mail.Sender.TheVariants.{Back}
 use Rattle.tn_streams.specs.Known.{known_writing}
-use Rattle.tn_machines.specs.server.Marks.{Runs}
-use Rattle.tn_machines.specs.server.Reaching.{LeadsTo}
-use Rattle.tn_machines.specs.server.Run.{Run}
+use Rattle.tn_machines.specs.server.{Marks.Runs, Reaching.LeadsTo, Run.Run}
 use Rattle.tn_session.proofs.Finishing.{StandsAt}
 use Rattle.tn_session.proofs.term.run_term.Given as goal
 

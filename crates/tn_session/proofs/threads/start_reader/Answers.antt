@@ -1,8 +1,6 @@
 use Rattle.std.proofs.Common.{IfSome, subst, sym}
-use Rattle.crossbeam_channel.specs.Claims.{view, IsSeatAt}
-use Rattle.crossbeam_channel.specs.Ends.{sends_on}
-use Rattle.tn_workers.specs.Reader.{TypingSends}
-use Rattle.tn_workers.specs.Stops.{StopsStay, has_stopped}
+use Rattle.crossbeam_channel.specs.{Claims.{view, IsSeatAt}, Ends.sends_on}
+use Rattle.tn_workers.specs.{Reader.TypingSends, Stops.{StopsStay, has_stopped}}
 use Rattle.tn_streams.specs.Known.{known_typing}
 use Rattle.tn_session.proofs.threads.start_reader.Goals as goal
 

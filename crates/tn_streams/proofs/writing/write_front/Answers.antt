@@ -1,9 +1,7 @@
-use Rattle.std.proofs.Common.{◌≡◌, Bool, Ok, Err, arith, take, drop, length, ◌-◌, length-drop, subst, sym}
-use Rattle.std.proofs.Math.Seq.{take-add}
+use Rattle.std.proofs.{Common.{◌≡◌, Bool, Ok, Err, arith, take, drop, length, ◌-◌, length-drop, subst, sym}, Math.Seq.take-add}
 use Rattle.tn_streams.proofs.lemmas.Telling.{made_more, accounts_made, accounts_failed, accounts_passed, write_stays, write_fails}
 use Rattle.tn_streams.proofs.lemmas.Writing.{appends_more, appends_kept, take_all, stays_at, all_taken, ok_writes, open_more, not_below}
-use Rattle.tn_streams.specs.Telling.{CountsWrite}
-use Rattle.tn_streams.specs.Writing.{Tells, max_writes}
+use Rattle.tn_streams.specs.{Telling.CountsWrite, Writing.{Tells, max_writes}}
 use Rattle.tn_streams.proofs.writing.write_front.Goals as goal
 
 pub loop-write-preserved : goal.loop-write-preserved

@@ -1,7 +1,6 @@
 use Rattle.std.proofs.Common.{◌≡◌, ◌≤◌, length, take, []}
 use Rattle.std.specs.Io.KnownBytes.{Appends}
-use Rattle.tn_streams.specs.Sending.{StaysOpen}
-use Rattle.tn_streams.specs.Telling.{HasMade}
+use Rattle.tn_streams.specs.{Sending.StaysOpen, Telling.HasMade}
 use Rattle.tn_streams.proofs.writing.write_front.Given as goal
 
 abbrev pub invariant-loop-write : goal.invariant-loop-write

@@ -1,6 +1,5 @@
 use Rattle.tn_two_sessions.proofs.Answers.{server_answers, client_answers}
-use Rattle.tn_session.specs.Facts.{job_facts}
-use Rattle.tn_session.specs.Makers.{begins}
+use Rattle.tn_session.specs.{Facts.job_facts, Makers.begins}
 use Rattle.tn_two_sessions.proofs.laws.no_answer_comes_late.Goals as goal
 
 pub returns-clause-server : goal.returns-clause-server

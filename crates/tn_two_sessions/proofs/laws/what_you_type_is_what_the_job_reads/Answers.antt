@@ -1,6 +1,5 @@
 use Rattle.tn_two_sessions.proofs.Seen.{headline}
-use Rattle.tn_session.specs.Facts.{job_facts}
-use Rattle.tn_session.specs.Makers.{begins}
+use Rattle.tn_session.specs.{Facts.job_facts, Makers.begins}
 use Rattle.tn_two_sessions.proofs.laws.what_you_type_is_what_the_job_reads.Goals as goal
 
 pub returns : goal.returns

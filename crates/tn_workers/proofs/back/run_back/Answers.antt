@@ -1,17 +1,9 @@
-use Rattle.std.proofs.Common.{ℕ, [], ◌∷◌, ◌++◌, map, length, length-append, refl, sym, subst}
-use Rattle.std.proofs.lemmas.Option.{IfSome_then}
+use Rattle.std.proofs.{Common.{ℕ, [], ◌∷◌, ◌++◌, map, length, length-append, refl, sym, subst}, lemmas.Option.IfSome_then}
 use Rattle.crossbeam_channel.specs.Claims.{view}
-use Rattle.tn_jobs.specs.declared.held_jobs.JobId.{JobId}
-use Rattle.tn_jobs.specs.declared.reactions.Reaction.{Reaction}
-use Rattle.tn_workers.specs.Acts.{job_acts}
-use Rattle.tn_workers.specs.Credits.{HaveUsed}
-use Rattle.tn_workers.specs.Stepping.{step_said}
-use Rattle.tn_workers.specs.Turning.{Holds, ids_of}
+use Rattle.tn_jobs.specs.declared.{held_jobs.JobId.JobId, reactions.Reaction.Reaction}
+use Rattle.tn_workers.specs.{Acts.job_acts, Credits.HaveUsed, Stepping.step_said, Turning.{Holds, ids_of}, declared.mail.Sender.TheVariants.Back}
 use Rattle.tn_machines.specs.declared.messages.Message.TheVariants.{Refused, Left}
-use Rattle.tn_workers.proofs.Counting.{used_none, used_more, used_still, used_for}
-use Rattle.tn_workers.proofs.lemmas.Readers.{said, said_two, role}
-use Rattle.tn_workers.specs.declared.mail.Sender.TheVariants.{Back}
-use Rattle.tn_workers.proofs.Stopping.{stays_on, stays_here}
+use Rattle.tn_workers.proofs.{Counting.{used_none, used_more, used_still, used_for}, lemmas.Readers.{said, said_two, role}, Stopping.{stays_on, stays_here}}
 use Rattle.tn_workers.proofs.lemmas.Turning.{said_step, closes_idle, closes_stopped, closes_refused, running_first, advanced, in_turn}
 use Rattle.tn_workers.proofs.back.run_back.Goals as goal
 

@@ -1,13 +1,7 @@
 use Rattle.std.proofs.Common.{◌≡◌, List, map, length}
-use Rattle.crossbeam_channel.specs.Claims.{view, IsSeatAt}
-use Rattle.crossbeam_channel.specs.Ends.{sends_on, receives_on}
-use Rattle.tn_jobs.specs.declared.held_jobs.JobId.{JobId}
-use Rattle.tn_jobs.specs.declared.reactions.Reaction.{Reaction}
-use Rattle.tn_workers.specs.declared.mail.Sender.TheVariants.{Back}
-use Rattle.tn_workers.specs.Credits.{HaveUsed}
-use Rattle.tn_workers.specs.Mailbox.{sender, mail}
-use Rattle.tn_workers.specs.Stepping.{StepInTurn, step_said}
-use Rattle.tn_workers.specs.Stops.{StopsStay}
+use Rattle.crossbeam_channel.specs.{Claims.{view, IsSeatAt}, Ends.{sends_on, receives_on}}
+use Rattle.tn_jobs.specs.declared.{held_jobs.JobId.JobId, reactions.Reaction.Reaction}
+use Rattle.tn_workers.specs.{declared.mail.Sender.TheVariants.Back, Credits.HaveUsed, Mailbox.{sender, mail}, Stepping.{StepInTurn, step_said}, Stops.StopsStay}
 use Rattle.tn_workers.specs.Turning.{Holds, Running, ids_of}
 use Rattle.tn_workers.proofs.back.run_back.Given as goal
 

@@ -1,11 +1,8 @@
-use Rattle.std.proofs.Common.{◌∷◌, [], ◌++◌, refl, ap, ◌∙◌, sym, inl, inr, Option}
-use Rattle.std.proofs.lemmas.Option.{IfSome_then}
+use Rattle.std.proofs.{Common.{◌∷◌, [], ◌++◌, refl, ap, ◌∙◌, sym, inl, inr, Option}, lemmas.Option.IfSome_then}
 use Rattle.tn_discipline.specs.declared.reads.Entry.{Entry}
 use Rattle.tn_queue.specs.Queue.{taker}
-use Rattle.tn_workers.specs.Talk.{desk_sends, entries_of}
-use Rattle.tn_workers.proofs.lemmas.Readers.{said, said_two, said_three, role}
-use Rattle.tn_workers.specs.declared.mail.Sender.TheVariants.{Desk}
-use Rattle.tn_workers.proofs.Talk.{turns_said-push, entries_of-push, ends_done-push, answers-push}
+use Rattle.tn_workers.specs.{Talk.{desk_sends, entries_of}, declared.mail.Sender.TheVariants.Desk}
+use Rattle.tn_workers.proofs.{lemmas.Readers.{said, said_two, said_three, role}, Talk.{turns_said-push, entries_of-push, ends_done-push, answers-push}}
 use Rattle.tn_workers.proofs.desk.run_desk.Goals as goal
 
 pub say-requires-in_default-clause-role : goal.say-requires-in_default-clause-role

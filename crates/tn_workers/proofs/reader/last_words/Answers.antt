@@ -1,7 +1,6 @@
 use Rattle.std.proofs.Common.{rules, ◌≡◌, ◌≢◌, ℕ, List, [], ◌∷◌, refl, ap, ◌∙◌}
 use Rattle.tn_discipline.specs.declared.reads.Text.{Text}
-use Rattle.tn_jobs.specs.declared.held_jobs.JobId.{JobId}
-use Rattle.tn_jobs.specs.declared.verdicts.After.TheVariants.{Stay}
+use Rattle.tn_jobs.specs.declared.{held_jobs.JobId.JobId, verdicts.After.TheVariants.Stay}
 use Rattle.tn_machines.specs.declared.messages.Message.TheVariants.{Said}
 use Rattle.tn_workers.specs.Reader.{said_by}
 use Rattle.tn_workers.proofs.reader.last_words.Goals as goal

@@ -1,5 +1,4 @@
-use Rattle.std.proofs.Common.{◌≡◌, take, arith, length-take}
-use Rattle.std.proofs.lemmas.Grind.{common_steps}
+use Rattle.std.proofs.{Common.{◌≡◌, take, arith, length-take}, lemmas.Grind.common_steps}
 use Rattle.tn_workers.proofs.Reading.{consumes_none}
 use Rattle.tn_streams.proofs.lemmas.Foretelling.{come_none, come_more, come_again, come_failed}
 use Rattle.tn_workers.proofs.reader.read_piece.Goals as goal

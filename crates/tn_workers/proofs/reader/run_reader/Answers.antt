@@ -1,8 +1,6 @@
-use Rattle.std.proofs.Common.{◌≡◌, arith, refl, None}
-use Rattle.std.proofs.lemmas.Option.{IfSome_then}
+use Rattle.std.proofs.{Common.{◌≡◌, arith, refl, None}, lemmas.Option.IfSome_then}
 use Rattle.tn_machines.specs.declared.messages.Message.TheVariants.{ReadFailed}
-use Rattle.tn_workers.proofs.lemmas.Readers.{role}
-use Rattle.tn_workers.proofs.Stopping.{stays_on, stays_here}
+use Rattle.tn_workers.proofs.{lemmas.Readers.role, Stopping.{stays_on, stays_here}}
 use Rattle.tn_workers.proofs.Telling.{told_nothing, told_beside, told_one, told_none, told_end, told_all, told_stop, paid_end, paid_stop}
 use Rattle.tn_streams.specs.Known.{known_typing}
 use Rattle.tn_workers.proofs.reader.run_reader.Goals as goal

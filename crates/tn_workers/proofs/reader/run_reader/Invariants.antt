@@ -1,9 +1,7 @@
 use Rattle.std.proofs.Common.{◌≡◌}
-use Rattle.crossbeam_channel.specs.Claims.{view, IsSeatAt}
-use Rattle.crossbeam_channel.specs.Ends.{sends_on}
-use Rattle.tn_workers.specs.Credits.{IsSeated}
+use Rattle.crossbeam_channel.specs.{Claims.{view, IsSeatAt}, Ends.sends_on}
+use Rattle.tn_workers.specs.{Credits.IsSeated, Stops.StopsStay}
 use Rattle.tn_workers.proofs.Telling.{HasTold}
-use Rattle.tn_workers.specs.Stops.{StopsStay}
 use Rattle.tn_streams.specs.Known.{known_typing}
 use Rattle.tn_workers.proofs.reader.run_reader.Given as goal
 

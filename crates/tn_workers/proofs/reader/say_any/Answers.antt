@@ -1,8 +1,7 @@
 use Rattle.std.proofs.Common.{Option, option_to_list, subst, sym, ap, ◌∙◌, append-nil}
 use Rattle.crossbeam_channel.specs.Claims.{view}
 use Rattle.tn_machines.specs.declared.messages.Message.{Message}
-use Rattle.tn_workers.specs.Mailbox.{sender}
-use Rattle.tn_workers.specs.Reader.{SaysAll}
+use Rattle.tn_workers.specs.{Mailbox.sender, Reader.SaysAll}
 use Rattle.tn_workers.proofs.reader.say_any.Goals as goal
 
 pub returns-in-None-clause-said : goal.returns-in-None-clause-said

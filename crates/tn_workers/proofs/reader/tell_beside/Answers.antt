@@ -1,11 +1,8 @@
-use Rattle.std.proofs.Common.{List, Option, subst, sym, ◌∙◌}
-use Rattle.std.proofs.lemmas.Option.{IfSome_then}
+use Rattle.std.proofs.{Common.{List, Option, subst, sym, ◌∙◌}, lemmas.Option.IfSome_then}
 use Rattle.crossbeam_channel.specs.Claims.{view}
 use Rattle.tn_workers.proofs.lemmas.Readers.{says_both}
 use Rattle.tn_workers.specs.Reader.{one_size, one_control}
-use Rattle.tn_streams.specs.Beside.{TellsNext}
-use Rattle.tn_streams.specs.declared.control.Control.{Control}
-use Rattle.tn_streams.specs.declared.window.WindowSize.{WindowSize}
+use Rattle.tn_streams.specs.{Beside.TellsNext, declared.{control.Control.Control, window.WindowSize.WindowSize}}
 use Rattle.tn_workers.proofs.reader.tell_beside.Goals as goal
 
 pub tell_control-requires-clause-role : goal.tell_control-requires-clause-role

@@ -1,5 +1,4 @@
-use Rattle.std.proofs.Common.{Some, None, sym, ap, ◌∙◌, append-nil}
-use Rattle.std.proofs.lemmas.Option.{IfSome_then}
+use Rattle.std.proofs.{Common.{Some, None, sym, ap, ◌∙◌, append-nil}, lemmas.Option.IfSome_then}
 use Rattle.tn_workers.specs.Mailbox.{sender}
 use Rattle.tn_workers.proofs.reader.tell_size.Goals as goal
 

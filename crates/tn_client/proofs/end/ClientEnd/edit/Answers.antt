@@ -1,5 +1,4 @@
-use Rattle.std.proofs.Common.{inl, inr, arith}
-use Rattle.std.proofs.lemmas.Result.{err_from_is_err_and}
+use Rattle.std.proofs.{Common.{inl, inr, arith}, lemmas.Result.err_from_is_err_and}
 use Rattle.tn_client.proofs.end.ClientEnd.edit.Goals as goal
 
 pub returns-in_err-reserve-clause-full : goal.returns-in_err-reserve-clause-full

@@ -1,5 +1,4 @@
-use Rattle.std.proofs.Common.{◌∙◌}
-use Rattle.std.proofs.lemmas.Result.{err_from_is_err_and}
+use Rattle.std.proofs.{Common.◌∙◌, lemmas.Result.err_from_is_err_and}
 use Rattle.tn_linemode.specs.Exchange.{client_answers, client_next, client_answer}
 use Rattle.tn_linemode.proofs.lemmas.Listing.{answers_few, answered_some, wanted_some}
 use Rattle.tn_client.proofs.end.ClientEnd.list.Goals as goal

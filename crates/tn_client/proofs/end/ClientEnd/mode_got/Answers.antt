@@ -1,5 +1,4 @@
-use Rattle.std.proofs.Common.{arith}
-use Rattle.std.proofs.lemmas.Grind.{common_steps}
+use Rattle.std.proofs.{Common.arith, lemmas.Grind.common_steps}
 use Rattle.tn_client.proofs.end.ClientEnd.mode_got.Goals as goal
 
 pub returns-in_err-put_held-clause-grows : goal.returns-in_err-put_held-clause-grows

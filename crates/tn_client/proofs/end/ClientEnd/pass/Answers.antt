@@ -1,5 +1,4 @@
-use Rattle.std.proofs.Common.{arith}
-use Rattle.std.proofs.lemmas.Grind.{common_steps}
+use Rattle.std.proofs.{Common.arith, lemmas.Grind.common_steps}
 use Rattle.tn_client.proofs.end.ClientEnd.pass.Goals as goal
 
 pub returns-in_err-put_raw-clause-err_out : goal.returns-in_err-put_raw-clause-err_out

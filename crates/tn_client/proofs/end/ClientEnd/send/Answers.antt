@@ -1,7 +1,6 @@
 use Rattle.std.proofs.Common.{[], ◌∷◌, ◌++◌, ap, ◌∙◌}
 use Rattle.tn_codes.specs.declared.codes.Command.{Command}
-use Rattle.tn_nvt.specs.Spelling.{spells}
-use Rattle.tn_nvt.specs.declared.items.Item.TheVariants.{Cmd}
+use Rattle.tn_nvt.specs.{Spelling.spells, declared.items.Item.TheVariants.Cmd}
 use Rattle.tn_client.proofs.end.ClientEnd.send.Goals as goal
 use Rattle.tn_client.proofs.end.ClientEnd.send.Goals.{in-Ok, in-Err}
 

@@ -1,8 +1,5 @@
-use Rattle.std.proofs.Common.{◌≡◌, ◌&&◌, not, true, arith}
-use Rattle.std.proofs.lemmas.Grind.{common_steps}
-use Rattle.std.proofs.lemmas.Result.{err_from_is_err_and}
-use Rattle.tn_client.specs.Replies.{is_same_size}
-use Rattle.tn_client.specs.Terms.{tells_size}
+use Rattle.std.proofs.{Common.{◌≡◌, ◌&&◌, not, true, arith}, lemmas.{Grind.common_steps, Result.err_from_is_err_and}}
+use Rattle.tn_client.specs.{Replies.is_same_size, Terms.tells_size}
 use Rattle.tn_client.proofs.end.ClientEnd.set_size.Goals as goal
 
 pub returns-in_err-put_size-clause-full : goal.returns-in_err-put_size-clause-full

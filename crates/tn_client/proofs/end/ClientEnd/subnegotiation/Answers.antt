@@ -1,6 +1,4 @@
-use Rattle.std.proofs.Common.{Bool, inr, Some, sym, ap, ◌∙◌, arith}
-use Rattle.std.proofs.lemmas.Grind.{common_steps}
-use Rattle.std.proofs.lemmas.Result.{on_err_weaker}
+use Rattle.std.proofs.{Common.{Bool, inr, Some, sym, ap, ◌∙◌, arith}, lemmas.{Grind.common_steps, Result.on_err_weaker}}
 use Rattle.tn_codes.specs.declared.payloads.Payload.{Payload}
 use Rattle.tn_linemode.specs.Words.{payload_under}
 use Rattle.tn_client.proofs.end.ClientEnd.subnegotiation.Goals as goal

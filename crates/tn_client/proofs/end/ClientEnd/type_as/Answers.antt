@@ -1,7 +1,6 @@
 use Rattle.std.proofs.Common.{◌≡◌, true, false, sym, ap, ◌∙◌}
 use Rattle.tn_linemode.specs.Modes.{edits}
-use Rattle.tn_client.specs.Calls.{End}
-use Rattle.tn_client.specs.Replies.{sent_as}
+use Rattle.tn_client.specs.{Calls.End, Replies.sent_as}
 use Rattle.tn_client.proofs.lemmas.Keying.{key_step, key_said, key_shown_by, edited_lacks}
 use Rattle.tn_client.proofs.end.ClientEnd.type_as.Goals as goal
 

@@ -1,9 +1,7 @@
-use Rattle.std.proofs.Common.{◌≡◌, true, sym, ◌∙◌, arith}
-use Rattle.std.proofs.lemmas.Grind.{common_steps}
+use Rattle.std.proofs.{Common.{◌≡◌, true, sym, ◌∙◌, arith}, lemmas.Grind.common_steps}
 use Rattle.tn_client.specs.Steps.{sends_where}
-use Rattle.tn_client.proofs.Undoing.{undone}
+use Rattle.tn_client.proofs.{Undoing.undone, end.ClientEnd.type_edited.Goals.{in-Gives+in-Text-2, in-Gives+in-Eof-2, in-Nothing-2}}
 use Rattle.tn_client.proofs.end.ClientEnd.type_edited.Goals as goal
-use Rattle.tn_client.proofs.end.ClientEnd.type_edited.Goals.{in-Gives+in-Text-2, in-Gives+in-Eof-2, in-Nothing-2}
 
 pub returns-in-Err-clause-err : goal.returns-in-Err-clause-err
 returns-in-Err-clause-err c =

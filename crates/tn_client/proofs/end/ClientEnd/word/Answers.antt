@@ -1,14 +1,9 @@
-use Rattle.std.proofs.Common.{ℕ, List, ◌++◌, refl, arith}
-use Rattle.std.proofs.lemmas.Grind.{common_steps}
+use Rattle.std.proofs.{Common.{ℕ, List, ◌++◌, refl, arith}, lemmas.{Grind.common_steps, Result.err_from_is_err_and}}
 use Rattle.tn_codes.specs.declared.codes.Verb.{Verb}
-use Rattle.std.proofs.lemmas.Result.{err_from_is_err_and}
-use Rattle.tn_linemode.specs.Modes.{edits}
-use Rattle.tn_nvt.specs.declared.items.Item.{Item}
-use Rattle.tn_nvt.specs.declared.items.Item.TheVariants.{Neg}
+use Rattle.tn_linemode.specs.{Modes.edits, Words.word_items}
+use Rattle.tn_nvt.specs.declared.items.Item.{Item, TheVariants.Neg}
 use Rattle.tn_option.specs.Options.{Options, reply_to, options_after_word}
-use Rattle.tn_client.specs.Terms.{mode_at, tells_size}
-use Rattle.tn_client.specs.Replies.{end_of_edit_items, new_size_items}
-use Rattle.tn_linemode.specs.Words.{word_items}
+use Rattle.tn_client.specs.{Terms.{mode_at, tells_size}, Replies.{end_of_edit_items, new_size_items}}
 use Rattle.tn_linemode.proofs.lemmas.Cutting.{cut_after_two, front_some, back_some}
 use Rattle.tn_client.proofs.end.ClientEnd.word.Goals as goal
 

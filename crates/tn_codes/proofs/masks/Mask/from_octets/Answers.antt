@@ -1,5 +1,4 @@
-use Rattle.std.proofs.Common.{◌≡◌, ◌++◌, ◌-◌, length, drop, replicate, ℕ, ap}
-use Rattle.std.proofs.lemmas.List.{drop-replicate}
+use Rattle.std.proofs.{Common.{◌≡◌, ◌++◌, ◌-◌, length, drop, replicate, ℕ, ap}, lemmas.List.drop-replicate}
 use Rattle.tn_codes.proofs.masks.Mask.from_octets.Goals as goal
 
 pub returns : goal.returns

@@ -1,5 +1,4 @@
-use Rattle.std.proofs.Common.{refl, sym}
-use Rattle.std.proofs.lemmas.Bool.{eqb-true, eqb-false}
+use Rattle.std.proofs.{Common.{refl, sym}, lemmas.Bool.{eqb-true, eqb-false}}
 use Rattle.tn_decode.proofs.lemmas.Taking.{ends_nothing, ends_held}
 use Rattle.tn_decode.proofs.printer.Lines.end_data.Goals as goal
 

@@ -1,5 +1,4 @@
-use Rattle.std.proofs.Common.{◌≡◌, ◌-◌, length, take, ◌++◌, refl, arith, length-append}
-use Rattle.std.proofs.lemmas.List.{take_all, length-take-le}
+use Rattle.std.proofs.{Common.{◌≡◌, ◌-◌, length, take, ◌++◌, refl, arith, length-append}, lemmas.List.{take_all, length-take-le}}
 use Rattle.tn_decode.proofs.lemmas.Taking.{takes_short, takes_full, ok_gives}
 use Rattle.tn_decode.proofs.printer.Lines.take_data.Goals as goal
 

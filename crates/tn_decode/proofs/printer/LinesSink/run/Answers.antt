@@ -1,5 +1,4 @@
-use Rattle.std.proofs.Common.{◌≡◌, ◌-◌, length, take, drop, ap, arith}
-use Rattle.std.proofs.lemmas.List.{take_all, length-drop}
+use Rattle.std.proofs.{Common.{◌≡◌, ◌-◌, length, take, drop, ap, arith}, lemmas.List.{take_all, length-drop}}
 use Rattle.tn_decode.proofs.lemmas.Taking.{takes_nothing, takes_front, some_of_run}
 use Rattle.tn_decode.proofs.printer.LinesSink.run.Goals as goal
 

@@ -1,8 +1,6 @@
-use Rattle.std.proofs.Common.{◌<◌, length, subst}
-use Rattle.std.proofs.lemmas.Result.{err_from_is_err_and}
+use Rattle.std.proofs.{Common.{◌<◌, length, subst}, lemmas.Result.err_from_is_err_and}
 use Rattle.tn_discipline.specs.Editing.{closing_byte, with_byte}
-use Rattle.tn_discipline.proofs.Acting.{gives_text}
-use Rattle.tn_discipline.proofs.lemmas.Editing.{closing_effect}
+use Rattle.tn_discipline.proofs.{Acting.gives_text, lemmas.Editing.closing_effect}
 use Rattle.tn_discipline.proofs.half_line.Line.close_by.Goals as goal
 
 pub returns-in_err-close-clause-only_a_text : goal.returns-in_err-close-clause-only_a_text

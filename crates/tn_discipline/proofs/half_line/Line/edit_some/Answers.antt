@@ -1,12 +1,6 @@
-use Rattle.std.proofs.Common.{◌≡◌, ◌<◌, ◌≤◌, true, length, take, get_or, sym, ap, ◌∙◌, subst, All, arith}
-use Rattle.std.proofs.lemmas.List.{length-take}
-use Rattle.tn_discipline.specs.Limits.{max_counted}
-use Rattle.tn_discipline.specs.Keys.{role_of_key, gives_entry}
-use Rattle.tn_discipline.specs.HalfLine.{line_length}
-use Rattle.tn_discipline.specs.Editing.{IsQuiet}
-use Rattle.tn_discipline.specs.Runs.{line_after_all, each_role}
-use Rattle.tn_discipline.proofs.lemmas.Runs.{front_kept}
-use Rattle.tn_discipline.proofs.lemmas.Editing.{plain_quiet, plain_each, take_within, first_within}
+use Rattle.std.proofs.{Common.{◌≡◌, ◌<◌, ◌≤◌, true, length, take, get_or, sym, ap, ◌∙◌, subst, All, arith}, lemmas.List.length-take}
+use Rattle.tn_discipline.specs.{Limits.max_counted, Keys.{role_of_key, gives_entry}, HalfLine.line_length, Editing.IsQuiet, Runs.{line_after_all, each_role}}
+use Rattle.tn_discipline.proofs.lemmas.{Runs.front_kept, Editing.{plain_quiet, plain_each, take_within, first_within}}
 use Rattle.tn_discipline.proofs.half_line.Line.edit_some.Goals as goal
 
 pub returns-then-count-ge-LONG_RUN-clause-line : goal.returns-then-count-ge-LONG_RUN-clause-line

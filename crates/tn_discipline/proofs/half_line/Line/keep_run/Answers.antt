@@ -1,8 +1,5 @@
 use Rattle.std.proofs.Common.{◌≡◌, ◌≤◌, [], sym, ◌∙◌, subst, arith}
-use Rattle.tn_discipline.specs.Advancing.{Advances}
-use Rattle.tn_discipline.specs.Limits.{max_counted}
-use Rattle.tn_discipline.specs.HalfLine.{HalfLine, line_length}
-use Rattle.tn_discipline.specs.Runs.{line_after_all, ordinary_roles}
+use Rattle.tn_discipline.specs.{Advancing.Advances, Limits.max_counted, HalfLine.{HalfLine, line_length}, Runs.{line_after_all, ordinary_roles}}
 use Rattle.tn_discipline.proofs.lemmas.Runs.{ordinary_advance, front_kept}
 use Rattle.tn_discipline.proofs.half_line.Line.keep_run.Goals as goal
 

@@ -1,8 +1,5 @@
-use Rattle.std.proofs.Common.{arith, ap, sym, ◌∙◌, ◌+◌, ◌<◌, take, get_or}
-use Rattle.std.proofs.lemmas.List.{take_more}
-use Rattle.std.proofs.lemmas.List.Elements.{All-push}
-use Rattle.tn_discipline.specs.declared.keys.Role.TheVariants.{Ordinary}
-use Rattle.tn_discipline.specs.RolesTable.{IsPlain}
+use Rattle.std.proofs.{Common.{arith, ap, sym, ◌∙◌, ◌+◌, ◌<◌, take, get_or}, lemmas.List.{take_more, Elements.All-push}}
+use Rattle.tn_discipline.specs.{declared.keys.Role.TheVariants.Ordinary, RolesTable.IsPlain}
 use Rattle.tn_discipline.proofs.role_table.Roles.ordinary_front.Goals as goal
 
 pub loop-key-preserved : goal.loop-key-preserved

@@ -1,5 +1,4 @@
-use Rattle.std.proofs.Common.{ℕ, Bool, List, ◌++◌, take, get_or, sym, ap, ◌∙◌}
-use Rattle.std.proofs.lemmas.List.{take_all}
+use Rattle.std.proofs.{Common.{ℕ, Bool, List, ◌++◌, take, get_or, sym, ap, ◌∙◌}, lemmas.List.take_all}
 use Rattle.tn_lines.specs.Files.{byte_said, said_from, ends_in_return}
 use Rattle.tn_lines.proofs.Reading.{said_more, ends_more, reads_all}
 use Rattle.tn_lines.proofs.file_lines.FileLines.take.Goals as goal

@@ -1,13 +1,7 @@
 use Rattle.std.proofs.Common.{◌≡◌, ℕ, true, false, List, [], ◌∷◌, ◌++◌, refl, sym, ap, ◌∙◌, append-nil, append_assoc}
-use Rattle.tn_discipline.specs.HalfLine.{effect_of, effect_entries}
-use Rattle.tn_discipline.specs.Keys.{roles_from}
-use Rattle.tn_discipline.specs.declared.keys.Role.TheVariants.{Kill}
-use Rattle.tn_lines.specs.Shown.{shown_at}
-use Rattle.tn_lines.specs.Steps.{said_at}
-use Rattle.tn_lines.specs.Taken.{interrupts, leaves}
-use Rattle.tn_lines.proofs.Moving.{moves_one, moves_both}
-use Rattle.tn_lines.proofs.Taking.{acts_of-interrupt, acts_of-other}
-use Rattle.tn_lines.proofs.Typing.{types_gone, types_taken}
+use Rattle.tn_discipline.specs.{HalfLine.{effect_of, effect_entries}, Keys.roles_from, declared.keys.Role.TheVariants.Kill}
+use Rattle.tn_lines.specs.{Shown.shown_at, Steps.said_at, Taken.{interrupts, leaves}}
+use Rattle.tn_lines.proofs.{Moving.{moves_one, moves_both}, Taking.{acts_of-interrupt, acts_of-other}, Typing.{types_gone, types_taken}}
 use Rattle.tn_lines.proofs.key_lines.KeyLines.key.Goals as goal
 
 pub returns-then-self : goal.returns-then-self

@@ -1,5 +1,4 @@
-use Rattle.std.proofs.Common.{List, ℕ, subst}
-use Rattle.std.proofs.lemmas.List.{take_all}
+use Rattle.std.proofs.{Common.{List, ℕ, subst}, lemmas.List.take_all}
 use Rattle.tn_lines.specs.Leading.{Types}
 use Rattle.tn_lines.proofs.Typing.{types_none, types_next}
 use Rattle.tn_lines.proofs.key_lines.KeyLines.take.Goals as goal

@@ -1,9 +1,6 @@
-use Rattle.std.proofs.Common.{ℕ, Bool, List, ◌++◌, take, get_or, sym, ap, ◌∙◌}
-use Rattle.std.proofs.lemmas.List.{take_all}
-use Rattle.tn_lines.specs.Edges.{byte_shown, shown_behind}
-use Rattle.tn_lines.specs.Files.{ends_in_return}
-use Rattle.tn_lines.proofs.Reading.{ends_more}
-use Rattle.tn_lines.proofs.Showing.{shown_more, shows_all}
+use Rattle.std.proofs.{Common.{ℕ, Bool, List, ◌++◌, take, get_or, sym, ap, ◌∙◌}, lemmas.List.take_all}
+use Rattle.tn_lines.specs.{Edges.{byte_shown, shown_behind}, Files.ends_in_return}
+use Rattle.tn_lines.proofs.{Reading.ends_more, Showing.{shown_more, shows_all}}
 use Rattle.tn_lines.proofs.left_edge.LeftEdge.take.Goals as goal
 
 pub loop-byte-preserved : goal.loop-byte-preserved

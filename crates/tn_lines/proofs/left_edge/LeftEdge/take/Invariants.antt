@@ -1,6 +1,5 @@
 use Rattle.std.proofs.Common.{◌≡◌, take}
-use Rattle.tn_lines.specs.Edges.{shown_behind}
-use Rattle.tn_lines.specs.Files.{ends_in_return}
+use Rattle.tn_lines.specs.{Edges.shown_behind, Files.ends_in_return}
 use Rattle.tn_lines.proofs.left_edge.LeftEdge.take.Given as goal
 
 -- what is shown of the bytes so far

@@ -1,9 +1,7 @@
-use Rattle.std.proofs.Common.{sym, ◌∙◌}
+use Rattle.std.proofs.{Common.{sym, ◌∙◌}, lemmas.Result.err_from_is_err_and}
 use Rattle.tn_server.specs.Events.{pulled}
 use Rattle.tn_server.proofs.lemmas.Leading.{says_as}
-use Rattle.std.proofs.lemmas.Result.{err_from_is_err_and}
-use Rattle.tn_machines.proofs.of_terminal.Following.{follows_pulled}
-use Rattle.tn_machines.proofs.of_terminal.Refusing.{symbols_wait}
+use Rattle.tn_machines.proofs.of_terminal.{Following.follows_pulled, Refusing.symbols_wait}
 use Rattle.tn_machines.proofs.server.terminal.pull_all.Goals as goal
 
 pub returns-clause-ok : goal.returns-clause-ok

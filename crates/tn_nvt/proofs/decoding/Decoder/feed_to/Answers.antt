@@ -1,7 +1,6 @@
 use Rattle.std.proofs.Common.{◌∙◌}
 use Rattle.tn_nvt.specs.Machine.{progress}
-use Rattle.tn_nvt.proofs.Feeding.{same_state}
-use Rattle.tn_nvt.proofs.Taking.{same_fault, FeedsTo-from_front, StopsAtSink-from_front, StopsForMemory-from_front, wants_nothing}
+use Rattle.tn_nvt.proofs.{Feeding.same_state, Taking.{same_fault, FeedsTo-from_front, StopsAtSink-from_front, StopsForMemory-from_front, wants_nothing}}
 use Rattle.tn_nvt.proofs.decoding.Decoder.feed_to.Goals as goal
 
 pub returns-in-Err-clause-refused : goal.returns-in-Err-clause-refused

@@ -1,10 +1,6 @@
-use Rattle.std.proofs.Common.{◌+◌, [], take, drop, get_or, arith}
-use Rattle.std.proofs.lemmas.List.{take_more}
-use Rattle.tn_nvt.specs.Machine.{Inside, gathered_of}
-use Rattle.tn_nvt.specs.Runs.{LacksMemory}
-use Rattle.tn_nvt.proofs.Feeding.{at_element}
-use Rattle.tn_nvt.proofs.Steps.{StepAdvances-append, inside_plain}
-use Rattle.tn_nvt.proofs.Taking.{on_err}
+use Rattle.std.proofs.{Common.{◌+◌, [], take, drop, get_or, arith}, lemmas.List.take_more}
+use Rattle.tn_nvt.specs.{Machine.{Inside, gathered_of}, Runs.LacksMemory}
+use Rattle.tn_nvt.proofs.{Feeding.at_element, Steps.{StepAdvances-append, inside_plain}, Taking.on_err}
 use Rattle.tn_nvt.proofs.places.Body.keep_front.Goals as goal
 
 pub returns-in_err-keep-clause-err : goal.returns-in_err-keep-clause-err

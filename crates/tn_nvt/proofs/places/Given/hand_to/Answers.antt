@@ -1,5 +1,4 @@
-use Rattle.std.proofs.Common.{[], ◌∷◌}
-use Rattle.std.proofs.lemmas.Result.{on_err_weaker}
+use Rattle.std.proofs.{Common.{[], ◌∷◌}, lemmas.Result.on_err_weaker}
 use Rattle.tn_nvt.specs.declared.items.Item.TheVariants.{Byte}
 use Rattle.tn_nvt.proofs.Taking.{refuses_first, refuses_second, on_err}
 use Rattle.tn_nvt.proofs.places.Given.hand_to.Goals as goal

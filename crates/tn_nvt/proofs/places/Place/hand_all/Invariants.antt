@@ -1,6 +1,5 @@
 use Rattle.std.proofs.Common.{◌≤◌, ◌-◌, length, take, drop}
-use Rattle.tn_nvt.specs.Machine.{progress}
-use Rattle.tn_nvt.specs.Runs.{HandsFront}
+use Rattle.tn_nvt.specs.{Machine.progress, Runs.HandsFront}
 use Rattle.tn_nvt.proofs.places.Place.hand_all.Given as goal
 
 abbrev pub invariant-loop-at : goal.invariant-loop-at

@@ -1,5 +1,4 @@
-use Rattle.tn_nvt.proofs.Feeding.{still}
-use Rattle.tn_nvt.proofs.Taking.{byte_front, byte_stops, byte_wants}
+use Rattle.tn_nvt.proofs.{Feeding.still, Taking.{byte_front, byte_stops, byte_wants}}
 use Rattle.tn_nvt.proofs.places.Place.hand_byte.Goals as goal
 
 pub returns-in_err-next-clause-memory : goal.returns-in_err-next-clause-memory

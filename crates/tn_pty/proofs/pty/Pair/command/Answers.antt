@@ -1,5 +1,4 @@
-use Rattle.std.proofs.Common.{◌≡◌, arith}
-use Rattle.std.proofs.lemmas.Grind.{common_steps}
+use Rattle.std.proofs.{Common.{◌≡◌, arith}, lemmas.Grind.common_steps}
 use Rattle.tn_discipline.specs.HalfLine.{line_after}
 use Rattle.tn_discipline.proofs.lemmas.Lines.{advances}
 use Rattle.tn_pty.specs.Typing.{command_role}

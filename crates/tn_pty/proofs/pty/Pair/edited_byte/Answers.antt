@@ -1,10 +1,6 @@
-use Rattle.std.proofs.Common.{◌≡◌, arith, subst}
-use Rattle.std.proofs.lemmas.Grind.{common_steps}
-use Rattle.tn_discipline.specs.HalfLine.{line_after}
-use Rattle.tn_discipline.specs.Keys.{literal_role}
-use Rattle.tn_discipline.specs.Advancing.{Advances}
-use Rattle.tn_discipline.proofs.lemmas.KeyRoles.{literal_roles}
-use Rattle.tn_discipline.proofs.lemmas.Lines.{advances}
+use Rattle.std.proofs.{Common.{◌≡◌, arith, subst}, lemmas.Grind.common_steps}
+use Rattle.tn_discipline.specs.{HalfLine.line_after, Keys.literal_role, Advancing.Advances}
+use Rattle.tn_discipline.proofs.lemmas.{KeyRoles.literal_roles, Lines.advances}
 use Rattle.tn_pty.specs.Typing.{gain_of}
 use Rattle.tn_pty.proofs.pty.Pair.edited_byte.Goals as goal
 

@@ -1,9 +1,6 @@
 use Rattle.std.proofs.Common.{All, take, ap, subst, ◌∙◌}
 use Rattle.tn_discipline.specs.declared.termios.Settings.{Settings}
-use Rattle.tn_pty.specs.Terminal.{Terminal}
-use Rattle.tn_pty.specs.Typing.{after_all, JoinsEdited}
-use Rattle.tn_pty.specs.Faults.{AcceptsAll}
-use Rattle.tn_pty.specs.declared.pty.Input.TheVariants.{Edited}
+use Rattle.tn_pty.specs.{Terminal.Terminal, Typing.{after_all, JoinsEdited}, Faults.AcceptsAll, declared.pty.Input.TheVariants.Edited}
 use Rattle.tn_pty.proofs.lemmas.Quiet.{joining_quiet, accepts_quiet, after_joining}
 use Rattle.tn_pty.proofs.pty.Pair.keep_edited.Goals as goal
 

@@ -1,5 +1,4 @@
-use Rattle.std.proofs.Common.{◌-◌, length, drop, arith}
-use Rattle.std.proofs.lemmas.List.{length-drop, length-take}
+use Rattle.std.proofs.{Common.{◌-◌, length, drop, arith}, lemmas.List.{length-drop, length-take}}
 use Rattle.tn_pty.proofs.lemmas.Typed.{after_more, accepts_more, stops_more}
 use Rattle.tn_pty.proofs.pty.Pair.take_each.Goals as goal
 

@@ -1,6 +1,5 @@
 use Rattle.std.proofs.Common.{◌≡◌, ◌≤◌, ◌-◌, length, take}
-use Rattle.tn_pty.specs.Typing.{after_all}
-use Rattle.tn_pty.specs.Faults.{AcceptsAll}
+use Rattle.tn_pty.specs.{Typing.after_all, Faults.AcceptsAll}
 use Rattle.tn_pty.proofs.pty.Pair.take_each.Given as goal
 
 -- the bytes so far were taken

@@ -1,13 +1,9 @@
 use Rattle.std.proofs.Common.{◌≡◌, List, Bool, true, false, ◌&&◌, ◌-◌, length, map, take, drop, refl, sym, ap, subst, ◌∙◌}
-use Rattle.tn_discipline.specs.declared.termios.Settings.{Settings}
-use Rattle.tn_discipline.specs.declared.echo.Symbol.{Symbol}
-use Rattle.tn_discipline.specs.declared.echo.Symbol.TheVariants.{Byte}
-use Rattle.tn_pty.specs.Terminal.{Terminal, queue_with_each}
-use Rattle.tn_pty.specs.Typing.{after_all}
-use Rattle.tn_pty.specs.declared.pty.Input.TheVariants.{Keys}
+use Rattle.tn_discipline.specs.declared.{termios.Settings.Settings, echo.Symbol.{Symbol, TheVariants.Byte}}
+use Rattle.tn_pty.specs.{Terminal.{Terminal, queue_with_each}, Typing.after_all, declared.pty.Input.TheVariants.Keys}
 use Rattle.tn_pty.proofs.lemmas.Typed.{ArePlain, left_of, typed_shown}
-use Rattle.tn_pty.proofs.pty.Pair.type_plain.Goals as goal
 use Rattle.tn_pty.proofs.pty.Pair.type_plain.Goals.{else-echo-via-then-echo+else-settings, else-echo-via-else-echo}
+use Rattle.tn_pty.proofs.pty.Pair.type_plain.Goals as goal
 
 pub returns-then-settings : goal.returns-then-settings
 returns-then-settings c =

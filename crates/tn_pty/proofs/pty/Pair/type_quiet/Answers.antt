@@ -1,12 +1,7 @@
 use Rattle.std.proofs.Common.{◌≡◌, ◌&&◌, false, All, take, refl, sym, ap, subst, ◌∙◌}
-use Rattle.tn_discipline.specs.Editing.{IsQuiet}
-use Rattle.tn_discipline.specs.Runs.{line_after_all, each_role}
-use Rattle.tn_pty.specs.Terminal.{Terminal}
-use Rattle.tn_pty.specs.Typing.{after_all}
-use Rattle.tn_pty.specs.Faults.{AcceptsAll}
-use Rattle.tn_pty.specs.declared.pty.Input.TheVariants.{Keys}
-use Rattle.tn_pty.proofs.lemmas.Typed.{accepts_plain, same_parts}
-use Rattle.tn_pty.proofs.lemmas.Quiet.{after_hidden, accepts_quiet}
+use Rattle.tn_discipline.specs.{Editing.IsQuiet, Runs.{line_after_all, each_role}}
+use Rattle.tn_pty.specs.{Terminal.Terminal, Typing.after_all, Faults.AcceptsAll, declared.pty.Input.TheVariants.Keys}
+use Rattle.tn_pty.proofs.lemmas.{Typed.{accepts_plain, same_parts}, Quiet.{after_hidden, accepts_quiet}}
 use Rattle.tn_pty.proofs.pty.Pair.type_quiet.Goals as goal
 
 pub returns-then-shows-clause-accepted : goal.returns-then-shows-clause-accepted

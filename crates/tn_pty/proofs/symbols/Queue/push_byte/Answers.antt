@@ -2,8 +2,7 @@ use Rattle.std.proofs.Common.{◌≡◌, ◌<◌, ℕ, Bool, List, [], ◌∷◌
 use Rattle.circular_buffer.specs.Buffer.{Buffer, buffer}
 use Rattle.tn_discipline.specs.declared.echo.Symbol.{Symbol}
 use Rattle.tn_pty.specs.Runs.{shown_byte, feeds, marked_symbols}
-use Rattle.tn_pty.proofs.Marked.{length-marked, feeds-le, marked_other, feed_count, feed_marked, other_count, pushed}
-use Rattle.tn_pty.proofs.Queues.{one_fits, none_fits}
+use Rattle.tn_pty.proofs.{Marked.{length-marked, feeds-le, marked_other, feed_count, feed_marked, other_count, pushed}, Queues.{one_fits, none_fits}}
 use Rattle.tn_pty.proofs.symbols.Queue.push_byte.Goals as goal
 
 pub returns-then-len-ge-QUEUE_SYMBOLS : goal.returns-then-len-ge-QUEUE_SYMBOLS

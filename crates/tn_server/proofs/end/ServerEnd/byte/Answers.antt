@@ -1,7 +1,6 @@
 use Rattle.std.proofs.Common.{◌≡◌, false, IfErr, subst}
 use Rattle.tn_linemode.specs.Modes.{edits}
-use Rattle.tn_server.specs.Calls.{End}
-use Rattle.tn_server.specs.Steps.{IsKeyCause, role_of_typed}
+use Rattle.tn_server.specs.{Calls.End, Steps.{IsKeyCause, role_of_typed}}
 use Rattle.tn_server.proofs.Running.{refused_key}
 use Rattle.tn_server.proofs.end.ServerEnd.byte.Goals as goal
 

@@ -2,11 +2,7 @@ use Rattle.std.proofs.Common.{◌≡◌, true, false, Bool, OnOk, IfErr, map, re
 use Rattle.tn_linemode.specs.Modes.{edits}
 use Rattle.tn_nvt.specs.declared.items.Item.TheVariants.{Byte}
 use Rattle.tn_pty.specs.declared.pty.Input.TheVariants.{Keys, Edited}
-use Rattle.tn_server.specs.Calls.{End}
-use Rattle.tn_server.specs.Lending.{RefusesByte}
-use Rattle.tn_server.specs.Steps.{end_after_items}
-use Rattle.tn_server.specs.Terms.{echoes}
-use Rattle.tn_server.specs.declared.faults.ServerFault.TheVariants.{Pty}
+use Rattle.tn_server.specs.{Calls.End, Lending.RefusesByte, Steps.end_after_items, Terms.echoes, declared.faults.ServerFault.TheVariants.Pty}
 use Rattle.tn_server.proofs.Running.{input_of, input_at, run_done, run_stops}
 use Rattle.tn_server.proofs.end.ServerEnd.bytes.Goals as goal
 

@@ -1,6 +1,4 @@
-use Rattle.std.proofs.Common.{sym, ◌∙◌, arith}
-use Rattle.std.proofs.lemmas.Grind.{common_steps}
-use Rattle.std.proofs.lemmas.Result.{err_from_is_err_and}
+use Rattle.std.proofs.{Common.{sym, ◌∙◌, arith}, lemmas.{Grind.common_steps, Result.err_from_is_err_and}}
 use Rattle.tn_linemode.specs.Exchange.{server_answers, server_next, server_answer}
 use Rattle.tn_linemode.proofs.lemmas.Listing.{answers_few, answered_some, wanted_some}
 use Rattle.tn_server.proofs.Listing.{asked_some}

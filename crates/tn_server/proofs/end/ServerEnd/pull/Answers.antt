@@ -1,5 +1,4 @@
-use Rattle.std.proofs.Common.{rules, ℕ, min, sym, ap, ◌∙◌}
-use Rattle.std.proofs.lemmas.Result.{err_from_is_err_and}
+use Rattle.std.proofs.{Common.{rules, ℕ, min, sym, ap, ◌∙◌}, lemmas.Result.err_from_is_err_and}
 use Rattle.tn_server.proofs.Calling.{pulled_none}
 use Rattle.tn_server.proofs.end.ServerEnd.pull.Goals as goal
 

@@ -1,12 +1,8 @@
-use Rattle.std.proofs.Common.{◌≡◌, Bool, ◌&&◌, not, ◌++◌, Option, option_map, ap, ◌∙◌, arith}
-use Rattle.std.proofs.lemmas.Grind.{common_steps}
-use Rattle.tn_discipline.specs.Characters.{slot}
-use Rattle.tn_discipline.specs.declared.characters.CharFault.{CharFault}
+use Rattle.std.proofs.{Common.{◌≡◌, Bool, ◌&&◌, not, ◌++◌, Option, option_map, ap, ◌∙◌, arith}, lemmas.Grind.common_steps}
+use Rattle.tn_discipline.specs.{Characters.slot, declared.characters.CharFault.CharFault}
 use Rattle.tn_linemode.specs.Exchange.{is_same_value}
 use Rattle.tn_nvt.specs.Spelling.{spells}
-use Rattle.tn_server.specs.Replies.{triple_items}
-use Rattle.tn_server.specs.Terms.{linemode}
-use Rattle.tn_server.specs.declared.faults.ServerFault.TheVariants.{Char}
+use Rattle.tn_server.specs.{Replies.triple_items, Terms.linemode, declared.faults.ServerFault.TheVariants.Char}
 use Rattle.tn_server.proofs.end.ServerEnd.set_char.Goals as goal
 use Rattle.tn_server.proofs.end.ServerEnd.set_char.Goals.{then-has_linemode, else-has_linemode}
 

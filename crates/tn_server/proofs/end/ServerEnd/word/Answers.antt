@@ -1,9 +1,7 @@
-use Rattle.std.proofs.Common.{refl, false}
-use Rattle.std.proofs.lemmas.Result.{err_from_is_err_and}
+use Rattle.std.proofs.{Common.{refl, false}, lemmas.Result.err_from_is_err_and}
 use Rattle.tn_option.specs.Options.{reply_to, options_after_word}
-use Rattle.tn_server.specs.Terms.{linemode}
+use Rattle.tn_server.specs.{Terms.linemode, Steps.negotiation_items}
 use Rattle.tn_linemode.specs.Words.{word_items}
-use Rattle.tn_server.specs.Steps.{negotiation_items}
 use Rattle.tn_linemode.proofs.lemmas.Cutting.{cut_after_one, spelled_on}
 use Rattle.tn_server.proofs.end.ServerEnd.word.Goals as goal
 

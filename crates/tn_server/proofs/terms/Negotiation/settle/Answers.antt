@@ -1,10 +1,6 @@
-use Rattle.std.proofs.Common.{◌≡◌, ◌++◌, refl, arith}
-use Rattle.std.proofs.lemmas.Grind.{common_steps}
-use Rattle.std.proofs.lemmas.Result.{err_from_is_err_and}
-use Rattle.tn_server.specs.Terms.{linemode, wants_echo}
-use Rattle.tn_server.specs.Replies.{new_table_items, echo_items}
+use Rattle.std.proofs.{Common.{◌≡◌, ◌++◌, refl, arith}, lemmas.{Grind.common_steps, Result.err_from_is_err_and}}
+use Rattle.tn_server.specs.{Terms.{linemode, wants_echo}, Replies.{new_table_items, echo_items}, Steps.{told_now, masks_by, is_due}}
 use Rattle.tn_linemode.specs.Words.{mode_items}
-use Rattle.tn_server.specs.Steps.{told_now, masks_by, is_due}
 use Rattle.tn_linemode.proofs.lemmas.Cutting.{cut_after_two, spelled_on}
 use Rattle.tn_server.proofs.terms.Negotiation.settle.Goals as goal
 

@@ -1,7 +1,5 @@
-use Rattle.std.proofs.Common.{◌++◌, ◌∷◌, [], List, Result, Ok, Err, OnErr, ap, append_assoc, refl, sym, ◌∙◌}
-use Rattle.std.proofs.lemmas.Fn.{FoldsTo-push}
-use Rattle.tn_two_sessions.specs.OneLoop.{Happens}
-use Rattle.tn_two_sessions.specs.declared.one_loop.LoopEvent.{LoopEvent}
+use Rattle.std.proofs.{Common.{◌++◌, ◌∷◌, [], List, Result, Ok, Err, OnErr, ap, append_assoc, refl, sym, ◌∙◌}, lemmas.Fn.FoldsTo-push}
+use Rattle.tn_two_sessions.specs.{OneLoop.Happens, declared.one_loop.LoopEvent.LoopEvent}
 use Rattle.tn_two_sessions.proofs.one_loop.Joined.run.Goals as goal
 
 pub loop-event-init : goal.loop-event-init

@@ -1,9 +1,8 @@
 use Rattle.std.proofs.Common.{sym, subst, ◌∙◌, ◌≡◌}
 use Rattle.tn_world.specs.Worlds.{World}
-use Rattle.tn_world.proofs.Resting.{chars_other, chars_same, refuted}
-use Rattle.tn_world.proofs.world.World.is_agreed.Goals as goal
-use Rattle.tn_world.proofs.world.World.is_agreed.Goals.{then-not-is_linemode_agreed-via-then-not-is_linemode_agreed}
+use Rattle.tn_world.proofs.{Resting.{chars_other, chars_same, refuted}, world.World.is_agreed.Goals.then-not-is_linemode_agreed-via-then-not-is_linemode_agreed}
 use Rattle.tn_world.proofs.world.World.is_agreed.Goals.{then-not-is_linemode_agreed-via-else-not-is_linemode_agreed+then-not-are_masks_agreed}
+use Rattle.tn_world.proofs.world.World.is_agreed.Goals as goal
 
 pub returns-then-is_server_steady : goal.returns-then-is_server_steady
 returns-then-is_server_steady c =

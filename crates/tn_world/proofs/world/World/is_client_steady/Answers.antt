@@ -1,6 +1,5 @@
 use Rattle.std.proofs.Common.{subst, ◌≡◌, ◌↔◌, true}
-use Rattle.tn_world.specs.Headline.{IsSteady}
-use Rattle.tn_world.specs.Worlds.{World}
+use Rattle.tn_world.specs.{Headline.IsSteady, Worlds.World}
 use Rattle.tn_world.proofs.Resting.{same_states, steady_where}
 use Rattle.tn_world.proofs.world.World.is_client_steady.Goals as goal
 

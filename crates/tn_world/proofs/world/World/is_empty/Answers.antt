@@ -1,8 +1,7 @@
 use Rattle.std.proofs.Common.{ap, sym, subst, ◌∙◌}
 use Rattle.tn_discipline.specs.HalfLine.{HalfLine}
 use Rattle.tn_server.proofs.lemmas.Ends.{line_is}
-use Rattle.tn_world.specs.Headline.{IsUncounted, IsEmpty}
-use Rattle.tn_world.specs.Worlds.{World}
+use Rattle.tn_world.specs.{Headline.{IsUncounted, IsEmpty}, Worlds.World}
 use Rattle.tn_world.proofs.Resting.{empty_where}
 use Rattle.tn_world.proofs.world.World.is_empty.Goals as goal
 

@@ -1,9 +1,7 @@
 use Rattle.std.proofs.Common.{ap, sym, subst, ◌∙◌, ◌≡◌, ◌↔◌, true}
-use Rattle.tn_option.specs.Options.{state_of}
-use Rattle.tn_option.specs.declared.q_method.Side.TheVariants.{Us, Them}
+use Rattle.tn_option.specs.{Options.state_of, declared.q_method.Side.TheVariants.{Us, Them}}
 use Rattle.tn_server.specs.Terms.{Terms}
-use Rattle.tn_world.specs.Headline.{IsSteady}
-use Rattle.tn_world.specs.Worlds.{World}
+use Rattle.tn_world.specs.{Headline.IsSteady, Worlds.World}
 use Rattle.tn_world.proofs.Resting.{same_states, steady_where}
 use Rattle.tn_world.proofs.world.World.is_server_steady.Goals as goal
 

@@ -1,6 +1,5 @@
 use Rattle.std.proofs.Common.{refl}
-use Rattle.tn_world.proofs.Promise.{marked}
-use Rattle.tn_world.proofs.Soundness.{sound_as}
+use Rattle.tn_world.proofs.{Promise.marked, Soundness.sound_as}
 use Rattle.tn_world.proofs.world.World.mark.Goals as goal
 
 pub invariant_of-self : goal.invariant_of-self

@@ -1,5 +1,4 @@
-use Rattle.std.proofs.Common.{Err, ap}
-use Rattle.std.proofs.lemmas.Result.{err_from_is_err_and}
+use Rattle.std.proofs.{Common.{Err, ap}, lemmas.Result.err_from_is_err_and}
 use Rattle.tn_client.proofs.lemmas.Wanting.{enters_or_shows}
 use Rattle.tn_client.specs.Events.{entered}
 use Rattle.tn_world.proofs.Bodies.{key_sound, key_refused}

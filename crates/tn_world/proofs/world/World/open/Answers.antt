@@ -1,9 +1,7 @@
 use Rattle.std.proofs.Common.{ap, ◌∙◌, ◌++◌}
 use Rattle.tn_nvt.specs.Spelling.{spells}
 use Rattle.tn_server.specs.Replies.{opening}
-use Rattle.tn_world.proofs.Bodies.{open_sound, opened_world}
-use Rattle.tn_world.proofs.Promise.{just_opened}
-use Rattle.tn_world.proofs.Showing.{opened_output}
+use Rattle.tn_world.proofs.{Bodies.{open_sound, opened_world}, Promise.just_opened, Showing.opened_output}
 use Rattle.tn_world.proofs.world.World.open.Goals as goal
 
 pub invariant_of-result : goal.invariant_of-result

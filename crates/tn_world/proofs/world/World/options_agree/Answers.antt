@@ -1,6 +1,5 @@
 use Rattle.std.proofs.Common.{subst}
-use Rattle.tn_world.specs.Past.{HasPast}
-use Rattle.tn_world.specs.Worlds.{World}
+use Rattle.tn_world.specs.{Past.HasPast, Worlds.World}
 use Rattle.tn_world.proofs.AtRest.{agree_at_rest}
 use Rattle.tn_world.proofs.world.World.options_agree.Goals as goal
 

@@ -1,6 +1,5 @@
 use Rattle.std.proofs.Common.{ap, ◌∙◌, Err}
-use Rattle.tn_world.proofs.Bodies.{reaches_sound}
-use Rattle.tn_world.proofs.Soundness.{halts_sound}
+use Rattle.tn_world.proofs.{Bodies.reaches_sound, Soundness.halts_sound}
 use Rattle.tn_world.proofs.world.World.part_reaches_server.Goals as goal
 
 pub invariant_of-self-2 : goal.invariant_of-self-2

@@ -1,9 +1,7 @@
-use Rattle.std.proofs.Common.{◌≡◌, ◌≤◌, length, take, drop, sym, ap, ◌∙◌, Err, arith}
-use Rattle.std.proofs.lemmas.List.{take_all, drop_all}
-use Rattle.tn_world.proofs.Bodies.{returns_sound, breaks_or_again}
-use Rattle.tn_world.proofs.Delivering.{client_refuses, if_err, never_err, never_ok, on_ok, to_client}
-use Rattle.tn_world.proofs.world.World.reach_client.Goals as goal
+use Rattle.std.proofs.{Common.{◌≡◌, ◌≤◌, length, take, drop, sym, ap, ◌∙◌, Err, arith}, lemmas.List.{take_all, drop_all}}
+use Rattle.tn_world.proofs.{Bodies.{returns_sound, breaks_or_again}, Delivering.{client_refuses, if_err, never_err, never_ok, on_ok, to_client}}
 use Rattle.tn_world.proofs.world.World.reach_client.Goals.{in-Ok, in-Err}
+use Rattle.tn_world.proofs.world.World.reach_client.Goals as goal
 
 -- all of the flight is fed, and nothing is left of it
 all : (c : goal.Joined-fed) → length c.self.inside.to_client.items ≤ c.args.count

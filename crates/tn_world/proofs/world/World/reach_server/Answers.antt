@@ -1,10 +1,7 @@
-use Rattle.std.proofs.Common.{◌≡◌, ◌≤◌, length, take, drop, sym, ap, ◌∙◌, Err, arith}
-use Rattle.std.proofs.lemmas.List.{take_all, drop_all}
-use Rattle.tn_world.proofs.Bodies.{reaches_sound}
-use Rattle.tn_world.proofs.Delivering.{if_err, never_err, never_ok, on_ok, server_refuses, to_server}
-use Rattle.tn_world.proofs.Soundness.{halts_sound}
-use Rattle.tn_world.proofs.world.World.reach_server.Goals as goal
+use Rattle.std.proofs.{Common.{◌≡◌, ◌≤◌, length, take, drop, sym, ap, ◌∙◌, Err, arith}, lemmas.List.{take_all, drop_all}}
+use Rattle.tn_world.proofs.{Bodies.reaches_sound, Delivering.{if_err, never_err, never_ok, on_ok, server_refuses, to_server}, Soundness.halts_sound}
 use Rattle.tn_world.proofs.world.World.reach_server.Goals.{in-Ok, in-Err}
+use Rattle.tn_world.proofs.world.World.reach_server.Goals as goal
 
 -- all of the flight is fed, and nothing is left of it
 all : (c : goal.Joined-fed) → length c.self.inside.to_server.items ≤ c.args.count

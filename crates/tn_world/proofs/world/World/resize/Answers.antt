@@ -1,5 +1,4 @@
-use Rattle.std.proofs.Common.{Err, ap}
-use Rattle.std.proofs.lemmas.Result.{err_from_is_err_and}
+use Rattle.std.proofs.{Common.{Err, ap}, lemmas.Result.err_from_is_err_and}
 use Rattle.tn_client.proofs.lemmas.Wanting.{says_something}
 use Rattle.tn_client.specs.Events as client_calls
 use Rattle.tn_world.proofs.Bodies.{tells_sound, resize_refused}

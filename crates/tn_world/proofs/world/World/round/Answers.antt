@@ -1,6 +1,5 @@
 use Rattle.std.proofs.Common.{◌≡◌, ℕ, length, inl, inr, refl, ap, ◌∙◌, subst}
-use Rattle.tn_world.specs.Worlds.{World, Refuses, RunsEvent}
-use Rattle.tn_world.specs.declared.events.Event.TheVariants.{ToServer, ToClient}
+use Rattle.tn_world.specs.{Worlds.{World, Refuses, RunsEvent}, declared.events.Event.TheVariants.{ToServer, ToClient}}
 use Rattle.tn_world.proofs.world.World.round.Goals as goal
 
 pub returns-in-Ok-reach_server-clause-done : goal.returns-in-Ok-reach_server-clause-done

@@ -1,9 +1,6 @@
 use Rattle.std.proofs.Common.{refl, subst}
-use Rattle.tn_world.proofs.Promise.{runs_more, runs_whole, runs_stop, run_follows, end_follows, headline}
-use Rattle.tn_world.proofs.Showing.{runs_grow, ends_grow}
-use Rattle.tn_world.proofs.TooFar.{shows_cause}
-use Rattle.tn_world.specs.Past.{HasPast}
-use Rattle.tn_world.specs.Worlds.{World}
+use Rattle.tn_world.proofs.{Promise.{runs_more, runs_whole, runs_stop, run_follows, end_follows, headline}, Showing.{runs_grow, ends_grow}, TooFar.shows_cause}
+use Rattle.tn_world.specs.{Past.HasPast, Worlds.World}
 use Rattle.tn_world.proofs.world.World.run.Goals as goal
 
 pub loop-at-init : goal.loop-at-init

@@ -1,5 +1,4 @@
-use Rattle.std.proofs.Common.{Err, ap}
-use Rattle.std.proofs.lemmas.Result.{err_from_is_err_and}
+use Rattle.std.proofs.{Common.{Err, ap}, lemmas.Result.err_from_is_err_and}
 use Rattle.tn_server.specs.Events as server_calls
 use Rattle.tn_world.proofs.Bodies.{asks_sound, asks_refused}
 use Rattle.tn_world.proofs.world.World.set_char.Goals as goal

@@ -1,9 +1,7 @@
 use Rattle.std.proofs.Common.{◌≡◌, true, false, refl, subst}
-use Rattle.tn_world.proofs.Promise.{headline}
+use Rattle.tn_world.proofs.{Promise.headline, SettledOutput.{settles_output, stays_output, stops_output}}
 use Rattle.tn_world.proofs.Settled.{both_rounds, first_stops, one_round, second_stops, settles_follow, settles_rest, stops_cause, stops_follow}
-use Rattle.tn_world.proofs.SettledOutput.{settles_output, stays_output, stops_output}
-use Rattle.tn_world.specs.Past.{HasPast}
-use Rattle.tn_world.specs.Worlds.{World}
+use Rattle.tn_world.specs.{Past.HasPast, Worlds.World}
 use Rattle.tn_world.proofs.world.World.settle.Goals as goal
 
 pub returns-then-is_flight_empty-clause-headline : goal.returns-then-is_flight_empty-clause-headline

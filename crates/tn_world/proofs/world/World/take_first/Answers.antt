@@ -1,9 +1,7 @@
-use Rattle.std.proofs.Common.{[], ◌∷◌, ◌++◌, List, Option, ap, ◌∙◌, sym, append-nil}
-use Rattle.std.proofs.lemmas.Result.{err_from_is_err_and}
+use Rattle.std.proofs.{Common.{[], ◌∷◌, ◌++◌, List, Option, ap, ◌∙◌, sym, append-nil}, lemmas.Result.err_from_is_err_and}
 use Rattle.std.specs.Prelude.{option_to_list}
 use Rattle.tn_discipline.specs.declared.reads.Entry.{Entry}
-use Rattle.tn_world.proofs.Bodies.{takes_sound}
-use Rattle.tn_world.proofs.Taking.{take_refused, take_wants, takes_entry}
+use Rattle.tn_world.proofs.{Bodies.takes_sound, Taking.{take_refused, take_wants, takes_entry}}
 use Rattle.tn_world.proofs.world.World.take_first.Goals as goal
 
 pub invariant_of-self-in-Some : goal.invariant_of-self-in-Some

@@ -1,7 +1,5 @@
-use Rattle.std.proofs.Common.{refl}
-use Rattle.std.proofs.lemmas.Result.{err_from_is_err_and}
-use Rattle.tn_world.proofs.Bodies.{takes_sound}
-use Rattle.tn_world.proofs.Taking.{take_refused, takes_none}
+use Rattle.std.proofs.{Common.refl, lemmas.Result.err_from_is_err_and}
+use Rattle.tn_world.proofs.{Bodies.takes_sound, Taking.{take_refused, takes_none}}
 use Rattle.tn_world.proofs.world.World.take_none.Goals as goal
 
 pub invariant_of-self-2 : goal.invariant_of-self-2

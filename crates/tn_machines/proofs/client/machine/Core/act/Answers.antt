@@ -1,9 +1,6 @@
 use Rattle.std.proofs.Common.{◌≡◌, true, ℕ, List, OnOk, OnErr, sym, subst}
 use Rattle.tn_machines.proofs.of_core.Doing.{does_step, stays_closed, is_plain, shows_ok, shows_err}
-use Rattle.tn_machines.specs.declared.client.machine.Core.{Core}
-use Rattle.tn_machines.specs.client.Reaching.{DoesWhole, StopsWithin}
-use Rattle.tn_machines.specs.declared.messages.Message.{Message}
-use Rattle.tn_machines.specs.declared.messages.Message.TheVariants.{Resized}
+use Rattle.tn_machines.specs.{declared.{client.machine.Core.Core, messages.Message.{Message, TheVariants.Resized}}, client.Reaching.{DoesWhole, StopsWithin}}
 use Rattle.tn_machines.proofs.client.machine.Core.act.Goals as goal
 
 pub returns-in-Resized-clause-ok : goal.returns-in-Resized-clause-ok

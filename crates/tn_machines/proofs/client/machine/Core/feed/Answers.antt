@@ -1,8 +1,5 @@
-use Rattle.std.proofs.Common.{ap, Err, ◌<◌}
-use Rattle.std.proofs.lemmas.List.Elements.{All-from_get_or}
-use Rattle.std.proofs.lemmas.Result.{err_from_is_err_and}
-use Rattle.tn_machines.proofs.of_core.Doing.{does_feed, feed_stops}
-use Rattle.tn_machines.proofs.of_core.Refusing.{feed_cause}
+use Rattle.std.proofs.{Common.{ap, Err, ◌<◌}, lemmas.{List.Elements.All-from_get_or, Result.err_from_is_err_and}}
+use Rattle.tn_machines.proofs.of_core.{Doing.{does_feed, feed_stops}, Refusing.feed_cause}
 use Rattle.tn_machines.specs.declared.client.progress.ClientProgress.{ClientProgress}
 use Rattle.tn_machines.proofs.client.machine.Core.feed.Goals as goal
 

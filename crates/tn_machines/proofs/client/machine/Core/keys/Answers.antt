@@ -1,12 +1,7 @@
-use Rattle.std.proofs.Common.{ℕ, List, Err, drop, get_or, sym, ap, subst, take-append-drop}
-use Rattle.std.proofs.lemmas.List.{take_all, take_more}
-use Rattle.std.proofs.lemmas.Result.{err_from_is_err_and}
+use Rattle.std.proofs.{Common.{ℕ, List, Err, drop, get_or, sym, ap, subst, take-append-drop}, lemmas.{List.{take_all, take_more}, Result.err_from_is_err_and}}
 use Rattle.tn_client.proofs.lemmas.Wanting.{says_or_shows}
-use Rattle.tn_machines.proofs.of_core.Doing.{does_keys, stops_keys}
-use Rattle.tn_machines.proofs.of_core.Refusing.{key_cause}
-use Rattle.tn_machines.proofs.of_core.Typing.{types_none, types_more, types_kept}
-use Rattle.tn_machines.specs.client.Reaching.{TypesAll}
-use Rattle.tn_machines.specs.declared.client.progress.ClientProgress.{ClientProgress}
+use Rattle.tn_machines.proofs.of_core.{Doing.{does_keys, stops_keys}, Refusing.key_cause, Typing.{types_none, types_more, types_kept}}
+use Rattle.tn_machines.specs.{client.Reaching.TypesAll, declared.client.progress.ClientProgress.ClientProgress}
 use Rattle.tn_machines.proofs.client.machine.Core.keys.Goals as goal
 
 pub loop-key-init : goal.loop-key-init

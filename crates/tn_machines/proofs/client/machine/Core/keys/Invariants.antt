@@ -1,6 +1,5 @@
 use Rattle.std.proofs.Common.{◌≡◌, take}
-use Rattle.tn_machines.specs.client.Counting.{after_piece}
-use Rattle.tn_machines.specs.client.Reaching.{TypesAll}
+use Rattle.tn_machines.specs.client.{Counting.after_piece, Reaching.TypesAll}
 use Rattle.tn_machines.proofs.client.machine.Core.keys.Given as goal
 
 -- the keys so far were typed

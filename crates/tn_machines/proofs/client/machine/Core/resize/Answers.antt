@@ -1,9 +1,7 @@
-use Rattle.std.proofs.Common.{refl, ap, Err}
-use Rattle.std.proofs.lemmas.Result.{err_from_is_err_and}
+use Rattle.std.proofs.{Common.{refl, ap, Err}, lemmas.Result.err_from_is_err_and}
 use Rattle.tn_client.proofs.lemmas.Wanting.{says_something}
 use Rattle.tn_client.specs.Events.{resized}
-use Rattle.tn_machines.proofs.of_core.Doing.{does_resize, stops_resize}
-use Rattle.tn_machines.proofs.of_core.Refusing.{resize_cause}
+use Rattle.tn_machines.proofs.of_core.{Doing.{does_resize, stops_resize}, Refusing.resize_cause}
 use Rattle.tn_machines.proofs.client.machine.Core.resize.Goals as goal
 
 pub returns-clause-ok : goal.returns-clause-ok

@@ -1,12 +1,8 @@
-use Rattle.std.proofs.Common.{◌≡◌, ◌++◌, Option, Some, None, refl, sym, ap, ◌∙◌, subst, append-nil}
-use Rattle.std.proofs.lemmas.Result.{err_from_is_err_and}
-use Rattle.tn_client.specs.Calls.{End}
-use Rattle.tn_client.specs.Steps.{end_after, says, displays}
+use Rattle.std.proofs.{Common.{◌≡◌, ◌++◌, Option, Some, None, refl, sym, ◌∙◌, subst, append-nil}, lemmas.Result.err_from_is_err_and}
+use Rattle.tn_client.specs.{Steps.{end_after, says, displays}, declared.commands.UserCommand.UserCommand}
 use Rattle.tn_nvt.specs.Spelling.{spells}
-use Rattle.tn_client.specs.declared.commands.UserCommand.{UserCommand}
 use Rattle.tn_machines.specs.client.Commands.{command_of, event_by}
-use Rattle.tn_machines.proofs.of_core.Doing.{does_send, stops_send}
-use Rattle.tn_machines.proofs.of_core.Refusing.{send_cause}
+use Rattle.tn_machines.proofs.of_core.{Doing.{does_send, stops_send}, Refusing.send_cause}
 use Rattle.tn_machines.proofs.client.machine.Core.send.Goals as goal
 
 pub returns-in_ok-send-in-Some-clause-ok : goal.returns-in_ok-send-in-Some-clause-ok

@@ -1,16 +1,10 @@
 use Rattle.std.proofs.Common.{ℕ, List, [], IfErr, refl, subst}
-use Rattle.tn_machines.specs.declared.messages.Message.TheVariants.{HangUp, ReadFailed, Left, Resized, Asked}
-use Rattle.tn_machines.specs.declared.faults.Ended.TheVariants.{Fault}
+use Rattle.tn_machines.specs.declared.{messages.Message.TheVariants.{HangUp, ReadFailed, Left, Resized, Asked, Said, Refused}, faults.Ended.TheVariants.Fault}
+use Rattle.tn_machines.specs.{server.{Reaching.RefusesFor, Run.{hang_up, ends_by}}, declared.server.messages.Put.TheVariants.Nothing}
 use Rattle.tn_machines.specs.declared.faults.SessionFault.TheVariants as fault
-use Rattle.tn_machines.specs.declared.messages.Message.TheVariants.{Said, Refused}
-use Rattle.tn_machines.specs.server.Reaching.{RefusesFor}
-use Rattle.tn_machines.specs.server.Run.{hang_up, ends_by}
-use Rattle.tn_machines.proofs.of_terminal.Doing.{does_nothing, does_then}
-use Rattle.tn_machines.proofs.of_terminal.Refusing.{take_cause, said_cause, quiet_cause}
-use Rattle.tn_machines.specs.declared.server.messages.Put.TheVariants.{Nothing}
+use Rattle.tn_machines.proofs.of_terminal.{Doing.{does_nothing, does_then}, Refusing.{take_cause, said_cause, quiet_cause}}
 use Rattle.tn_machines.proofs.of_terminal.Handling.{with_ok, with_stuck, handled_hang_up, handled_fault, handled_left, handled_resized, handled_asked}
-use Rattle.tn_machines.proofs.of_terminal.Handling.{stops_hang_up}
-use Rattle.tn_machines.proofs.of_terminal.Handling.{stops_fault, stops_left, stops_resized, stops_asked}
+use Rattle.tn_machines.proofs.of_terminal.Handling.{stops_hang_up, stops_fault, stops_left, stops_resized, stops_asked}
 use Rattle.tn_machines.proofs.server.terminal.Term.act.Goals as goal
 
 pub returns-in-HangUp-clause-ok : goal.returns-in-HangUp-clause-ok

@@ -1,8 +1,6 @@
 use Rattle.std.proofs.Common.{ap, ◌∙◌, None}
 use Rattle.tn_jobs.specs.Jobs.{Jobs, with_state}
-use Rattle.tn_machines.specs.server.Counting.{after_end}
-use Rattle.tn_machines.specs.declared.server.progress.ServerProgress.{ServerProgress}
-use Rattle.tn_machines.specs.declared.faults.Ended.TheVariants.{Done}
+use Rattle.tn_machines.specs.{server.Counting.after_end, declared.{server.progress.ServerProgress.ServerProgress, faults.Ended.TheVariants.Done}}
 use Rattle.tn_machines.proofs.of_terminal.Doing.{does_turn}
 use Rattle.tn_machines.proofs.server.terminal.Term.end.Goals as goal
 

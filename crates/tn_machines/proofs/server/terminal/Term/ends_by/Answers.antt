@@ -1,6 +1,5 @@
 use Rattle.std.proofs.Common.{ap}
-use Rattle.tn_machines.specs.server.Counting.{after_end}
-use Rattle.tn_machines.specs.declared.server.progress.ServerProgress.{ServerProgress}
+use Rattle.tn_machines.specs.{server.Counting.after_end, declared.server.progress.ServerProgress.ServerProgress}
 use Rattle.tn_machines.proofs.of_terminal.Doing.{does_turn}
 use Rattle.tn_machines.proofs.server.terminal.Term.ends_by.Goals as goal
 

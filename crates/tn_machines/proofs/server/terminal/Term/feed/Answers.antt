@@ -1,9 +1,6 @@
-use Rattle.std.proofs.Common.{ap, Err, ◌<◌}
-use Rattle.std.proofs.lemmas.List.Elements.{All-from_get_or}
+use Rattle.std.proofs.{Common.{ap, Err, ◌<◌}, lemmas.List.Elements.All-from_get_or}
 use Rattle.tn_machines.specs.declared.server.progress.ServerProgress.{ServerProgress}
-use Rattle.tn_machines.proofs.of_terminal.Breaking.{feed_breaks}
-use Rattle.tn_machines.proofs.of_terminal.Doing.{feeds}
-use Rattle.tn_machines.proofs.of_terminal.Refusing.{feed_cause}
+use Rattle.tn_machines.proofs.of_terminal.{Breaking.feed_breaks, Doing.feeds, Refusing.feed_cause}
 use Rattle.tn_machines.proofs.server.terminal.Term.feed.Goals as goal
 
 pub returns-in-Ok-clause-ok : goal.returns-in-Ok-clause-ok

@@ -1,9 +1,7 @@
-use Rattle.std.proofs.Common.{ap, refl}
-use Rattle.std.proofs.lemmas.Result.{err_from_is_err_and}
+use Rattle.std.proofs.{Common.{ap, refl}, lemmas.Result.err_from_is_err_and}
 use Rattle.tn_server.specs.Calls.{End}
 use Rattle.tn_machines.specs.server.Run.{flush, flushed_history}
-use Rattle.tn_machines.proofs.of_terminal.Breaking.{breaks_at_once, grows_flushed}
-use Rattle.tn_machines.proofs.of_terminal.Doing.{does_follow}
+use Rattle.tn_machines.proofs.of_terminal.{Breaking.{breaks_at_once, grows_flushed}, Doing.does_follow}
 use Rattle.tn_machines.proofs.server.terminal.Term.flush.Goals as goal
 
 pub returns-clause-ok : goal.returns-clause-ok

@@ -1,6 +1,5 @@
 use Rattle.std.proofs.Common.{ap}
-use Rattle.tn_machines.specs.server.Counting.{after_hang_up}
-use Rattle.tn_machines.specs.declared.server.progress.ServerProgress.{ServerProgress}
+use Rattle.tn_machines.specs.{server.Counting.after_hang_up, declared.server.progress.ServerProgress.ServerProgress}
 use Rattle.tn_machines.proofs.of_terminal.Doing.{does_end}
 use Rattle.tn_machines.proofs.server.terminal.Term.hang_up.Goals as goal
 

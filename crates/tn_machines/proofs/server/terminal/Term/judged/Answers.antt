@@ -1,6 +1,5 @@
 use Rattle.std.proofs.Common.{refl, []}
-use Rattle.tn_machines.proofs.of_terminal.Handling.{does_judged, breaks_judged}
-use Rattle.tn_machines.proofs.of_terminal.Refusing.{wait_moved}
+use Rattle.tn_machines.proofs.of_terminal.{Handling.{does_judged, breaks_judged}, Refusing.wait_moved}
 use Rattle.tn_machines.proofs.server.terminal.Term.judged.Goals as goal
 
 pub returns-in-Ok-clause-ok : goal.returns-in-Ok-clause-ok

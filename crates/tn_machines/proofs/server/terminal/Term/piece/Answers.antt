@@ -1,9 +1,6 @@
-use Rattle.std.proofs.Common.{true, false}
-use Rattle.std.proofs.lemmas.Result.{err_from_is_err_and}
-use Rattle.tn_machines.specs.declared.messages.Message.TheVariants.{Piece}
-use Rattle.tn_machines.proofs.of_terminal.Doing.{does_nothing}
-use Rattle.tn_machines.specs.declared.server.messages.Put.TheVariants.{Nothing}
-use Rattle.tn_machines.proofs.of_terminal.Handling.{with_ok, with_stuck, handled_piece, stops_piece, stops_feed, stops_fed}
+use Rattle.std.proofs.{Common.{true, false}, lemmas.Result.err_from_is_err_and}
+use Rattle.tn_machines.specs.declared.{messages.Message.TheVariants.Piece, server.messages.Put.TheVariants.Nothing}
+use Rattle.tn_machines.proofs.of_terminal.{Doing.does_nothing, Handling.{with_ok, with_stuck, handled_piece, stops_piece, stops_feed, stops_fed}}
 use Rattle.tn_machines.proofs.of_terminal.Refusing.{asked_cause, fed_cause, answered_cause}
 use Rattle.tn_machines.proofs.server.terminal.Term.piece.Goals as goal
 

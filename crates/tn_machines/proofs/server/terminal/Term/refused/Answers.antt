@@ -1,7 +1,6 @@
 use Rattle.std.proofs.Common.{[]}
 use Rattle.tn_machines.proofs.of_terminal.Handling.{handled_refused, stops_refused}
-use Rattle.tn_machines.specs.server.Run.{ends_by}
-use Rattle.tn_machines.specs.declared.faults.Ended.TheVariants.{Fault}
+use Rattle.tn_machines.specs.{server.Run.ends_by, declared.faults.Ended.TheVariants.Fault}
 use Rattle.tn_machines.specs.declared.faults.SessionFault.TheVariants as fault
 use Rattle.tn_machines.proofs.server.terminal.Term.refused.Goals as goal
 

@@ -1,8 +1,6 @@
 use Rattle.std.proofs.Common.{Option, OnErr, IfErr, true, ◌≡◌, subst, sym, ◌∙◌}
 use Rattle.tn_jobs.specs.declared.verdicts.Verdict.{Verdict}
-use Rattle.tn_machines.specs.server.Reaching.{LeadsTo, SayBreaksOff}
-use Rattle.tn_machines.specs.server.Refusing.{WaitsWithText}
-use Rattle.tn_machines.specs.server.Run.{Run, writes}
+use Rattle.tn_machines.specs.server.{Reaching.{LeadsTo, SayBreaksOff}, Refusing.WaitsWithText, Run.{Run, writes}}
 use Rattle.tn_machines.specs.declared.server.messages.Put.TheVariants.{Nothing}
 use Rattle.tn_machines.proofs.of_terminal.Handling.{with_ok, with_broken, says_none, breaks_none, verdict_none, verdict_judged}
 use Rattle.tn_machines.proofs.server.terminal.Term.said.Goals as goal

@@ -1,13 +1,8 @@
 use Rattle.std.proofs.Common.{◌≡◌, ℕ, List, ◌∷◌, [], ◌++◌, take, drop, length, min, ap, sym, ◌∙◌, append_assoc, append-nil, take-append-drop, length-take}
-use Rattle.std.proofs.Common.{arith}
+use Rattle.std.proofs.{Common.arith, lemmas.{List.{Elements.{All-push, All-append, All-cons}, Folds.concat-append}, Result.err_from_is_err_and}}
 use Rattle.std.specs.List.{concat}
-use Rattle.std.proofs.lemmas.List.Elements.{All-push, All-append, All-cons}
-use Rattle.std.proofs.lemmas.Result.{err_from_is_err_and}
-use Rattle.tn_machines.proofs.of_terminal.Breaking.{in_single, breaks_parts}
-use Rattle.std.proofs.lemmas.List.Folds.{concat-append}
+use Rattle.tn_machines.proofs.of_terminal.{Breaking.{in_single, breaks_parts}, Doing.does_push, Refusing.wait_within}
 use Rattle.tn_machines.specs.server.Run.{IsPart}
-use Rattle.tn_machines.proofs.of_terminal.Doing.{does_push}
-use Rattle.tn_machines.proofs.of_terminal.Refusing.{wait_within}
 use Rattle.tn_machines.proofs.server.terminal.Term.show.Goals as goal
 
 short : (xs : List ℕ) (n : ℕ) (part : List ℕ) → n ≡ min (length xs) 4096 → part ≡ take n xs → IsPart part

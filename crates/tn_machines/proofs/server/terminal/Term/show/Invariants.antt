@@ -1,7 +1,6 @@
 use Rattle.std.proofs.Common.{◌≡◌, ℕ, List, [], ◌++◌, length, All}
 use Rattle.std.specs.List.{concat}
-use Rattle.tn_machines.specs.server.Run.{IsPart, show}
-use Rattle.tn_machines.specs.server.Reaching.{AdvancesRun}
+use Rattle.tn_machines.specs.server.{Run.{IsPart, show}, Reaching.AdvancesRun}
 use Rattle.tn_machines.proofs.server.terminal.Term.show.Given as goal
 
 abbrev pub invariant-loop-rest : goal.invariant-loop-rest

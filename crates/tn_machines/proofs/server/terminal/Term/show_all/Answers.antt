@@ -1,9 +1,6 @@
-use Rattle.std.proofs.Common.{refl, []}
-use Rattle.std.proofs.lemmas.Result.{err_from_is_err_and}
+use Rattle.std.proofs.{Common.{refl, []}, lemmas.Result.err_from_is_err_and}
 use Rattle.tn_machines.specs.server.Run.{flush, show}
-use Rattle.tn_machines.proofs.of_terminal.Breaking.{breaks_after, breaks_before, grows_flushed}
-use Rattle.tn_machines.proofs.of_terminal.Doing.{does_then}
-use Rattle.tn_machines.proofs.of_terminal.Refusing.{wait_after}
+use Rattle.tn_machines.proofs.of_terminal.{Breaking.{breaks_after, breaks_before, grows_flushed}, Doing.does_then, Refusing.wait_after}
 use Rattle.tn_machines.proofs.server.terminal.Term.show_all.Goals as goal
 
 pub returns-in_err-show_if-clause-err : goal.returns-in_err-show_if-clause-err

@@ -1,10 +1,7 @@
-use Rattle.std.proofs.Common.{refl, sym, subst}
-use Rattle.std.proofs.lemmas.Result.{err_from_is_err_and}
-use Rattle.tn_server.specs.Calls.{LeadsTo}
-use Rattle.tn_server.specs.Events.{next, wrote}
+use Rattle.std.proofs.{Common.{refl, sym, subst}, lemmas.Result.err_from_is_err_and}
+use Rattle.tn_server.specs.{Calls.LeadsTo, Events.{next, wrote}}
 use Rattle.tn_server.proofs.lemmas.Leading.{stands}
-use Rattle.tn_machines.proofs.of_terminal.Breaking.{breaks_part}
-use Rattle.tn_machines.proofs.of_terminal.Doing.{does_part}
+use Rattle.tn_machines.proofs.of_terminal.{Breaking.breaks_part, Doing.does_part}
 use Rattle.tn_machines.proofs.server.terminal.Term.show_part.Goals as goal
 
 pub returns-clause-ok : goal.returns-clause-ok

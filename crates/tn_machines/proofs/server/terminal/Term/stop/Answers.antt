@@ -1,8 +1,6 @@
 use Rattle.std.proofs.Common.{ap, Some}
-use Rattle.tn_jobs.specs.Jobs.{Jobs, with_state}
-use Rattle.tn_jobs.specs.declared.verdicts.JobState.TheVariants.{Stopped}
-use Rattle.tn_machines.specs.server.Counting.{after_stop}
-use Rattle.tn_machines.specs.declared.server.progress.ServerProgress.{ServerProgress}
+use Rattle.tn_jobs.specs.{Jobs.{Jobs, with_state}, declared.verdicts.JobState.TheVariants.Stopped}
+use Rattle.tn_machines.specs.{server.Counting.after_stop, declared.server.progress.ServerProgress.ServerProgress}
 use Rattle.tn_machines.proofs.of_terminal.Doing.{does_turn}
 use Rattle.tn_machines.proofs.server.terminal.Term.stop.Goals as goal
 

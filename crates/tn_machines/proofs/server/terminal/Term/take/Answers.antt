@@ -1,8 +1,6 @@
 use Rattle.std.proofs.Common.{ap, inl, inr}
-use Rattle.tn_machines.specs.declared.server.progress.ServerProgress.{ServerProgress}
-use Rattle.tn_machines.specs.declared.messages.Message.TheVariants.{Take}
-use Rattle.tn_machines.proofs.of_terminal.Handling.{with_ok, with_stuck, handled_take, stops_take, stops_ask}
-use Rattle.tn_machines.proofs.of_terminal.Refusing.{on_err, wait_asked}
+use Rattle.tn_machines.specs.declared.{server.progress.ServerProgress.ServerProgress, messages.Message.TheVariants.Take}
+use Rattle.tn_machines.proofs.of_terminal.{Handling.{with_ok, with_stuck, handled_take, stops_take, stops_ask}, Refusing.{on_err, wait_asked}}
 use Rattle.tn_machines.proofs.server.terminal.Term.take.Goals as goal
 
 pub returns-in-Ok-clause-ok : goal.returns-in-Ok-clause-ok
