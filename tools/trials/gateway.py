@@ -106,7 +106,7 @@ def narrow(service, serving):
         found.setsockopt(socket.SOL_SOCKET, socket.SO_SNDBUF, 4_096)
 
 
-def fill(service, serving, peer):
+def fill(service, serving, peer, lines=(b"y" * 200 + b"\r\0") * 10):
     """Types until the server reads no more, since a service that reads nothing has taken all that it can."""
     narrow(service, serving)
     waiting = 0
@@ -115,7 +115,7 @@ def fill(service, serving, peer):
             waiting += 1
         else:
             waiting = 0
-            peer.send((b"y" * 200 + b"\r\0") * 10)
+            peer.send(lines)
         time.sleep(0.1 if waiting else 0.002)
 
 
@@ -150,6 +150,17 @@ def a_service_that_reads_nothing_is_given_up_if_it(world, is_service):
     with contextlib.suppress(ConnectionError):
         peer.read_to_end()
     serving.end()
+
+
+@case
+def few_bytes_wait_for_a_service_that_reads_nothing(world):
+    """At most 64 KB of lines wait in a session, also of the longest ones, besides what the service's connection holds."""
+    service, serving = joined(world, lambda service, _: service.hold(), "--line", "4095", "--verbose", buffer=4_096)
+    peer = peer_of(world, serving)
+    fill(service, serving, peer, b"y" * 4_000 + b"\r\0")
+    peer.reset()
+    count, = re.findall(r" ended: .*, in ([\d,]+) bytes", serving.end(None).decode())
+    expect(int(count.replace(",", "")) < 200_000, f"the session took in {count} bytes for a service that reads nothing")
 
 
 @case

@@ -1,5 +1,6 @@
 pub mod Alike
 pub mod Following
+pub mod Room
 pub mod Doing
 pub mod Breaking
 pub mod Refusing

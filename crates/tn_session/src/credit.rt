@@ -4,13 +4,11 @@
 //! it takes. So a key is passed by few messages, however fast these jobs are.
 
 ghost use Rattle.std.specs.Prelude.{◌≡◌, ◌≤◌, ◌<◌, ◌+◌, true, IsTrue, false, IsFalse, length, IfOk};
-ghost use Rattle.crossbeam_channel.specs.Claims.{view, IsSeatAt};
-ghost use Rattle.crossbeam_channel.specs.Ends.{sends_on};
+ghost use Rattle.crossbeam_channel.specs.{Claims.{view, IsSeatAt}, Ends.sends_on};
 ghost use Rattle.tn_server.specs.Lines.{waiting};
 ghost use Rattle.tn_session.specs.Credits.{AreNewCredits};
 ghost use Rattle.tn_workers.specs.Credits.{owed_one, piece_one, step_one};
-ghost use Rattle.tn_machines.specs.server.Reaching.{LeadsTo};
-ghost use Rattle.tn_machines.specs.server.Run.{Run};
+ghost use Rattle.tn_machines.specs.server.{Reaching.LeadsTo, Run.Run, Welcoming.{HasRoom, IsCrowded}};
 
 use crossbeam_channel::bounded_with;
 use std::alloc::{AllocError, Global};
@@ -108,8 +106,8 @@ pub(crate) fn give_credit<R: Wait>(
     requires seat { IsSeatAt (sends_on credits.now) pass.old }
     ensures seat { IsSeatAt (sends_on credits.now) pass.new }
     ensures given { (c : Run) → LeadsTo c term.now → IsTrue owed → IsFalse result →
-        IsFalse term.now.progress.over → length (waiting c.history) ≤ 511 }
-    ensures kept { (c : Run) → LeadsTo c term.now → IsTrue result → 511 < length (waiting c.history) }
+        IsFalse term.now.progress.over → HasRoom (waiting c.history) }
+    ensures kept { (c : Run) → LeadsTo c term.now → IsTrue result → IsCrowded (waiting c.history) }
     ensures over { IsTrue term.now.progress.over → IsFalse result }
     ensures none { IsFalse owed → IsFalse result }
     ensures counted { length (view pass.new).given + owed_one result ≤

@@ -1,24 +1,15 @@
 //! A running session, from its first job to its report.
 
 ghost use Rattle.std.specs.Prelude.{◌≡◌, ◌≢◌, [], ◌∷◌, None, Some, IfOk, IfErr, IfSome, IsErrOf};
-ghost use Rattle.crossbeam_channel.specs.Claims.{view, IsSeatAt};
-ghost use Rattle.crossbeam_channel.specs.Ends.{sends_on, receives_on};
-ghost use Rattle.tn_workers.specs.Acts.{job_acts};
-ghost use Rattle.tn_session.specs.Facts.{job_facts, session_result};
-ghost use Rattle.tn_session.specs.Joining.{IsReady, handler};
-ghost use Rattle.tn_session.specs.Makers.{AreAll, GivesJobs, IsMakerFault, begins};
-ghost use Rattle.tn_session.specs.Notes.{no_notes, noted_of};
-ghost use Rattle.tn_queue.specs.Queue.{putter, taker};
+ghost use Rattle.crossbeam_channel.specs.{Claims.{view, IsSeatAt}, Ends.{sends_on, receives_on}};
+ghost use Rattle.tn_workers.specs.{Acts.job_acts, Mailbox.sender, Turning.{IsQueue, ids_of, jobs_of}};
+ghost use Rattle.tn_workers.specs.{Stops.StopsStay, declared.mail.Sender.TheVariants.{Desk, Back}};
+ghost use Rattle.tn_session.specs.{Facts.{job_facts, session_result}, Session.{RunningSession, report_of}};
+ghost use Rattle.tn_session.specs.{Joining.{IsReady, handler}, Notes.{no_notes, noted_of}, Stops.AreNewStops};
+ghost use Rattle.tn_session.specs.{Makers.{AreAll, GivesJobs, IsMakerFault, begins}, Turns.StaysInReach};
 ghost use Rattle.tn_session.specs.Session.{IsBegun, IsOpening, IsRun, IsRefusal, IsOfThreads, RunsOn};
-ghost use Rattle.tn_session.specs.Session.{RunningSession, report_of};
-ghost use Rattle.tn_workers.specs.Mailbox.{sender};
-ghost use Rattle.tn_workers.specs.Stops.{StopsStay};
-ghost use Rattle.tn_session.specs.Stops.{AreNewStops};
-ghost use Rattle.tn_workers.specs.Turning.{IsQueue, ids_of, jobs_of};
-ghost use Rattle.tn_session.specs.Turns.{StaysInReach};
-ghost use Rattle.tn_workers.specs.declared.mail.Sender.TheVariants.{Desk, Back};
-ghost use Rattle.tn_streams.specs.Known.{known_reader, known_writing};
-ghost use Rattle.tn_streams.specs.Sending.{StaysOpen, IsFinished};
+ghost use Rattle.tn_queue.specs.Queue.{putter, taker};
+ghost use Rattle.tn_streams.specs.{Known.{known_reader, known_writing}, Sending.{StaysOpen, IsFinished}};
 ghost use Rattle.tn_machines.specs.server.Welcoming.{too_far_ahead};
 
 use crate::credit::{CREDITS, make_step_credits};
@@ -508,7 +499,8 @@ where
 /// Runs a session over a connection: its reader and its writer, a terminal with these settings whose
 /// lines have at most `limit` bytes, edited at one side, and the jobs that `maker` makes. An `Err` is
 /// `Memory`, `Start` or `Channel`, and tells nothing of what was handled; all else ends in the report. A
-/// piece is handled only where at most 511 entries wait, so no report tells that too many entries waited.
+/// piece is handled only if at most 511 entries wait, so no report tells that too many entries waited. Their
+/// lines have at most 60,000 bytes then, so that a session holds at most 64 KB of lines.
 pub fn serve_session<R, Rd, W, M, G>(
     rt: R,
     alloc: Global,

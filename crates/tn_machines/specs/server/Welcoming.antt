@@ -1,14 +1,11 @@
 -- Which message is welcome where a session holds its reader back, and the end that none of them brings.
-use Rattle.std.specs.Prelude.{◌≤◌, ◌<◌, ◌⊎◌, ℕ, IsFalse, length, ⊤}
-use Rattle.tn_machines.specs.declared.faults.Ended.{Ended}
-use Rattle.tn_machines.specs.declared.faults.Ended.TheVariants.{Fault}
-use Rattle.tn_machines.specs.declared.faults.SessionFault.TheVariants.{Server}
-use Rattle.tn_machines.specs.declared.messages.Message.{Message}
+use Rattle.std.specs.Prelude.{◌≤◌, ◌<◌, ◌+◌, ◌⊎◌, ℕ, IsFalse, List, [], ◌∷◌, length, ⊤}
+use Rattle.tn_discipline.specs.declared.reads.Entry.{Entry, TheVariants.Text}
+use Rattle.tn_machines.specs.declared.{faults.Ended.{Ended, TheVariants.Fault}, messages.Message.Message}
+use Rattle.tn_machines.specs.{declared.faults.SessionFault.TheVariants.Server, server.Run.Run}
 use Rattle.tn_machines.specs.declared.messages.Message.TheVariants.{Piece}
 use Rattle.tn_pty.specs.declared.pty.PtyFault.TheVariants.{TooFarAhead}
-use Rattle.tn_server.specs.Lines.{waiting}
-use Rattle.tn_server.specs.declared.faults.ServerFault.TheVariants.{Pty}
-use Rattle.tn_machines.specs.server.Run.{Run}
+use Rattle.tn_server.specs.{Lines.waiting, declared.faults.ServerFault.TheVariants.Pty}
 
 -- how many bytes a welcome piece has at most
 abbrev pub max_piece : ℕ
@@ -18,17 +15,35 @@ max_piece = 512
 abbrev pub max_before_piece : ℕ
 max_before_piece = 511
 
--- a short piece is welcome where few entries wait, or nothing has any effect; any other message always is
+-- how many bytes the lines that wait have at most where a piece is welcome
+abbrev pub max_bytes_before_piece : ℕ
+max_bytes_before_piece = 60000
+
+-- how many bytes the lines among these entries have
+unfoldable pub line_bytes : List Entry → ℕ
+line_bytes [] = 0
+line_bytes (Text line ∷ entries) = length line + line_bytes entries
+line_bytes (_ ∷ entries) = line_bytes entries
+
+-- next to these entries there is room for those of a piece
+abbrev pub HasRoom : List Entry → Type 0
+HasRoom entries = (length entries ≤ max_before_piece) × (line_bytes entries ≤ max_bytes_before_piece)
+
+-- too many entries, or too long ones, for a piece to be welcome
+abbrev pub IsCrowded : List Entry → Type 0
+IsCrowded entries = (max_before_piece < length entries) ⊎ (max_bytes_before_piece < line_bytes entries)
+
+-- a short piece is welcome if there is room for its entries, or nothing has any effect; any other message is
 abbrev pub IsWelcome : Run → Message → Type 0
 IsWelcome c (Piece piece) =
-    (length piece ≤ max_piece) × (IsFalse c.progress.over → length (waiting c.history) ≤ max_before_piece)
+    (length piece ≤ max_piece) × (IsFalse c.progress.over → HasRoom (waiting c.history))
 IsWelcome c _ = ⊤
 
 -- a piece that is too long, or one that comes too early
 abbrev pub IsUnwelcome : Run → Message → Type 0
 IsUnwelcome c (Piece piece) =
     (max_piece < length piece)
-    ⊎ (IsFalse c.progress.over × (max_before_piece < length (waiting c.history)))
+    ⊎ (IsFalse c.progress.over × IsCrowded (waiting c.history))
 IsUnwelcome c _ = ⊥
 
 -- the session ended because too many entries waited

@@ -1,29 +1,24 @@
 //! The terminal of a session, which alone uses the server end.
 
 ghost use Rattle.std.specs.Prelude.{◌≡◌, ◌≤◌, ◌<◌, ◌&&◌, ℕ, List, length, true, IsTrue, false, IsFalse, OnOk};
-ghost use Rattle.std.specs.Prelude.{OnErr, IfOk};
-ghost use Rattle.std.specs.Prelude.{IfErr, IfNone, None, Some, [], ◌∷◌, ◌++◌, All, MatchResult};
+ghost use Rattle.std.specs.Prelude.{OnErr, IfOk, IfErr, IfNone, None, Some, [], ◌∷◌, ◌++◌, All, MatchResult};
 ghost use Rattle.std.specs.List.{concat};
 ghost use Rattle.tn_discipline.specs.Canon.{Canon};
 ghost use Rattle.tn_jobs.specs.Jobs.{state_at, with_state, is_stopped, is_foreground};
 ghost use Rattle.tn_nvt.specs.Spelling.{spells};
 ghost use Rattle.tn_server.specs.Calls as server;
 ghost use Rattle.tn_server.specs.Events as events;
-ghost use Rattle.tn_server.specs.Events.{History};
-ghost use Rattle.tn_server.specs.Faults.{SaysSomething};
-ghost use Rattle.tn_server.specs.Lines.{waiting};
-ghost use Rattle.tn_server.specs.Replies.{items_said};
+ghost use Rattle.tn_server.specs.{Events.History, Faults.SaysSomething, Lines.waiting, Replies.items_said};
 ghost use Rattle.tn_machines.specs.server.Counting as counting;
-ghost use Rattle.tn_machines.specs.server.Marks.{is_whole, no_write_failed};
-ghost use Rattle.tn_machines.specs.server.Run as run;
-ghost use Rattle.tn_machines.specs.server.Run.{Run};
-ghost use Rattle.tn_machines.specs.server.Reaching.{FollowsPath, AdvancesRun, BreaksOff, Feeds};
+ghost use Rattle.tn_machines.specs.server.{Marks.{is_whole, no_write_failed}, Refusing.WaitsWithRequest};
+ghost use Rattle.tn_machines.specs.server.{Run.Run, Refusing.{SymbolsWait, SymbolsWaitWithin, WaitsWithText}};
 ghost use Rattle.tn_machines.specs.server.Reaching.{FeedBreaksOff, HaltsIf, Says, SayBreaksOff, DoesWhole};
+ghost use Rattle.tn_machines.specs.server.Reaching.{FollowsPath, AdvancesRun, BreaksOff, Feeds};
 ghost use Rattle.tn_machines.specs.server.Reaching.{StopsWithin, RefusesFor, IsTurn, LeadsTo};
 ghost use Rattle.tn_machines.specs.declared.server.messages.Put.TheVariants.{Nothing};
-ghost use Rattle.tn_machines.specs.server.Welcoming.{IsWelcome, IsUnwelcome};
-ghost use Rattle.tn_machines.specs.server.Refusing.{SymbolsWait, SymbolsWaitWithin, WaitsWithText};
-ghost use Rattle.tn_machines.specs.server.Refusing.{WaitsWithRequest};
+ghost use Rattle.tn_machines.specs.server.Welcoming.{HasRoom, IsCrowded, IsWelcome, IsUnwelcome, line_bytes};
+ghost use Rattle.tn_machines.specs.server.Welcoming.{max_before_piece, max_bytes_before_piece};
+ghost use Rattle.tn_machines.specs.server.Run as run;
 
 use crate::faults::{Ended, SessionFault};
 use crate::messages::Message;
@@ -38,6 +33,10 @@ use tn_server::{Editing, ServerEnd, ServerFault};
 
 /// How many entries may wait for one more piece to be welcome.
 const MAX_BEFORE_PIECE: usize = 511;
+
+/// How many bytes the lines among them may have. With those of one more piece, and of the half-typed line
+/// that it may end, at most 64 KB wait.
+const MAX_BYTES_BEFORE_PIECE: usize = 60_000;
 
 /// How many entries wait at most.
 const MAX_WAITING: usize = 1_024;
@@ -566,19 +565,47 @@ impl Term {
         false
     }
 
-    /// Whether one more piece is welcome: at most 511 entries wait, or nothing has any effect any more. So
-    /// a piece of 512 bytes finds room for its entries: each byte makes one at most, and the first may make
-    /// another of a CR that came last before it.
+    /// Whether one more piece is welcome: at most 511 entries wait, whose lines have at most 60,000 bytes, or
+    /// nothing has any effect any more. So a piece of 512 bytes finds room for its entries: each byte makes
+    /// one at most, and the first may make another of a CR that came last before it.
     pub fn is_welcoming(&self) -> bool
         ensures room { (c : Run) → LeadsTo c self.now → IsTrue result → IsFalse self.now.progress.over →
-            length (waiting c.history) ≤ 511 }
-        ensures full { (c : Run) → LeadsTo c self.now → IsFalse result → 511 < length (waiting c.history) }
+            HasRoom (waiting c.history) }
+        ensures full { (c : Run) → LeadsTo c self.now → IsFalse result → IsCrowded (waiting c.history) }
         ensures over { IsTrue self.now.progress.over → IsTrue result }
     {
-        match self.end.waiting(MAX_BEFORE_PIECE) {
-            Some(_) => self.progress.over,
-            None => true,
+        if self.progress.over {
+            return true;
         }
+        match self.end.waiting(MAX_BEFORE_PIECE) {
+            Some(_) => false,
+            None => self.has_few_bytes(),
+        }
+    }
+
+    // Whether the lines that wait, of few entries, are short.
+    fn has_few_bytes(&self) -> bool
+        requires on { IsFalse self.now.progress.over }
+        requires few { (c : Run) → LeadsTo c self.now → length (waiting c.history) ≤ max_before_piece }
+        ensures few { (c : Run) → LeadsTo c self.now → IsTrue result →
+            line_bytes (waiting c.history) ≤ max_bytes_before_piece }
+        ensures many { (c : Run) → LeadsTo c self.now → IsFalse result →
+            max_bytes_before_piece < line_bytes (waiting c.history) }
+    {
+        let mut room = MAX_BYTES_BEFORE_PIECE;
+        for index in 0..MAX_BEFORE_PIECE {
+            match self.end.waiting(index) {
+                Some(entry) => {
+                    let bytes = line_bytes(entry);
+                    if bytes > room {
+                        return false;
+                    }
+                    room -= bytes;
+                },
+                None => return true,
+            }
+        }
+        true
     }
 
     /// Whether this message is welcome now: a piece has at most 512 bytes, and comes where one more is
@@ -623,6 +650,17 @@ impl Term {
                 }
             },
         }
+    }
+}
+
+// How many bytes an entry has if it is a line.
+fn line_bytes(entry: &Entry) -> usize
+    ensures { result ≡ line_bytes (entry.now ∷ []) }
+{
+    match entry {
+        Entry::Text(line) => line.as_slice().len(),
+        Entry::Eof => 0,
+        Entry::Signal(_) => 0,
     }
 }
 

@@ -2,26 +2,14 @@
 use Rattle.std.proofs.Common.{◌≡◌, ⊎_elim, ℕ, ◌≤◌, ◌<◌, Bool, false, List, ◌∷◌, ◌++◌, length, sym, ap, ◌∙◌, subst, arith, length-append}
 use Rattle.std.specs.Prelude.{All}
 use Rattle.tn_pty.specs.declared.pty.PtyFault.TheVariants as pty
-use Rattle.tn_server.specs.Events.{items}
-use Rattle.tn_server.specs.Lines.{waiting}
-use Rattle.tn_server.specs.declared.faults.ServerFault.{ServerFault}
-use Rattle.tn_server.specs.declared.faults.ServerFault.TheVariants.{Pty, Memory}
+use Rattle.tn_server.specs.{Events.items, Lines.waiting, declared.faults.ServerFault.{ServerFault, TheVariants.{Pty, Memory}}}
 use Rattle.tn_server.proofs.lemmas.Room.{completes_few, waits_few}
 use Rattle.tn_linemode.specs.Prefixes.{IsRead}
 use Rattle.tn_machines.proofs.of_terminal.Ending.{turned}
-use Rattle.tn_machines.specs.server.Ending.{EndsAt}
-use Rattle.tn_machines.specs.server.Marks.{Turns}
-use Rattle.tn_machines.specs.server.Reaching.{LeadsTo}
-use Rattle.tn_machines.specs.server.Refusing.{RefusesAtItem, IsRefusalCause}
-use Rattle.tn_machines.specs.server.Run.{Run}
-use Rattle.tn_machines.specs.server.Welcoming.{IsWelcome, too_far_ahead}
-use Rattle.tn_machines.specs.declared.server.messages.ServerMark.{ServerMark}
+use Rattle.tn_machines.specs.server.{Ending.EndsAt, Marks.Turns, Reaching.LeadsTo, Refusing.{RefusesAtItem, IsRefusalCause}, Run.Run}
+use Rattle.tn_machines.specs.{server.Welcoming.{IsWelcome, too_far_ahead}, declared.server.{messages.ServerMark.ServerMark, terminal.Term.Term}}
+use Rattle.tn_machines.specs.declared.{server.progress.ServerProgress.ServerProgress, faults.Ended.Ended, messages.Message.{Message, TheVariants.Piece}}
 use Rattle.tn_machines.specs.declared.server.messages.ServerMark.TheVariants as mark
-use Rattle.tn_machines.specs.declared.server.progress.ServerProgress.{ServerProgress}
-use Rattle.tn_machines.specs.declared.server.terminal.Term.{Term}
-use Rattle.tn_machines.specs.declared.faults.Ended.{Ended}
-use Rattle.tn_machines.specs.declared.messages.Message.{Message}
-use Rattle.tn_machines.specs.declared.messages.Message.TheVariants.{Piece}
 
 -- A WELCOME MESSAGE
 
@@ -44,7 +32,7 @@ no_memory e = cc
 never_refused : (c : Run) (t : Term) (m : Message) → LeadsTo c t → c.progress.over ≡ false → IsWelcome c m → IsRefusalCause c m (Pty pty.TooFarAhead) → ⊥
 never_refused c t (Piece piece) at on welcome cause =
     let live = at.live (ap (λ (p : ServerProgress). p.over) at.progress ∙ on) in
-    finds_room c piece live.bytes (live.read.rest, live.read.reading) welcome.0 (welcome.1 on) cause
+    finds_room c piece live.bytes (live.read.rest, live.read.reading) welcome.0 (welcome.1 on).0 cause
 never_refused c t _ at on welcome cause = no_memory cause.0
 
 was_on : (c new : Run) (m : Message) (k : ServerMark) (f : ServerFault) (put : Bool) → k ≡ mark.Refused f put → Turns c (m, k) new → c.progress.over ≡ false
