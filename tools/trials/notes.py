@@ -217,9 +217,9 @@ def fill(connection):
             time.sleep(0.02)
 
 
-def launched(world, *words):
+def launched(world, *words, under=None):
     """A server that the launcher runs, and a peer that it serves."""
-    serving = Serving(world, "--forever", "--verbose", *words, under=(world.launcher,), env={**os.environ, "TMPDIR": world.folder})
+    serving = Serving(world, "--forever", "--verbose", *words, under=under or (world.launcher,), env={**os.environ, "TMPDIR": world.folder})
     return serving, Peer(world, serving.port).is_served()
 
 
@@ -233,6 +233,19 @@ def a_signal_ends_a_server_in_order(world, number):
     peer.leave()
     expect_session(serving.notes(), 1, peer, "closing", 1)
     expect_same([], os.listdir(world.folder), "what is left of it")
+
+
+@case(wants=("unshare",))
+def the_first_process_of_a_container_ends_in_order(world):
+    """The system drops a signal for such a process, unless it has asked for it."""
+    first = ("unshare", "--map-root-user", "--pid", "--fork", "--kill-child", "--mount-proc", world.launcher)
+    serving, peer = launched(world, "--drain", "1", under=first)
+    unsharing = serving.process.pid
+    with open(f"/proc/{unsharing}/task/{unsharing}/children", encoding="utf-8") as file:
+        os.kill(int(file.read()), signal.SIGTERM)
+    peer.read_until(b"closing\r\n")
+    peer.leave()
+    expect_session(serving.notes(), 1, peer, "closing", 0)
 
 
 @case
