@@ -348,6 +348,9 @@ tn_code tn_client_start(tn_client *client, uint16_t width, uint16_t height, uint
 /* Types a key: what it sends waits to be read, and its echo to be shown. TN_FAILED, TN_MEMORY: nothing was typed. */
 tn_code tn_client_key(tn_client *client, uint8_t key) TN_CALL((1));
 
+/* Enters a new line: types the key LF, which goes to the server as CR LF, also if keys go one at a time. Refused as a key is. */
+tn_code tn_client_new_line(tn_client *client) TN_CALL((1));
+
 /* Takes bytes that came from the server, cut anywhere: answers wait to be read, text to be shown. TN_FAILED: it had
  * failed before, and all is as it was. TN_MEMORY: what came before the refusal was done, and the end has failed. */
 tn_code tn_client_feed(tn_client *client, const uint8_t *bytes, size_t length) TN_CALL((1));

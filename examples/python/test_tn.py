@@ -36,6 +36,9 @@ def main():
         deliver(server, client)
         assert client.screen().endswith(b"x" * 10000 + b"\r\n")
         assert refusal(server.set_char, tn.CHAR_INTR, 10) == tn.RESERVED
+        client.new_line()
+        deliver(server, client)
+        assert server.take() == (tn.TEXT, b"\n")
         client.keys(b"held")
         client.send(tn.COMMAND_IP)
         assert refusal(client.send, 245) == tn.NO_COMMAND and client.read() == tn.command(tn.COMMAND_IP)

@@ -97,6 +97,7 @@ CALLS = {
     "server_failed": (POINTER(c_bool),),
     "client_start": (c_uint16, c_uint16, c_uint16),
     "client_key": (c_uint8,),
+    "client_new_line": (),
     "client_feed": BYTES,
     "client_pending": (POINTER(c_size_t),),
     "client_read": BUFFER,
@@ -304,6 +305,10 @@ class Client(_End):
     def keys(self, keys):
         for key in keys:
             self._call("key", key)
+
+    def new_line(self):
+        """Types the key LF, which goes to the server as CR LF."""
+        self._call("new_line")
 
     def screen(self):
         """All that waits to be shown."""

@@ -228,6 +228,10 @@ static void worked_client(void)
     SURE(tn_client_key(&client, 'a') == TN_OK);
     CLIENT_SAYS(&client, "a", "a");
     SURE(tn_client_counts(&client, &trapped, &plain) == TN_OK && trapped == 1 && plain == 1);
+    SURE(tn_client_key(&client, 10) == TN_OK);
+    CLIENT_SAYS(&client, "\n", "\r\n");
+    SURE(tn_client_new_line(&client) == TN_OK);
+    CLIENT_SAYS(&client, "\r\n", "\r\n");
     SURE(tn_client_feed(&client, (const uint8_t *)"\xff\xfd\x1f" "hi\r\n", 7) == TN_OK);
     CLIENT_SAYS(&client, "\xff\xfb\x1f\xff\xfa\x1f\0\x50\0\x18\xff\xf0", "hi\r\n");
     SURE(tn_client_resize(&client, 100, 24) == TN_OK);
@@ -328,6 +332,10 @@ static void worked_pair(void)
     SURE(tn_server_wish(&server, false, &sent) == TN_OK && sent);
     deliver(&server, &client);
     SURE(tn_client_mode(&client, &mode) == TN_OK && mode == 0);
+    SURE(tn_client_new_line(&client) == TN_OK);
+    deliver(&server, &client);
+    SURE(tn_server_take(&server, &kind) == TN_OK && kind == TN_TEXT);
+    SURE(tn_server_text(&server, buf, sizeof buf, &count) == TN_OK && count == 1 && buf[0] == '\n');
     SURE(tn_client_key(&client, 'd') == TN_OK);
     deliver(&server, &client);
     SURE(tn_server_half(&server, buf, sizeof buf, &count) == TN_OK && count == 1 && buf[0] == 'd');
@@ -359,6 +367,7 @@ static void session(void)
     may(tn_server_set_mask(&server, (const uint8_t *)"\0\0", 2));
     for (const char *key = "echo one\x7f" "e\r\x1cnothing\x18two\x07\x04"; *key; key++)
         may(tn_client_key(&client, (uint8_t)*key));
+    may(tn_client_new_line(&client));
     deliver(&server, &client);
     for (int i = 0; i < 5; i++) {
         may(tn_server_take(&server, &kind));

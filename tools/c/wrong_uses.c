@@ -68,6 +68,7 @@ static bool is_blank(const struct given *g)
     X(SERVER, server_option, (h, true, 1, &g->state)) \
     X(SERVER, server_failed, (h, &g->yes)) \
     X(CLIENT, client_key, (h, 'a')) \
+    X(CLIENT, client_new_line, (h)) \
     X(CLIENT, client_feed, (h, BYTES)) \
     X(CLIENT, client_pending, (h, &g->count)) \
     X(CLIENT, client_read, (h, TO_BUF)) \
@@ -293,7 +294,8 @@ static bool is_refused_by_server(const char *name)
 
 static bool is_refused_by_client(const char *name)
 {
-    return strstr(name, "_feed") || strstr(name, "_key") || strstr(name, "_resize") || strstr(name, "_propose") || strstr(name, "_send");
+    return strstr(name, "_feed") || strstr(name, "_key") || strstr(name, "_new_line") || strstr(name, "_resize")
+        || strstr(name, "_propose") || strstr(name, "_send");
 }
 
 static bool is_refused_by_decoder(const char *name)

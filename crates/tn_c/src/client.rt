@@ -4,6 +4,7 @@ ghost use Rattle.std.specs.Prelude.{◌≡◌, None, length};
 ghost use Rattle.tn_discipline.specs.Limits.{is_limit};
 ghost use Rattle.tn_c_parts.specs.Calling.{Looks, Does, OfFunction, GivesChar};
 ghost use Rattle.tn_c_parts.specs.ClientCalls.{IsOpened, KeyCall, FeedCall, ResizeCall, ProposeCall};
+ghost use Rattle.tn_c_parts.specs.ClientCalls.{NewLineCall};
 ghost use Rattle.tn_c_parts.specs.ClientCalls.{SendNumberCall, ReadCall, ScreenCall, GivesMode, GivesHalf};
 ghost use Rattle.tn_c_parts.specs.ClientCalls.{GivesAhead, GivesCounts, GivesOption, IsClientChar};
 ghost use Rattle.tn_c_parts.specs.Readings.{char_given};
@@ -56,6 +57,15 @@ pub extern "C" fn tn_client_key(alloc: Global, handle: &mut Handle, key: u8) -> 
         (KeyCall key) }
 {
     call_held!(handle, alloc, Client, client => client.key(key))
+}
+
+/// Enters a new line: the key LF, which goes to the server as CR LF, also if keys go one at a time.
+#[unsafe(no_mangle)]
+pub extern "C" fn tn_client_new_line(alloc: Global, handle: &mut Handle) -> u32
+    ensures { CallsClient handle.old.held handle.new.held result NoPointer
+        NewLineCall }
+{
+    call_held!(handle, alloc, Client, client => client.new_line())
 }
 
 /// Takes bytes that came from the server, cut anywhere: answers are to be read, text is to be shown.

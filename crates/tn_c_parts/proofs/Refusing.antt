@@ -14,7 +14,7 @@ use Rattle.tn_server.specs.declared.faults.ServerFault.TheVariants as fault
 use Rattle.tn_client.specs.Answering as answers
 use Rattle.tn_client.specs.Calls as client
 use Rattle.tn_client.specs.Calls.{call_fault}
-use Rattle.tn_client.specs.Events.{Event, typed}
+use Rattle.tn_client.specs.Events.{Event}
 use Rattle.tn_client.specs.Steps.{end_after, says}
 use Rattle.tn_client.specs.declared.commands.UserCommand.{UserCommand}
 use Rattle.tn_client.specs.declared.faults.ClientFault.{ClientFault}
@@ -117,14 +117,15 @@ key_says_nothing : {T : Type 0} (r : Result T ClientFault) (old new : client.End
 key_says_nothing (Ok x) old new before after seen now same = tt
 key_says_nothing (Err f) old new before after seen now same = record { end = same.end; out = same.out }
 
-pub key_acts : {T : Type 0} (key : ℕ) (r : Result T ClientFault) (answer : Code) (before after : HeldClient) → answer ≡ client_answer r
-    → OnOk r (after.end ≡ end_after before.end (typed key))
-    → OnOk r (after.pending.items ≡ before.pending.items ++ spells (says before.end (typed key)))
+-- a call that types a key
+pub key_acts : {T : Type 0} (e : Event) (r : Result T ClientFault) (answer : Code) (before after : HeldClient) → answer ≡ client_answer r
+    → OnOk r (after.end ≡ end_after before.end e)
+    → OnOk r (after.pending.items ≡ before.pending.items ++ spells (says before.end e))
     → answers.AnswersBy (call_fault before.end) r
     → OnErr r (answers.Untouched before.end before.pending.items after.pending.items before.shown.items after.shown.items after.end)
-    → Acts (typed key) call_fault answer before after
-key_acts key r answer before after is step out caused err =
-    call_acts (typed key) call_fault r answer before after is step out caused
+    → Acts e call_fault answer before after
+key_acts e r answer before after is step out caused err =
+    call_acts e call_fault r answer before after is step out caused
     (key_says_nothing r before.end after.end before.pending.items after.pending.items before.shown.items after.shown.items err)
     (λ refused. (unless_done r answer is err refused).screen)
 

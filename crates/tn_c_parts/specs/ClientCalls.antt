@@ -6,10 +6,10 @@ use Rattle.tn_discipline.specs.Characters.{slot}
 use Rattle.tn_option.specs.Options.{state_of}
 use Rattle.tn_client.specs.Answering.{Feeds, StopsWithin}
 use Rattle.tn_client.specs.Calls.{End, LeadsTo, call_fault, propose_fault}
-use Rattle.tn_client.specs.Steps.{shows_key, LacksMemoryFor, end_after, says, LacksRoomFor}
-use Rattle.tn_nvt.specs.Spelling.{spells}
+use Rattle.tn_client.specs.Steps.{shows_key, LacksMemoryFor, LacksMemoryToEnter, end_after, says, LacksRoomFor}
+use Rattle.tn_nvt.specs.Spelling.{lf, spells}
 use Rattle.tn_nvt.specs.Feeding as nvt
-use Rattle.tn_client.specs.Events.{History, Event, begun, typed, resized, proposed, sent}
+use Rattle.tn_client.specs.Events.{History, Event, begun, typed, entered, resized, proposed, sent}
 use Rattle.tn_client.specs.Lines.{ahead, count_under, held_bytes}
 use Rattle.tn_client.specs.Terms.{chars, mode, options}
 use Rattle.tn_client.specs.declared.commands.UserCommand.{UserCommand}
@@ -40,6 +40,12 @@ pub record KeyCall (key : ℕ) (answer : Code) (before after : HeldClient) : Typ
   pub acts : Acts (typed key) call_fault answer before after
   pub shows : answer ≡ code.Done → after.shown.items ≡ before.shown.items ++ shows_key before.end key
   pub memory : answer ≡ code.Memory → LacksMemoryFor before.end key before.pending before.shown
+
+-- A new line is entered: the key LF, which goes to the server as CR LF.
+pub record NewLineCall (answer : Code) (before after : HeldClient) : Type 0 where
+  pub acts : Acts entered call_fault answer before after
+  pub shows : answer ≡ code.Done → after.shown.items ≡ before.shown.items ++ shows_key before.end lf
+  pub memory : answer ≡ code.Memory → LacksMemoryToEnter before.end before.pending before.shown
 
 pub record ResizeCall (width height : ℕ) (answer : Code) (before after : HeldClient) : Type 0 where
   pub acts : Acts (resized width height) call_fault answer before after

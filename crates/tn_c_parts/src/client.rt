@@ -4,6 +4,7 @@ ghost use Rattle.std.specs.Prelude.{◌≡◌, ◌≢◌, IfOk, IfErr};
 ghost use Rattle.tn_client.specs.declared.faults.ClientFault.TheVariants as fault;
 ghost use Rattle.tn_c_parts.specs.Calling.{OfFunction, GivesChar};
 ghost use Rattle.tn_c_parts.specs.ClientCalls.{KeyCall, FeedCall, ResizeCall, ProposeCall, SendCall};
+ghost use Rattle.tn_c_parts.specs.ClientCalls.{NewLineCall};
 ghost use Rattle.tn_c_parts.specs.ClientCalls.{SendNumberCall, ReadCall, ScreenCall, GivesHalf, GivesCounts};
 ghost use Rattle.tn_c_parts.specs.ClientCalls.{GivesOption, IsClientChar, IsOpened};
 ghost use Rattle.tn_c_parts.specs.Faults.{client_answer};
@@ -64,6 +65,13 @@ impl HeldClient {
         ensures { KeyCall key result self.old self.new }
     {
         code_of(self.end.key(key, &mut self.pending, &mut self.shown))
+    }
+
+    /// Enters a new line: the key LF, which goes to the server as CR LF, also if keys go one at a time.
+    pub fn new_line(&mut self) -> Code
+        ensures { NewLineCall result self.old self.new }
+    {
+        code_of(self.end.new_line(&mut self.pending, &mut self.shown))
     }
 
     /// Takes bytes that came from the server, cut anywhere: answers are to be sent, text is to be shown.

@@ -173,6 +173,7 @@ extern "C" {
     pub fn tn_server_failed(server: *mut tn_server, failed: *mut bool) -> tn_code;
     pub fn tn_client_start(client: *mut tn_client, width: u16, height: u16, limit: u16) -> tn_code;
     pub fn tn_client_key(client: *mut tn_client, key: u8) -> tn_code;
+    pub fn tn_client_new_line(client: *mut tn_client) -> tn_code;
     pub fn tn_client_feed(client: *mut tn_client, bytes: *const u8, length: usize) -> tn_code;
     pub fn tn_client_pending(client: *mut tn_client, count: *mut usize) -> tn_code;
     pub fn tn_client_read(client: *mut tn_client, buf: *mut u8, size: usize, count: *mut usize) -> tn_code;

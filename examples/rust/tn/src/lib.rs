@@ -152,6 +152,11 @@ impl Client {
         done(unsafe { raw::tn_client_key(&mut self.0, key) })
     }
 
+    /// Types the key LF, which goes to the server as CR LF.
+    pub fn new_line(&mut self) -> Result<()> {
+        done(unsafe { raw::tn_client_new_line(&mut self.0) })
+    }
+
     /// Takes bytes that came from the server, cut anywhere.
     pub fn feed(&mut self, bytes: &[u8]) -> Result<()> {
         done(unsafe { raw::tn_client_feed(&mut self.0, bytes.as_ptr(), bytes.len()) })
