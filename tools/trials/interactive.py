@@ -287,7 +287,7 @@ def help_is_shown_and_not_sent(world):
     terminal.see(b"login: ")
     terminal.type(b"\x1d?\r")
     terminal.see(b"login: \r\ntn> ?\r\nquit, close, q  close")
-    for word in (b"status", b"suspend", b"send brk", b"send ip", b"send ayt", b"help"):
+    for word in (b"again", b"status", b"suspend", b"send brk", b"send ip", b"send ayt", b"help"):
         terminal.see(b"\r\n" + word)
     terminal.type(b"k\r")
     listener.read_until(b"k\r")

@@ -9,6 +9,7 @@
                  --trace, --log                     piped.a_trace_is_written, the module files
                  -q, -w                             piped.the_end_of_a_pipe_is_sent_late, a_silent_server_is_left_after_the_input
                  --timeout                          piped.an_address_that_takes_no_connection_is_given_up
+                 --again                            again
                  -4, -6, --bind                     hosts
                  --quiet                            interactive.nothing_is_reported_if_it_is_not_wanted
                  --plain, --lf, --cr                plain

@@ -6,6 +6,8 @@ use Rattle.std.specs.Str.{bytes_eq}
 use Rattle.tn_sockets.specs.declared.escaping.EscapeCommand.{EscapeCommand}
 use Rattle.tn_sockets.specs.declared.escaping.EscapeCommand.TheVariants.{Close, Help, Status, Suspend}
 use Rattle.tn_sockets.specs.declared.escaping.EscapeCommand.TheVariants.{Unknown}
+use Rattle.tn_sockets.specs.declared.escaping.Next.{Next}
+use Rattle.tn_sockets.specs.declared.escaping.Next.TheVariants.{Leaves, Returns}
 use Rattle.tn_sockets.specs.Mapping.{mapped, none_own}
 use Rattle.tn_sockets.specs.Prompting.{after_edit, after_escape, edit_of, opened}
 use Rattle.tn_sockets.specs.declared.escaping.Escaping.{Escaping}
@@ -36,7 +38,8 @@ is_one line letter word = bytes_eq line letter || bytes_eq line word
 -- what a line asks the client itself for
 abbrev pub command : List ℕ → EscapeCommand
 command line =
-    if is_one line (codes "q") (codes "quit") || bytes_eq line (codes "close") then Close
+    if is_one line (codes "q") (codes "quit") || bytes_eq line (codes "close") then Close Leaves
+    else if bytes_eq line (codes "again") then Close Returns
     else if is_one line (codes "?") (codes "help") then Help
     else if is_one line (codes "s") (codes "status") then Status
     else if is_one line (codes "z") (codes "suspend") then Suspend else Unknown
@@ -146,7 +149,7 @@ Obeys (Some old) these new = new ≡ Some (old ++ these)
 
 -- the last of these asks to close
 abbrev pub AskToClose : List EscapeCommand → Type 0
-AskToClose these = (before : List EscapeCommand) × (these ≡ before ++ (Close ∷ []))
+AskToClose these = (before : List EscapeCommand) × (next : Next) × (these ≡ before ++ (Close next ∷ []))
 
 -- so many bytes were taken: all, or those up to one that asks to close
 abbrev pub IsTakenUpTo : ℕ → Keyboard → Prompt → List ℕ → Type 0

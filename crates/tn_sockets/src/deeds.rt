@@ -1,6 +1,6 @@
 //! What the user at a terminal asks the client itself for.
 
-use crate::escaping::{Echo, EscapeCommand, Obey};
+use crate::escaping::{Echo, EscapeCommand, Next, Obey};
 use crate::keys::Typing;
 use crate::link::Link;
 use crate::own_characters::OwnCharacters;
@@ -10,6 +10,7 @@ use std::io::Write;
 
 /// What may be typed behind the escape character.
 const HELP: &[u8] = b"quit, close, q  close the connection and leave\r\n\
+    again           close the connection and connect again\r\n\
     status, s       show the state of the session\r\n\
     suspend, z      stop, until the shell goes on with it\r\n\
     send brk, b     send BREAK, which some monitors wait for\r\n\
@@ -30,7 +31,7 @@ pub(crate) struct Deeds<'a, H, K> {
 impl<'a, H, K> Obey for Deeds<'a, H, K> {
     fn obey(&mut self, command: EscapeCommand) {
         match command {
-            EscapeCommand::Close => self.typing.link.leave(),
+            EscapeCommand::Close(next) => self.close(next),
             EscapeCommand::Help => self.terminal.show(HELP),
             EscapeCommand::Status => self.show_status(),
             EscapeCommand::Suspend => {
@@ -50,6 +51,15 @@ impl<'a, H, K> Obey for Deeds<'a, H, K> {
 }
 
 impl<'a, H, K> Deeds<'a, H, K> {
+    // The connection is closed, if whoever started the program hears what is to follow.
+    fn close(&mut self, next: Next) {
+        if self.terminal.leave(next) {
+            self.typing.link.leave();
+        } else {
+            self.terminal.show(b"nobody here can connect again\r\n");
+        }
+    }
+
     fn show_status(&mut self) {
         let Typing {
             link,

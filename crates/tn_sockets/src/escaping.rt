@@ -13,11 +13,19 @@ use crate::prompt::{Edit, Prompt, edit_of};
 use std::collections::VecDeque;
 use tn_streams::Control;
 
+/// What becomes of a user whose connection is closed.
+#[derive(Clone, Copy, PartialEq, Eq)]
+pub enum Next {
+    Leaves,
+    /// The user connects again.
+    Returns,
+}
+
 /// What the user asks the client itself for.
 #[derive(Clone, Copy, PartialEq, Eq)]
 pub enum EscapeCommand {
-    /// `quit`, `close` or `q`: close the connection.
-    Close,
+    /// `quit`, `close` or `q`: close the connection; and `again`: close it, and connect again.
+    Close(Next),
     /// `help` or `?`: show the commands.
     Help,
     /// `status` or `s`: show the state of the session.
@@ -253,8 +261,8 @@ impl Escaping {
                 Typed::Control(control) => {
                     let _pushed = kept.push_back(SessionInput::Control(control));
                 },
-                Typed::Command(EscapeCommand::Close) => {
-                    obeying.obey(EscapeCommand::Close);
+                Typed::Command(EscapeCommand::Close(next)) => {
+                    obeying.obey(EscapeCommand::Close(next));
                     let taken = place + 1;
                     return taken;
                 },
@@ -308,7 +316,10 @@ fn command_of(line: &[u8]) -> EscapeCommand
     ensures { result ≡ command line.now }
 {
     if is_one(line, b"q", b"quit") || is(line, b"close") {
-        return EscapeCommand::Close;
+        return EscapeCommand::Close(Next::Leaves);
+    }
+    if is(line, b"again") {
+        return EscapeCommand::Close(Next::Returns);
     }
     if is_one(line, b"?", b"help") {
         return EscapeCommand::Help;

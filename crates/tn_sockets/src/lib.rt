@@ -14,7 +14,7 @@
 //! escaping.take(b'a'); // Typed::Key(b'a')
 //! escaping.take(0x1d); // Typed::Nothing
 //! escaping.take(b'q'); // Typed::Nothing
-//! escaping.take(b'\r'); // Typed::Command(EscapeCommand::Close)
+//! escaping.take(b'\r'); // Typed::Command(EscapeCommand::Close(Next::Leaves))
 //! ```
 //!
 //! It starts no thread and no session. Nothing is proved of what a socket or a terminal carries. It is proved
@@ -25,7 +25,9 @@
 pub use attended::{Attended, Standing};
 pub use connection::{Closing, Connection};
 pub use console::Console;
-pub use escaping::{Echo, EscapeCommand, Escaping, Keyboard, Obey, ReturnKey, SessionInput, Typed};
+pub use escaping::{
+    Echo, EscapeCommand, Escaping, Keyboard, Next, Obey, ReturnKey, SessionInput, Typed,
+};
 pub use hook::Hook;
 pub use host::Host;
 pub use incoming::Incoming;

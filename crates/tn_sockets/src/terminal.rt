@@ -2,7 +2,7 @@
 
 ghost use Rattle.std.specs.Prelude.{◌≡◌};
 
-use crate::escaping::Echo;
+use crate::escaping::{Echo, Next};
 use std::fs::File;
 use std::io::Write;
 
@@ -16,6 +16,11 @@ const BELL: &[u8] = b"\x07";
 
 /// The line that asks whoever set the terminal to stop the program: SUB and a line feed.
 const STOPS: &[u8] = b"\x1a\n";
+
+/// The lines that say that the user leaves, and that the program is to be started again: CAN or EM, and a line feed.
+const LEAVES: &[u8] = b"\x18\n";
+
+const RETURNS: &[u8] = b"\x19\n";
 
 /// The terminal itself, whose standard output may be a file. Where there is none, nothing is shown. A line
 /// that can't be written is dropped.
@@ -56,6 +61,19 @@ impl Terminal {
                 }
             },
             Echo::End => self.show(b"\r\n"),
+        }
+    }
+
+    /// Says what becomes of the user once the connection is closed. False if the user wants to connect again, and
+    /// nobody can do that.
+    pub(crate) fn leave(&mut self, next: Next) -> bool {
+        let line = match next {
+            Next::Leaves => LEAVES,
+            Next::Returns => RETURNS,
+        };
+        match &mut self.launcher {
+            Some(launcher) => launcher.write_all(line).is_ok() || next == Next::Leaves,
+            None => next == Next::Leaves,
         }
     }
 

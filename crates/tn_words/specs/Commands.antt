@@ -120,6 +120,7 @@ connect = with_rules (codes "connect") (
     ∷ wait_rule
     ∷ patience_rule
     ∷ with_default (whole_rule (codes "timeout") 0 86400) (codes "0")
+    ∷ whole_rule (codes "again") 1 86400
     ∷ with_letter (flag_rule (codes "ipv4")) 52
     ∷ with_letter (flag_rule (codes "ipv6")) 54
     ∷ text_rule (codes "bind")

@@ -142,6 +142,13 @@ pub(crate) const TIMEOUT: Whole = Whole {
     most: 86_400,
 };
 
+/// At most a day.
+pub(crate) const AGAIN: Whole = Whole {
+    name: "again",
+    least: 1,
+    most: 86_400,
+};
+
 pub(crate) const HOST: &str = "host";
 
 pub(crate) const IPV4: &str = "ipv4";
@@ -371,6 +378,11 @@ const CONNECT_CHOICES: &[Choice] = &[
         "0",
         "Gives up an address that takes no connection for this many seconds; at 0 after 2, but the last one \
          only when the system does",
+    ),
+    Choice::Number(
+        AGAIN,
+        "Connects again this many seconds after a connection was closed, broken or refused; at a terminal only, \
+         whose ^]quit or ^C ends it",
     ),
     Choice::Letter(IPV4, '4', "Tries addresses of IPv4 only"),
     Choice::Letter(IPV6, '6', "Tries addresses of IPv6 only"),
@@ -604,7 +616,7 @@ fn connect_command<C: Grow>(alloc: Global) -> Result<C, AllocError>
          At a terminal, start it by its launcher (`tn connect` once installed, `./tn connect` in the sources), which sets the terminal so that each key is sent at \
          once, and sets it back at the end. With `tn serve` at the other end, the line `exit` ends the \
          session, and so does ^D on an empty line.\n\n\
-         There ^] begins a line to the client itself, which RETURN ends: quit, close or q; status or s; suspend or z; \
+         There ^] begins a line to the client itself, which RETURN ends: quit, close or q; again; status or s; suspend or z; \
          send brk, send ip and send ayt, or b, i and a; help or ?. An empty line goes back, and ^] again sends ^].",
         "Example, where `tn serve --port 2323` runs in another terminal:\n  \
          printf 'hello\\rexit\\r' | tn connect --port 2323",

@@ -63,10 +63,10 @@ returns-in-Command-Close-clause-inputs g c =
     let taken = c.take.ensures in
     (one_more c.args.self.now.keyboard c.args.self.now.prompt c.args.bytes.now c.args.kept.now.items l.place 0 l.kept.items l.kept.items
     (g.O.Obey.obeyed c.args.obeying.now) (g.O.Obey.obeyed l.obeying) (g.O.Obey.obeyed c.obey.new.self) l.self c.take.new.self
-    (typed.Command Close) l.invariant.0 c.loop-place-test.true
+    (typed.Command (Close c.in-Command-Close.next)) l.invariant.0 c.loop-place-test.true
     (sym (c.in-Command-Close.is ∙ ap typed.Command c.in-Command-Close.field-0-is) ∙ taken.typed) taken.keyboard taken.prompt
     (sym (append-nil l.kept.items))
-    (obeys_more (g.O.Obey.obeyed l.obeying) (g.O.Obey.obeyed c.echo-in-loop-place.new.self) (g.O.Obey.obeyed c.obey.new.self) [] (Close ∷ [])
+    (obeys_more (g.O.Obey.obeyed l.obeying) (g.O.Obey.obeyed c.echo-in-loop-place.new.self) (g.O.Obey.obeyed c.obey.new.self) [] (Close c.in-Command-Close.next ∷ [])
     c.echo-in-loop-place.ensures c.obey.ensures)).kept_are
 
 pub returns-in-Command-Close-clause-commands : goal.returns-in-Command-Close-clause-commands
@@ -75,10 +75,10 @@ returns-in-Command-Close-clause-commands g c =
     let taken = c.take.ensures in
     (one_more c.args.self.now.keyboard c.args.self.now.prompt c.args.bytes.now c.args.kept.now.items l.place 0 l.kept.items l.kept.items
     (g.O.Obey.obeyed c.args.obeying.now) (g.O.Obey.obeyed l.obeying) (g.O.Obey.obeyed c.obey.new.self) l.self c.take.new.self
-    (typed.Command Close) l.invariant.0 c.loop-place-test.true
+    (typed.Command (Close c.in-Command-Close.next)) l.invariant.0 c.loop-place-test.true
     (sym (c.in-Command-Close.is ∙ ap typed.Command c.in-Command-Close.field-0-is) ∙ taken.typed) taken.keyboard taken.prompt
     (sym (append-nil l.kept.items))
-    (obeys_more (g.O.Obey.obeyed l.obeying) (g.O.Obey.obeyed c.echo-in-loop-place.new.self) (g.O.Obey.obeyed c.obey.new.self) [] (Close ∷ [])
+    (obeys_more (g.O.Obey.obeyed l.obeying) (g.O.Obey.obeyed c.echo-in-loop-place.new.self) (g.O.Obey.obeyed c.obey.new.self) [] (Close c.in-Command-Close.next ∷ [])
     c.echo-in-loop-place.ensures c.obey.ensures)).obeyed
 
 pub returns-in-Command-Close-clause-prompt : goal.returns-in-Command-Close-clause-prompt
@@ -87,10 +87,10 @@ returns-in-Command-Close-clause-prompt g c =
     let taken = c.take.ensures in
     (one_more c.args.self.now.keyboard c.args.self.now.prompt c.args.bytes.now c.args.kept.now.items l.place 0 l.kept.items l.kept.items
     (g.O.Obey.obeyed c.args.obeying.now) (g.O.Obey.obeyed l.obeying) (g.O.Obey.obeyed c.obey.new.self) l.self c.take.new.self
-    (typed.Command Close) l.invariant.0 c.loop-place-test.true
+    (typed.Command (Close c.in-Command-Close.next)) l.invariant.0 c.loop-place-test.true
     (sym (c.in-Command-Close.is ∙ ap typed.Command c.in-Command-Close.field-0-is) ∙ taken.typed) taken.keyboard taken.prompt
     (sym (append-nil l.kept.items))
-    (obeys_more (g.O.Obey.obeyed l.obeying) (g.O.Obey.obeyed c.echo-in-loop-place.new.self) (g.O.Obey.obeyed c.obey.new.self) [] (Close ∷ [])
+    (obeys_more (g.O.Obey.obeyed l.obeying) (g.O.Obey.obeyed c.echo-in-loop-place.new.self) (g.O.Obey.obeyed c.obey.new.self) [] (Close c.in-Command-Close.next ∷ [])
     c.echo-in-loop-place.ensures c.obey.ensures)).prompt_is
 
 pub returns-in-Command-Close-clause-taken : goal.returns-in-Command-Close-clause-taken
@@ -103,6 +103,7 @@ returns-in-Command-Close-clause-taken g c =
       omega (arith, c.loop-place-test.true),
       inr (
         commands keyboard prompt (take l.place given),
-        commands_with keyboard prompt given l.place 0 l.self (typed.Command Close) c.loop-place-test.true l.invariant.0.keyboard_is l.invariant.0.prompt_is is,
+        c.in-Command-Close.next,
+        commands_with keyboard prompt given l.place 0 l.self (typed.Command (Close c.in-Command-Close.next)) c.loop-place-test.true l.invariant.0.keyboard_is l.invariant.0.prompt_is is,
       ),
     )
