@@ -231,7 +231,8 @@ def signals_that_go_to_a_service_do_not_end_a_session_whose_service_reads_late(w
 @case
 def a_service_that_cannot_be_reached_is_reported(world):
     serving = Serving(world, "--to", f"127.0.0.1:{free_port()}")
-    expect_in_order(peer_of(world, serving).read_to_end(), b"the service cannot be reached\r\n")
+    screen = peer_of(world, serving).read_to_end()
+    expect(re.search(rb"(\A|\n)the service cannot be reached: Connection refused[^\r\n]*\r\n\Z", screen), f"a user reads {screen!r}")
     printed = serving.end(None)
     expect(re.search(rb"\A[^\n]* ended: service not reached: 127\.0\.0\.1:\d+: Connection refused[^\n]*\n\Z", printed), f"printed is {printed!r}")
 
@@ -275,7 +276,8 @@ def who_leaves_a_session_whose_service_is_dialled_frees_its_place(world):
 def a_service_is_dialled_for_as_long_as_is_asked_for(world):
     _, _, serving, peer = dialling(world, "--dial", "2")
     began = time.monotonic()
-    expect_in_order(peer.read_to_end(), b"the service cannot be reached\r\n")
+    screen = peer.read_to_end()
+    expect(re.search(rb"the service cannot be reached: [^\r\n]*timed out[^\r\n]*\r\n\Z", screen), f"a user reads {screen!r}")
     expect(1 < time.monotonic() - began < 8, "it is dialled for another time")
     printed = serving.end(None)
     expect(re.search(rb"ended: service not reached: 127\.0\.0\.1:\d+: [^\n]*timed out[^\n]*\n\Z", printed), f"printed is {printed!r}")

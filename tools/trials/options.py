@@ -1,7 +1,7 @@
 """Each option of `tn serve` and `tn connect` has its effect at the program. Those that are not tried here:
 
     tn serve     --host                             piped.the_host_that_was_asked_for_is_the_one
-                 --per-host, --until, --verbose     notes
+                 --until, --verbose                 notes
                  --idle, --longest                  notes.a_peer_gets_the_cause_of_its_end and others
                  --to, --crlf, --cr, --line-cut     gateway
     tn connect   --escape, --width, --height        interactive.another_escape_character_is_taken, a_size_by_hand_wins
@@ -15,14 +15,36 @@
                  --plain, --lf, --cr                plain
                  --line                             a_line_has_as_many_bytes_as_it_may, plain.a_full_line_refuses_keys_and_is_sent_as_it_is_shown
 """
+import os
 import signal
 import socket
+import subprocess
 import time
 
 from ends import IAC, LINEMODE, NO_GO_AHEAD, WILL, Peer, Serving, User, mode
-from world import NotTried, case, expect, expect_in_order, expect_same
+from services import Service, answering
+from world import NotTried, case, expect, expect_in_order, expect_same, free_port
 
 EDITS = mode(1)[:4]
+
+# The first words of a server.
+OPENING = bytes.fromhex("fffd22 fffd1f fffb03 fffd03 fffb01")
+
+# A clock that runs a thousand times as fast, for a program that is loaded with it.
+FAST_CLOCK = """
+#include <sys/syscall.h>
+#include <time.h>
+#include <unistd.h>
+
+int clock_gettime(clockid_t clock, struct timespec *now) {
+    int status = syscall(SYS_clock_gettime, clock, now);
+    if (status == 0 && clock == CLOCK_MONOTONIC) {
+        now->tv_sec = now->tv_sec * 1000 + now->tv_nsec / 1000000;
+        now->tv_nsec = now->tv_nsec % 1000000 * 1000;
+    }
+    return status;
+}
+"""
 
 
 @case(each={"by default": (1,), "--count 3": (3, "--count", "3")})
@@ -57,6 +79,75 @@ def a_server_has_as_many_sessions_as_its_limit(world, limit, *words):
         peer.send(b"hello\r\n")
         expect_in_order(peer.leave(), b"hello\r\n")
     serving.end()
+
+
+@case(each={
+    "half the limit off loopback": (2, "--host", "0.0.0.0", "--limit", "4"), "one of three off loopback": (1, "--host", "0.0.0.0", "--limit", "3"),
+    "the limit on loopback": (4, "--host", "127.0.0.1", "--limit", "4"), "the limit of localhost": (4, "--host", "localhost", "--limit", "4"),
+    "a given number": (3, "--host", "0.0.0.0", "--limit", "4", "--per-host", "3"),
+    "any number for 0": (4, "--host", "0.0.0.0", "--limit", "4", "--per-host", "0")})
+def an_address_has_as_many_sessions_as_its_share(world, share, *words):
+    serving = Serving(world, "--count", share + 1, *words)
+    peers = [Peer(world, serving.port).is_served() for _ in range(share)]
+    expect_same(b"full\r\n", Peer(world, serving.port).leave(), "what one more peer of the address gets")
+    for peer in peers:
+        peer.leave()
+    serving.end()
+
+
+@case(wants=["cc"], each={"an hour off loopback": (True, "--host", "0.0.0.0"), "never on loopback": (False,),
+                          "never for 0": (False, "--host", "0.0.0.0", "--idle", "0")})
+def a_silent_client_is_let_go_after(world, is_let_go, *words):
+    source, clock = world.path("clock.c"), world.path("clock.so")
+    with open(source, "w", encoding="utf-8") as file:
+        file.write(FAST_CLOCK)
+    subprocess.run(["cc", "-shared", "-fPIC", "-o", clock, source], check=True)
+    serving = Serving(world, *words, under=("env", f"LD_PRELOAD={clock}"))
+    peer = Peer(world, serving.port).is_served()
+    if is_let_go:
+        peer.read_until(b"idle\r\n")
+        lasted = time.monotonic() - peer.began
+        expect(3.5 <= lasted, f"wanted an end after an hour of the clock, 3.6 s, got one after {lasted:.1f} s")
+        peer.read_to_end()
+    else:
+        time.sleep(6)
+        peer.send(b"hello\r\n")
+        peer.read_until(b"hello\r\n")
+        peer.leave()
+    serving.end()
+
+
+@case(each={"its own job": (2, b"hello\r\n", "--count", "2"), "a service": (1, b"got hello\r\n", "--to")})
+def a_banner_is_shown_after_the_opening(world, count, answer, *words):
+    path = world.path("issue.net")
+    with open(path, "wb") as file:
+        file.write(b"Welcome\nto \xff tn\r\nalone\rend\n")
+    if "--to" in words:
+        words += (f"127.0.0.1:{Service(world, answering).port}",)
+    serving = Serving(world, "--banner", path, *words)
+    os.remove(path)
+    for _ in range(count):
+        peer = Peer(world, serving.port)
+        peer.send(b"hello\r\n")
+        peer.read_until(answer)
+        shown = OPENING + b"Welcome\r\nto \xff\xff tn\r\nalone\r\0end\r\n"
+        expect_same(shown, peer.got[:len(shown)], "what is shown first")
+        peer.leave()
+    serving.end()
+
+
+@case(each={"is not there": (1, b"tn: read\ntn: PATH: No such file or directory"), "is a folder": (1, b"tn: read\ntn: PATH: Is a directory"),
+            "is too long": (1, b"tn: read\ntn: PATH: it has more than 65536 bytes\n"),
+            "has no name": (2, b"tn: usage\nerror: '--banner <FILE>' needs a path of 1 to 4095 bytes\n")})
+def a_banner_is_an_error_that(world, status, printed):
+    path = world.path("issue.net") if status == 1 else ""
+    if b"folder" in printed or b"Is a" in printed:
+        os.mkdir(path)
+    elif b"65536" in printed:
+        with open(path, "wb") as file:
+            file.write(bytes(65_537))
+    run = world.run("serve", "--port", free_port(), "--banner", path)
+    expect_same((status, True), (run.returncode, run.stderr.startswith(printed.replace(b"PATH", path.encode()))), f"what is printed: {run.stderr}")
 
 
 @case(each={"none by default": (0,), "--ticks 1": (1, "--ticks", "1"), "--ticks 5": (5, "--ticks", "5")})

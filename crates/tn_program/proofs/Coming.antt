@@ -76,6 +76,7 @@ ran machine a origin bytes old new (outcome.Talked (Ok r)) (connecting, e, ends)
     (ends.port, ends.is_port, inr (ends.line_end, r, ends.plain, ends.ran, known connecting.port r ends.reached))
 ran machine a origin bytes old new (outcome.Talked (Err f)) h zero = absurd (unconnected f zero)
 ran machine a origin bytes old new outcome.Untraced h zero = absurd (omega (arith, zero))
+ran machine a origin bytes old new outcome.Unread h zero = absurd (omega (arith, zero))
 ran machine a origin bytes old new (outcome.Help ended) h zero = absurd h
 ran machine a origin bytes old new (outcome.Version ended) h zero = absurd h
 ran machine a origin bytes old new (outcome.Usage detail) h zero = absurd h
@@ -100,6 +101,7 @@ helped machine words origin bytes old new (outcome.Served ended) h zero = absurd
 helped machine words origin bytes old new (outcome.Connected ended) h zero = absurd h
 helped machine words origin bytes old new (outcome.Talked ended) h zero = absurd h
 helped machine words origin bytes old new outcome.Untraced h zero = absurd h
+helped machine words origin bytes old new outcome.Unread h zero = absurd h
 
 pub does : (machine : Machine) (words : List (List ℕ)) (origin : KeySource) (bytes : Option (List ℕ)) (old new : Option (List ℕ)) (came : Outcome)
     → status_of came ≡ 0 → ComesOf machine words origin bytes old new came → DoesAsAsked machine words origin bytes old new
@@ -123,6 +125,7 @@ unrun words old new (outcome.Served ended) nothing h = absurd h
 unrun words old new (outcome.Connected ended) nothing h = absurd h
 unrun words old new (outcome.Talked ended) nothing h = absurd h
 unrun words old new outcome.Untraced nothing h = absurd h
+unrun words old new outcome.Unread nothing h = absurd h
 
 comes_of_nothing : (machine : Machine) (words : List (List ℕ)) (origin : KeySource) (bytes : Option (List ℕ)) (old new : Option (List ℕ)) (came : Outcome)
     → AskForNothing words → ComesOf machine words origin bytes old new came → ((status_of came ≡ 2) ⊎ (status_of came ≡ 1)) × (new ≡ old)

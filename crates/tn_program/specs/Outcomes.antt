@@ -112,6 +112,8 @@ ComesOfRun machine a origin bytes old new (outcome.Talked ended) =
     × EndsTalking machine connecting ended origin bytes old new
 ComesOfRun machine a origin bytes old new outcome.Untraced =
     (connecting : ConnectWords) × (a ≡ asked.Connect connecting) × AsksForFile connecting × (new ≡ old)
+ComesOfRun machine a origin bytes old new outcome.Unread =
+    (serving : ServeWords) × (a ≡ asked.Serve serving) × (serving.banner ≢ None) × (new ≡ old)
 ComesOfRun machine a origin bytes old new (outcome.Help ended) = ⊥
 ComesOfRun machine a origin bytes old new (outcome.Version ended) = ⊥
 ComesOfRun machine a origin bytes old new (outcome.Usage detail) = ⊥
@@ -133,6 +135,7 @@ ComesOfNoRun words old new (outcome.Served ended) = ⊥
 ComesOfNoRun words old new (outcome.Connected ended) = ⊥
 ComesOfNoRun words old new (outcome.Talked ended) = ⊥
 ComesOfNoRun words old new outcome.Untraced = ⊥
+ComesOfNoRun words old new outcome.Unread = ⊥
 
 -- this came of the words: the run that they ask for, or none
 abbrev pub ComesOf : Machine → List (List ℕ) → KeySource → Option (List ℕ) → Option (List ℕ) → Option (List ℕ)

@@ -1,6 +1,8 @@
 -- What was asked for, as sessions over connections take it.
-use Rattle.std.specs.Prelude.{◌≡◌, ℕ, Bool, true, IsTrue, false, Option, None, Some, IsSome, unwrap_or, List}
-use Rattle.std.specs.Prelude.{Result}
+use Rattle.std.specs.Prelude.{◌≡◌, ◌||◌, ◌/◌, ℕ, Bool, true, IsTrue, false, Option, None, Some, IsSome, unwrap_or}
+use Rattle.std.specs.Prelude.{Result, List, codes, eqb, nat_eq, if◌then◌else◌}
+use Rattle.std.specs.List.{starts_with}
+use Rattle.std.specs.Str.{bytes_eq}
 use Rattle.std.specs.Prelude.{Ok, Err, string_bytes}
 use Rattle.tn_services.specs.declared.answerers.Answerers.{Answerers}
 use Rattle.tn_services.specs.declared.cutting.LineFormat.{LineFormat}
@@ -43,12 +45,37 @@ UnlessMemory (Err Network) asked = asked
 UnlessMemory (Err BadLimit) asked = asked
 UnlessMemory (Err Memory) asked = Unit {0}
 
+-- whether a host is of loopback, by its text
+abbrev pub is_loopback : List ℕ → Bool
+is_loopback host =
+    starts_with eqb host (codes "127.") || bytes_eq host (codes "::1") || bytes_eq host (codes "localhost")
+
+-- how many sessions one address may have: as many as all may, for 0 and, if none are named, at a host of loopback;
+-- elsewhere half of all, and one at least
+abbrev pub half_of : ℕ → ℕ
+half_of sessions = if nat_eq sessions 1 then 1 else sessions / 2
+
+abbrev pub usual_per_host : Bool → ℕ → ℕ
+usual_per_host true sessions = 64
+usual_per_host false sessions = half_of sessions
+
+abbrev pub per_host_as : Option ℕ → Bool → ℕ → ℕ
+per_host_as (Some count) loopback sessions = if nat_eq count 0 then 64 else count
+per_host_as None loopback sessions = usual_per_host loopback sessions
+
+-- after how many seconds a session is idle: if none are named, never at a host of loopback, and elsewhere after an
+-- hour
+abbrev pub idle_as : Option ℕ → Bool → ℕ
+idle_as (Some seconds) loopback = seconds
+idle_as None true = 0
+idle_as None false = 3600
+
 abbrev pub options_as : ServeWords → SessionOptions
 options_as asked =
     record {
       line_limit = asked.line_limit;
       editing = editing_as asked.local;
-      idle = asked.idle;
+      idle = idle_as asked.idle (is_loopback (string_bytes asked.host));
       longest = asked.longest;
     }
 

@@ -52,6 +52,7 @@ status_of (outcome.Served ended) = status_after_serving ended
 status_of (outcome.Connected ended) = status_after_connecting ended
 status_of (outcome.Talked ended) = status_after_talking ended
 status_of outcome.Untraced = 1
+status_of outcome.Unread = 1
 status_of (outcome.Help ended) = status_after ended
 status_of (outcome.Version ended) = status_after ended
 status_of (outcome.Usage detail) = 2

@@ -98,6 +98,7 @@ text_of (outcome.Served ended) = text_of_serving ended
 text_of (outcome.Connected ended) = text_of_connecting ended
 text_of (outcome.Talked ended) = text_of_connecting ended
 text_of outcome.Untraced = line (codes "write")
+text_of outcome.Unread = line (codes "read")
 text_of (outcome.Help ended) = text_of_run ended
 text_of (outcome.Version ended) = text_of_run ended
 text_of (outcome.Usage (Some detail)) = line (codes "usage") ++ string_bytes detail
@@ -123,6 +124,7 @@ has_unprinted (outcome.Served ended) = false
 has_unprinted (outcome.Connected ended) = false
 has_unprinted (outcome.Talked ended) = false
 has_unprinted outcome.Untraced = false
+has_unprinted outcome.Unread = false
 has_unprinted (outcome.Help ended) = false
 has_unprinted (outcome.Version ended) = false
 has_unprinted (outcome.Usage detail) = false
@@ -144,6 +146,7 @@ UnlessTelling (outcome.World ended) same = same
 UnlessTelling (outcome.Connected ended) same = Unit {0}
 UnlessTelling (outcome.Talked ended) same = Unit {0}
 UnlessTelling outcome.Untraced same = same
+UnlessTelling outcome.Unread same = same
 UnlessTelling (outcome.Help ended) same = same
 UnlessTelling (outcome.Version ended) same = same
 UnlessTelling (outcome.Usage detail) same = same
@@ -156,11 +159,12 @@ UnlessNetwork (Err serve.Limit) same = same
 UnlessNetwork (Err serve.Network) same = Unit {0}
 UnlessNetwork (Err serve.Memory) same = Unit {0}
 
--- a connection notes causes, and so does a server that cannot listen
+-- a connection notes causes, and so does a server that cannot listen, or read its banner
 abbrev pub UnlessConnected : Outcome → Type 0 → Type 0
 UnlessConnected (outcome.Connected ended) same = Unit {0}
 UnlessConnected (outcome.Talked ended) same = Unit {0}
 UnlessConnected outcome.Untraced same = Unit {0}
+UnlessConnected outcome.Unread same = Unit {0}
 UnlessConnected (outcome.Served ended) same = UnlessNetwork ended same
 UnlessConnected (outcome.Local ended) same = same
 UnlessConnected (outcome.Replay ended) same = same
@@ -175,6 +179,7 @@ abbrev pub IsConnecting : Outcome → Type 0
 IsConnecting (outcome.Connected ended) = Unit {0}
 IsConnecting (outcome.Talked ended) = Unit {0}
 IsConnecting outcome.Untraced = Unit {0}
+IsConnecting outcome.Unread = ⊥
 IsConnecting (outcome.Served ended) = ⊥
 IsConnecting (outcome.Local ended) = ⊥
 IsConnecting (outcome.Replay ended) = ⊥

@@ -25,6 +25,7 @@ pub use tn_connect::{KeySource, Link, OwnCharacters, Screen};
 pub use tn_network::Network;
 pub use watching::Lookout;
 
+mod banner;
 mod counting;
 mod files;
 mod metrics;

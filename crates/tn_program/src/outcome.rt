@@ -37,6 +37,8 @@ pub enum Outcome {
     Talked(Result<TalkReport, ConnectFault>),
     /// They ask for a connection with a trace or a log, whose file could not be made; none was made.
     Untraced,
+    /// They ask for a server with a banner, whose file could not be read; it did not listen.
+    Unread,
     /// They ask for help; it was written, or that failed.
     Help(Result<(), CliFault>),
     /// They ask for the version; it was written, or that failed.
@@ -61,6 +63,7 @@ impl Outcome {
             Outcome::Connected(ended) => after_connecting(ended),
             Outcome::Talked(ended) => after_talking(ended),
             Outcome::Untraced => CliFault::Write.status(),
+            Outcome::Unread => CliFault::Read.status(),
             Outcome::Help(ended) => after_run(ended),
             Outcome::Version(ended) => after_run(ended),
             Outcome::Usage(_) => USAGE,
@@ -128,6 +131,7 @@ impl Outcome {
             Outcome::Connected(ended) => text_of_connecting(alloc, ended),
             Outcome::Talked(ended) => text_of_connecting(alloc, ended),
             Outcome::Untraced => line(alloc, b"write"),
+            Outcome::Unread => line(alloc, b"read"),
             Outcome::Help(ended) => text_of_run(alloc, ended),
             Outcome::Version(ended) => text_of_run(alloc, ended),
             Outcome::Usage(Some(detail)) => usage(alloc, detail.as_str()),

@@ -10,6 +10,7 @@ ghost use Rattle.tn_program.specs.Runs.{DoesAsAsked};
 ghost use Rattle.tn_program.specs.Told.{IsConnecting, IsTold, UnlessConnected, UnlessTelling};
 ghost use Rattle.tn_words.specs.Words.{AskFor, Refuses};
 
+use crate::banner::read_banner;
 use crate::counting::Serves;
 use crate::files::{open_log, open_trace};
 use crate::metrics::Replacing;
@@ -27,7 +28,9 @@ use tn_cli::{CliFault, run_decode, run_local, run_replay, run_world};
 use tn_connect::{ClientContext, ConnectFault, Host, KeySource, News, connect, connect_plain};
 use tn_network::Network;
 use tn_streams::Drain;
-use tn_words::{Asked, ConnectWords, LineEnd, VERSION_LINE, WordsFault, read_words};
+use tn_words::{
+    Asked, ConnectWords, LineEnd, ServeWords, VERSION_LINE, WordsFault, read_words,
+};
 
 /// Runs what the words of the command line ask for, where they could be read. The program's name is the
 /// first of them. Returns the status to end with: 0 where that was done, and else the status of its fault
@@ -198,10 +201,7 @@ fn run_asked<
         Asked::Replay => Outcome::Replay(run_replay(alloc, &mut streams, writer)),
         Asked::Decode => Outcome::Decode(run_decode(alloc, &mut streams, writer)),
         Asked::World => Outcome::World(run_world(alloc, &mut streams, writer)),
-        Asked::Serve(asked) => {
-            let served = serve_asked(rt, alloc, &asked, streams.is_journal, causes);
-            Outcome::Served(served)
-        },
+        Asked::Serve(asked) => run_serve(rt, alloc, &asked, streams.is_journal, causes),
         Asked::Connect(asked) => match asked.plain {
             Some(line_end) => run_plain(
                 rt, alloc, &asked, line_end, streams, writer, errors, causes,
@@ -209,6 +209,26 @@ fn run_asked<
             None => run_connect(rt, alloc, asked, streams, writer, errors, causes),
         },
     }
+}
+
+// A server's sessions.
+fn run_serve<H: Network + Host + Lookout + Replacing + Eprint + Files<File = File>>(
+    rt: H,
+    alloc: Global,
+    asked: &ServeWords,
+    is_journal: bool,
+    causes: &mut Vec<u8>,
+) -> Outcome
+    ensures comes { (origin : KeySource) (bytes old : Option (List ℕ)) → ComesOfRun
+        (machine_of (H.listens rt) (H.shares rt) (H.accepts rt) (H.finds rt) (H.dials rt)
+        (H.sees rt) (⟦<H as Serves>⟧.serves rt))
+        (Asked.Serve asked.now) origin bytes old old result }
+    ensures uncaused { UnlessConnected result (causes.new.items ≡ causes.old.items) }
+{
+    let Ok(banner) = read_banner(&rt, alloc, asked, causes) else {
+        return Outcome::Unread;
+    };
+    Outcome::Served(serve_asked(rt, alloc, asked, banner, is_journal, causes))
 }
 
 // A talk with a service that takes lines.

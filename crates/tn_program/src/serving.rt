@@ -22,11 +22,12 @@ use tn_services::{
 };
 
 /// Serves as was asked for, and writes notes to standard error: `is_journal` says that systemd's journal reads
-/// them. If it cannot listen, `causes` gets a line.
+/// them. Each client is shown `banner` first. If it cannot listen, `causes` gets a line.
 pub(crate) fn serve_asked<H>(
     rt: H,
     alloc: Global,
     asked: &tn_words::ServeWords,
+    banner: Option<Arc<Vec<u8>, Global>>,
     is_journal: bool,
     causes: &mut Vec<u8>,
 ) -> Result<Served, ServeFault>
@@ -54,7 +55,7 @@ where
         return Err(ServeFault::Memory);
     };
     let log = Counting { log, counts, alloc };
-    let served = serve_noted(rt, alloc, asked, &log, causes);
+    let served = serve_noted(rt, alloc, asked, banner, &log, causes);
     drop(log);
     if let Some(publisher) = publisher {
         publisher.finish(&rt);
@@ -86,6 +87,7 @@ fn serve_noted<H, L>(
     rt: H,
     alloc: Global,
     asked: &tn_words::ServeWords,
+    banner: Option<Arc<Vec<u8>, Global>>,
     log: &L,
     causes: &mut Vec<u8>,
 ) -> Result<Served, ServeFault>
@@ -110,7 +112,7 @@ where
         port: asked.port,
     };
     let Some(to) = &asked.to else {
-        let service = answering_of(asked);
+        let service = answering_of(asked, banner);
         return serve(rt, alloc, at, serving, until, service, log, causes);
     };
     let service = Joining {
@@ -119,6 +121,7 @@ where
         port: to.port,
         patience: asked.dial,
         lines: lines_of(asked),
+        banner,
     };
     serve(rt, alloc, at, serving, until, service, log, causes)
 }
@@ -152,6 +155,8 @@ pub struct Joining<H> {
     pub patience: u32,
     /// How lines go there.
     pub lines: LineFormat,
+    /// What each client is shown first, as it goes over the connection.
+    pub banner: Option<Arc<Vec<u8>, Global>>,
 }
 
 /// Has the server note a line that may have been cut.
@@ -176,6 +181,10 @@ impl<H: Host + Network> Service for Joining<H> {
     type Jobs = Joiner<H, Noting<H>>;
 
     ghost makes = { λ j jobs. JoinsAsAsked j.rt (string_bytes j.host) j.port j.patience j.lines jobs };
+
+    fn banner(&self) -> Option<&Arc<Vec<u8>, Global>> {
+        self.banner.as_ref()
+    }
 
     fn session(&mut self, alloc: Global, call: Call) -> Result<Joiner<H, Noting<H>>, AllocError> {
         let Call { hook, notes, .. } = call;

@@ -1,13 +1,14 @@
 //! What was asked for, as sessions over connections take it.
 
-ghost use Rattle.std.specs.Prelude.{◌≡◌};
+ghost use Rattle.std.specs.Prelude.{◌≡◌, string_bytes};
 ghost use Rattle.tn_connect.specs.Clients.{window_of};
 ghost use Rattle.tn_program.specs.Settings.{count_as, escape_as, lines_as, options_as, origin_as, plain_as};
-ghost use Rattle.tn_program.specs.Settings.{return_as};
-ghost use Rattle.tn_program.specs.Settings.{window_as};
+ghost use Rattle.tn_program.specs.Settings.{half_of, idle_as, is_loopback, per_host_as, return_as};
+ghost use Rattle.tn_program.specs.Settings.{usual_per_host, window_as};
 
 use log::Level;
 use std::alloc::{AllocError, Global};
+use std::sync::Arc;
 use tn_connect::{Connecting, KeySource, OwnCharacters, Plain, ReturnKey};
 use tn_serve::{Call, Finished, NoteFormat, NoteStyle, Service, Serving, SessionOptions};
 use tn_server::Editing;
@@ -17,11 +18,19 @@ use tn_words::{Characters, Escape, LineEnd, ReturnBytes, USUAL_HEIGHT, USUAL_WID
 /// After how many connections a server without end stops: more than can ever be accepted.
 const WITHOUT_END: u64 = u64::MAX;
 
+/// How many sessions one address may have if that has no bound: as many as there may be of all.
+const ANY_NUMBER: u16 = 64;
+
+/// After how many seconds a session of a host that is not of loopback is idle.
+const HOUR: u32 = 3_600;
+
 /// Gives each session the jobs of `tn serve`.
-#[derive(Clone, Copy, Drop)]
+#[derive(Drop)]
 pub struct Answering {
     /// How often the job in the background ticks; there is none where it is 0.
     pub ticks: u16,
+    /// What each client is shown first, as it goes over the connection.
+    pub banner: Option<Arc<Vec<u8>, Global>>,
 }
 
 impl Service for Answering {
@@ -33,6 +42,10 @@ impl Service for Answering {
 
     ghost makes = { λ a jobs. AnswersAsAsked a.ticks jobs };
 
+    fn banner(&self) -> Option<&Arc<Vec<u8>, Global>> {
+        self.banner.as_ref()
+    }
+
     fn session(&mut self, _alloc: Global, _call: Call) -> Result<Answerers, AllocError> {
         Ok(Answerers::new(self.ticks))
     }
@@ -43,19 +56,68 @@ impl Service for Answering {
 // How it was asked to serve.
 pub(crate) fn serving_of(asked: &tn_words::ServeWords) -> Serving
     ensures sessions { result.sessions ≡ asked.now.sessions }
-    ensures per_host { result.per_host ≡ asked.now.per_host }
+    ensures per_host { result.per_host ≡ per_host_as asked.now.per_host
+        (is_loopback (string_bytes asked.now.host)) asked.now.sessions }
     ensures count { result.count ≡ count_as asked.now.count }
     ensures drain { result.drain ≡ asked.now.drain }
     ensures proxied { result.is_proxied ≡ asked.now.proxied }
     ensures options { result.options ≡ options_as asked.now }
 {
+    let per_host = per_host_of(asked.per_host, is_loopback(&asked.host), asked.sessions);
     Serving {
         sessions: asked.sessions,
-        per_host: asked.per_host,
+        per_host,
         count: count_of(asked.count),
         drain: asked.drain,
         is_proxied: asked.proxied,
         options: options_of(asked),
+    }
+}
+
+// Whether a host is of loopback, by its text. A name that only resolves to such an address is none.
+fn is_loopback(host: &String) -> bool
+    ensures { result ≡ is_loopback (string_bytes host.now) }
+{
+    let host = host.as_str();
+    host.starts_with("127.") || host == "::1" || host == "localhost"
+}
+
+// How many sessions one address may have.
+fn per_host_of(given: Option<u16>, loopback: bool, sessions: u16) -> u16
+    ensures { result ≡ per_host_as given loopback sessions }
+{
+    match given {
+        Some(count) => {
+            if count == 0 {
+                ANY_NUMBER
+            } else {
+                count
+            }
+        },
+        None => usual_per_host(loopback, sessions),
+    }
+}
+
+fn usual_per_host(loopback: bool, sessions: u16) -> u16
+    ensures { result ≡ usual_per_host loopback sessions }
+{
+    if loopback { ANY_NUMBER } else { half_of(sessions) }
+}
+
+fn half_of(sessions: u16) -> u16
+    ensures { result ≡ half_of sessions }
+{
+    if sessions == 1 { 1 } else { sessions / 2 }
+}
+
+// After how many seconds a session is idle.
+fn idle_of(given: Option<u32>, loopback: bool) -> u32
+    ensures { result ≡ idle_as given loopback }
+{
+    match (given, loopback) {
+        (Some(seconds), _) => seconds,
+        (None, true) => 0,
+        (None, false) => HOUR,
     }
 }
 
@@ -89,10 +151,16 @@ fn count_of(asked: Option<u32>) -> u64
 }
 
 // The jobs that were asked for, where each session has its own.
-pub(crate) fn answering_of(asked: &tn_words::ServeWords) -> Answering
+pub(crate) fn answering_of(
+    asked: &tn_words::ServeWords,
+    banner: Option<Arc<Vec<u8>, Global>>,
+) -> Answering
     ensures { result.ticks ≡ asked.now.ticks }
 {
-    Answering { ticks: asked.ticks }
+    Answering {
+        ticks: asked.ticks,
+        banner,
+    }
 }
 
 // How lines go to the service that was asked for.
@@ -119,7 +187,7 @@ pub(crate) fn options_of(asked: &tn_words::ServeWords) -> SessionOptions
     SessionOptions {
         line_limit: asked.line_limit,
         editing,
-        idle: asked.idle,
+        idle: idle_of(asked.idle, is_loopback(&asked.host)),
         longest: asked.longest,
     }
 }

@@ -34,6 +34,7 @@ mod draining;
 mod events;
 mod fault;
 mod finished;
+mod greeting;
 mod hosts;
 mod listening;
 mod logfmt;

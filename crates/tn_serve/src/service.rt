@@ -8,6 +8,7 @@ use crate::call::Call;
 use crate::finished::Finished;
 use crate::turns::Turn;
 use std::alloc::{AllocError, Global};
+use std::sync::Arc;
 use tn_jobs::Job;
 use tn_session::Maker;
 
@@ -26,6 +27,11 @@ pub trait Service {
 
     // What a call makes of it.
     ghost turns: { Self → Turn → Self → Type 0 } = { λ _ _ _. Unit {0} };
+
+    /// What each client is shown before all that jobs write, as it goes over the connection.
+    fn banner(&self) -> Option<&Arc<Vec<u8>, Global>> {
+        None
+    }
 
     /// What makes the jobs of the session of this connection. Out of memory, the connection is closed and
     /// counts as a session that ended in a fault.

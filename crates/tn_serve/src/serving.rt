@@ -536,6 +536,7 @@ impl<H: Host + Network, V: Service, O: Asked<V::Jobs>> Open<H, V, O> {
             jobs,
             standing,
             traffic,
+            banner: banner_of(&self.service),
         };
         if let Some(session) = session.start(caller.number, events) {
             return Some(Started::new(caller, noted, session));
@@ -676,6 +677,11 @@ fn call_of(
         hook,
         notes: Notes { events, number },
     })
+}
+
+// What each client is shown first.
+fn banner_of<V: Service>(service: &V) -> Option<Arc<Vec<u8>, Global>> {
+    Arc::try_clone(service.banner()?).ok()
 }
 
 // What happens next at a server, in this time where there is one.

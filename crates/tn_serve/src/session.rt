@@ -10,6 +10,7 @@ ghost use Rattle.tn_machines.specs.server.Welcoming.{too_far_ahead};
 
 use crate::conversed::{Conversed, Ran};
 use crate::events::Event;
+use crate::greeting::Greeting;
 use crate::settings::SessionOptions;
 use crate::sight::Sight;
 use crate::traffic::{Counted, CountedWrites, Traffic};
@@ -35,6 +36,8 @@ pub(crate) struct Session<H, M> {
     pub(crate) jobs: M,
     pub(crate) standing: Arc<Standing, Global>,
     pub(crate) traffic: Arc<Traffic, Global>,
+    /// What the client is shown first.
+    pub(crate) banner: Option<Arc<Vec<u8>, Global>>,
 }
 
 impl<H, M> Session<H, M>
@@ -142,6 +145,7 @@ where
             jobs,
             standing,
             traffic,
+            banner,
         } = self;
         let (Ok(theirs), Ok(ours)) = (Arc::try_clone(&standing), Arc::try_clone(&standing)) else {
             return Err(SessionFault::Memory);
@@ -161,15 +165,16 @@ where
             side: reader,
             traffic,
         };
-        let mut writer = Logged::new(CountedWrites {
+        let side = CountedWrites {
             side: writer.with_standing(ours),
             traffic: went,
-        });
+        };
+        let mut writer = Logged::new(Greeting { side, banner });
         let sight = Sight { standing: seen };
         let (report, ports) = talk(rt, alloc, reader, &mut writer, options, jobs, sight)?;
         let (writer, log) = writer.into_parts();
         if standing.is_ended_here() {
-            linger(rt, alloc, writer.side.into_stream(), standing);
+            linger(rt, alloc, writer.side.side.into_stream(), standing);
         }
         Ok(Conversed {
             report,
@@ -185,7 +190,7 @@ fn talk<H, M>(
     rt: H,
     alloc: Global,
     reader: Counted<Attended<H, TcpStream>>,
-    writer: &mut Logged<CountedWrites<Connection<TcpStream>>>,
+    writer: &mut Logged<Greeting<CountedWrites<Connection<TcpStream>>>>,
     options: SessionOptions,
     jobs: M,
     sight: Sight,
@@ -253,6 +258,7 @@ where
         jobs,
         standing,
         traffic,
+        banner: None,
     };
     session.run().ended
 }

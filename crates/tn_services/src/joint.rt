@@ -31,8 +31,8 @@ const WAITS: u8 = 25;
 
 const WAIT: u64 = 10;
 
-/// What a user reads in place of what the service says.
-const UNREACHED: &[u8] = b"the service cannot be reached\n";
+/// What a user reads in place of what the service says, before the cause.
+const UNREACHED: &[u8] = b"the service cannot be reached";
 
 /// The connection to a line service, as both sides of a session have it: the one that reads makes it.
 #[derive(Drop)]
@@ -84,8 +84,12 @@ pub struct Heard<H> {
     hook: Hook,
     /// When it was dialled first.
     began: Option<Instant>,
-    /// What is read if the service was not reached.
+    /// What is read if the service was not reached, before the cause and after it.
     words: &'static [u8],
+    end: &'static [u8],
+    /// The cause, and how many bytes of it were read.
+    cause: Vec<u8>,
+    told: usize,
 }
 
 impl<H> Heard<H> {
@@ -101,6 +105,9 @@ impl<H> Heard<H> {
             hook,
             began: None,
             words: UNREACHED,
+            end: b"\n",
+            cause: Vec::new(alloc),
+            told: 0,
         }
     }
 }
@@ -126,10 +133,11 @@ impl<H: Clock + Copy + Network + Wait> Heard<H> {
         let mut causes = Vec::new(self.alloc);
         match self.ask(&mut causes) {
             Ok(stream) => self.joint.keep(&self.rt, stream, &self.hook),
-            Err(_) => {
+            Err(error) => {
                 if self.waited(now) >= WAITED && self.waited(self.began) < self.patience() {
                     return;
                 }
+                let _ = write!(self.cause, ": {}", error);
                 self.hook.note_unreached(&self.rt, causes);
                 self.joint.give_up();
             },
@@ -142,6 +150,26 @@ impl<H: Clock + Copy + Network + Wait> Heard<H> {
             Some(Ok(elapsed)) => u64::try_from(elapsed.as_millis()).unwrap_or(u64::MAX),
             _ => 0,
         }
+    }
+
+    // Reads that the service was not reached, and why.
+    fn say(&mut self, buf: &mut [u8]) -> io::Result<usize>
+        ensures bound { ReadsAtMost result buf.new }
+    {
+        if !self.words.is_empty() {
+            return self.words.read(buf);
+        }
+        let Some(mut left) = self.cause.get(self.told..) else {
+            return self.end.read(buf);
+        };
+        if left.is_empty() {
+            return self.end.read(buf);
+        }
+        let read = left.read(buf);
+        if let Ok(count) = &read {
+            self.told = self.told.saturating_add(*count);
+        }
+        read
     }
 
     // For how many milliseconds it is dialled.
@@ -160,7 +188,7 @@ impl<H: Clock + Copy + Network + Wait> Read for Heard<H> {
             return stream.read(buf);
         }
         if self.joint.is_given_up() {
-            return self.words.read(buf);
+            return self.say(buf);
         }
         self.dial();
         Err(io::Error::from(ErrorKind::WouldBlock))

@@ -81,13 +81,13 @@ serve = with_rules (codes "serve") (
     host_rule
     ∷ port_rule
     ∷ with_default (whole_rule (codes "limit") 1 64) (codes "8")
-    ∷ with_default (whole_rule (codes "per-host") 1 64) (codes "64")
+    ∷ whole_rule (codes "per-host") 0 64
     ∷ whole_rule (codes "count") 1 1000000
     ∷ flag_rule (codes "forever")
     ∷ text_rule (codes "until")
     ∷ with_default (whole_rule (codes "ticks") 0 1000) (codes "0")
     ∷ line_rule
-    ∷ with_default (whole_rule (codes "idle") 0 86400) (codes "0")
+    ∷ whole_rule (codes "idle") 0 86400
     ∷ with_default (whole_rule (codes "longest") 0 86400) (codes "0")
     ∷ with_default (whole_rule (codes "drain") 0 86400) (codes "5")
     ∷ flag_rule (codes "proxy")
@@ -95,6 +95,7 @@ serve = with_rules (codes "serve") (
     ∷ flag_rule (codes "verbose")
     ∷ text_rule (codes "notes")
     ∷ text_rule (codes "metrics")
+    ∷ text_rule (codes "banner")
     ∷ text_rule (codes "to")
     ∷ with_default (whole_rule (codes "dial") 1 86400) (codes "10")
     ∷ flag_rule (codes "crlf")

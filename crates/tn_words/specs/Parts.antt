@@ -10,10 +10,10 @@ use Rattle.tn_words.specs.declared.words.ServeNumbers.{ServeNumbers}
 pub record AsksServeNumbers (rows : List Row) (asked : ServeNumbers) : Type 0 where
   pub port : HasNumber rows (codes "port") 1 65535 asked.port
   pub limit : HasNumber rows (codes "limit") 1 64 asked.sessions
-  pub per_host : HasNumber rows (codes "per-host") 1 64 asked.per_host
+  pub per_host : MayHaveNumber rows (codes "per-host") 0 64 asked.per_host
   pub ticks : HasNumber rows (codes "ticks") 0 1000 asked.ticks
   pub line : HasNumber rows (codes "line") 255 4095 asked.line_limit
-  pub idle : HasNumber rows (codes "idle") 0 86400 asked.idle
+  pub idle : MayHaveNumber rows (codes "idle") 0 86400 asked.idle
   pub longest : HasNumber rows (codes "longest") 0 86400 asked.longest
   pub drain : HasNumber rows (codes "drain") 0 86400 asked.drain
   pub dial : HasNumber rows (codes "dial") 1 86400 asked.dial

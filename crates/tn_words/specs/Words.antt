@@ -148,12 +148,12 @@ pub record AsksServe (rows : List Row) (asked : ServeWords) : Type 0 where
   pub host : HasText rows (codes "host") (string_bytes asked.host)
   pub port : HasNumber rows (codes "port") 1 65535 asked.port
   pub limit : HasNumber rows (codes "limit") 1 64 asked.sessions
-  pub per_host : HasNumber rows (codes "per-host") 1 64 asked.per_host
+  pub per_host : MayHaveNumber rows (codes "per-host") 0 64 asked.per_host
   pub count : AsksCount rows asked.count
   pub until : MayHavePath rows (codes "until") (option_map string_bytes asked.until)
   pub ticks : HasNumber rows (codes "ticks") 0 1000 asked.ticks
   pub line : HasNumber rows (codes "line") 255 4095 asked.line_limit
-  pub idle : HasNumber rows (codes "idle") 0 86400 asked.idle
+  pub idle : MayHaveNumber rows (codes "idle") 0 86400 asked.idle
   pub longest : HasNumber rows (codes "longest") 0 86400 asked.longest
   pub drain : HasNumber rows (codes "drain") 0 86400 asked.drain
   pub dial : HasNumber rows (codes "dial") 1 86400 asked.dial
@@ -162,6 +162,7 @@ pub record AsksServe (rows : List Row) (asked : ServeWords) : Type 0 where
   pub verbose : HasFlag rows (codes "verbose") asked.verbose
   pub logfmt : logfmt_in rows ≡ Some asked.logfmt
   pub metrics : MayHavePath rows (codes "metrics") (option_map string_bytes asked.metrics)
+  pub banner : MayHavePath rows (codes "banner") (option_map string_bytes asked.banner)
   pub to : MayHaveAddress rows asked.to
   pub line_end : service_line_end_in rows ≡ Some asked.line_end
   pub ends_cut : ends_cut_in rows ≡ Some asked.ends_cut

@@ -46,10 +46,10 @@ pub(crate) const LIMIT: Whole = Whole {
     most: 64,
 };
 
-/// As many as there may be of all.
+/// As many as there may be of all; 0 stands for that too.
 pub(crate) const PER_HOST: Whole = Whole {
     name: "per-host",
-    least: 1,
+    least: 0,
     most: LIMIT.most,
 };
 
@@ -177,6 +177,8 @@ pub(crate) const NOTES: &str = "notes";
 
 pub(crate) const METRICS: &str = "metrics";
 
+pub(crate) const BANNER: &str = "banner";
+
 pub(crate) const QUIET: &str = "quiet";
 
 pub(crate) const PLAIN: &str = "plain";
@@ -247,10 +249,10 @@ const SERVE_CHOICES: &[Choice] = &[
     Choice::Host,
     Choice::RequiredPort,
     Choice::Default(LIMIT, "8", "How many sessions there may be at once"),
-    Choice::Default(
+    Choice::Number(
         PER_HOST,
-        "64",
-        "How many of them there may be from one address",
+        "How many of them there may be from one address; 0 for any number; default: half the limit, but 0 \
+         for a host of loopback",
     ),
     Choice::Number(
         COUNT,
@@ -268,10 +270,10 @@ const SERVE_CHOICES: &[Choice] = &[
         "How often a job in the background writes `tick`",
     ),
     LINE_LENGTH,
-    Choice::Default(
+    Choice::Number(
         IDLE,
-        "0",
-        "Ends a session whose client types nothing for this many seconds; 0 never does",
+        "Ends a session whose client types nothing for this many seconds; 0 never does; default: 3600, but 0 \
+         for a host of loopback",
     ),
     Choice::Default(
         LONGEST,
@@ -301,6 +303,11 @@ const SERVE_CHOICES: &[Choice] = &[
         METRICS,
         "FILE",
         "Keeps counts of connections, sessions, bytes and lines in this file, in the text form of Prometheus",
+    ),
+    Choice::Text(
+        BANNER,
+        "FILE",
+        "Shows each client what this file has when the server starts, before all that jobs write",
     ),
     Choice::Text(
         TO,

@@ -125,8 +125,8 @@ pub struct ServeWords {
     pub port: u16,
     /// The most sessions at once, from 1 to 64.
     pub sessions: u16,
-    /// The most of them from one address, from 1 to 64.
-    pub per_host: u16,
+    /// The most of them from one address, from 1 to 64, or 0 for as many as there may be of all.
+    pub per_host: Option<u16>,
     /// After how many accepted connections to end, from 1 to 1,000,000; `None` for never.
     pub count: Option<u32>,
     /// The file that ends it before that, once it is there.
@@ -137,7 +137,7 @@ pub struct ServeWords {
     pub line_limit: Limit,
     /// After how many seconds without a byte from the client a session ends, from 0 to 86,400; at 0 it never
     /// does.
-    pub idle: u32,
+    pub idle: Option<u32>,
     /// After how many seconds a session ends, from 0 to 86,400; at 0 it never does for that.
     pub longest: u32,
     /// How many seconds sessions have to end once no more are to begin, from 0 to 86,400; at 0 they take their
@@ -155,6 +155,8 @@ pub struct ServeWords {
     pub logfmt: bool,
     /// The file for the counts of the server.
     pub metrics: Option<String>,
+    /// The file that each client is shown first.
+    pub banner: Option<String>,
     /// The line service that each session is joined to.
     pub to: Option<Address>,
     /// What ends each line for that service.

@@ -16,7 +16,7 @@ ghost use Rattle.tn_words.specs.Words.{is_flagged, is_given, line_end_in, servic
 ghost use Rattle.tn_words.specs.Words.{service_line_end_in, usual_line};
 
 use crate::commands::{
-    CONNECT, COUNT, CR, CRLF, DECODE, DIAL, DRAIN, ESCAPE, FOREVER, HEIGHT, HOST, IDLE, KEYS, LF,
+    BANNER, CONNECT, COUNT, CR, CRLF, DECODE, DIAL, DRAIN, ESCAPE, FOREVER, HEIGHT, HOST, IDLE, KEYS, LF,
     LIMIT, LINE, LINE_CUT, LOCAL, LOCALLY, LOG, LONGEST, METRICS, MOST_PATH, NOTES, PATIENCE,
     PER_HOST, PLAIN, PORT, PROXIED, QUIET, REPLAY, RETURN, SERVE, SIGNALS, TICKS, TIMEOUT, TO,
     TRACE, UNTIL, VERBOSE, VERSION_LINE, WAIT, WIDTH, WORLD, Whole, tn_command,
@@ -126,6 +126,8 @@ const NO_UNTIL: &str = "'--until <FILE>' needs a path of 1 to 4095 bytes";
 
 const NO_METRICS: &str = "'--metrics <FILE>' needs a path of 1 to 4095 bytes";
 
+const NO_BANNER: &str = "'--banner <FILE>' needs a path of 1 to 4095 bytes";
+
 const TWO_COUNTS: &str = "'--count' and '--forever' exclude each other";
 
 const NO_ADDRESS: &str =
@@ -186,6 +188,7 @@ fn serving(alloc: Global, words: &ArgMatches<'_>) -> Result<ServeWords, WordsFau
     let choices = serve_choices(alloc, words)?;
     let until = path_of(alloc, words, UNTIL, NO_UNTIL)?;
     let metrics = path_of(alloc, words, METRICS, NO_METRICS)?;
+    let banner = path_of(alloc, words, BANNER, NO_BANNER)?;
     let host = String::from_str(alloc, host)?;
     Ok(ServeWords {
         host,
@@ -205,6 +208,7 @@ fn serving(alloc: Global, words: &ArgMatches<'_>) -> Result<ServeWords, WordsFau
         verbose: numbers.verbose,
         logfmt: choices.logfmt,
         metrics,
+        banner,
         to,
         line_end: choices.line_end,
         ends_cut: choices.ends_cut,
@@ -217,10 +221,10 @@ fn serving(alloc: Global, words: &ArgMatches<'_>) -> Result<ServeWords, WordsFau
 struct ServeNumbers {
     port: u16,
     sessions: u16,
-    per_host: u16,
+    per_host: Option<u16>,
     ticks: u16,
     line_limit: Limit,
-    idle: u32,
+    idle: Option<u32>,
     longest: u32,
     drain: u32,
     dial: u32,
@@ -238,10 +242,10 @@ fn serve_numbers(words: &ArgMatches<'_>) -> Option<ServeNumbers>
     Some(ServeNumbers {
         port: short_number(words, PORT)?,
         sessions: short_number(words, LIMIT)?,
-        per_host: short_number(words, PER_HOST)?,
+        per_host: size(words, PER_HOST)?,
         ticks: short_number(words, TICKS)?,
         line_limit: line_limit_in(words)?,
-        idle: number(words, IDLE)?,
+        idle: given_number(words, IDLE)?,
         longest: number(words, LONGEST)?,
         drain: number(words, DRAIN)?,
         dial: number(words, DIAL)?,

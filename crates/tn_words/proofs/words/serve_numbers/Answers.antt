@@ -11,45 +11,45 @@ pub returns-in_err-short_number-2-clause-none : goal.returns-in_err-short_number
 returns-in_err-short_number-2-clause-none c none asked asks =
     c.short_number-2.ensures.none c.in_err-short_number-2.was asked.sessions asks.limit
 
+pub returns-in_err-size-clause-none : goal.returns-in_err-size-clause-none
+returns-in_err-size-clause-none c none asked asks =
+    c.size.ensures.none c.in_err-size.was asked.per_host asks.per_host
+
 pub returns-in_err-short_number-3-clause-none : goal.returns-in_err-short_number-3-clause-none
 returns-in_err-short_number-3-clause-none c none asked asks =
-    c.short_number-3.ensures.none c.in_err-short_number-3.was asked.per_host asks.per_host
-
-pub returns-in_err-short_number-4-clause-none : goal.returns-in_err-short_number-4-clause-none
-returns-in_err-short_number-4-clause-none c none asked asks =
-    c.short_number-4.ensures.none c.in_err-short_number-4.was asked.ticks asks.ticks
+    c.short_number-3.ensures.none c.in_err-short_number-3.was asked.ticks asks.ticks
 
 pub returns-in_err-line_limit_in-clause-none : goal.returns-in_err-line_limit_in-clause-none
 returns-in_err-line_limit_in-clause-none c none asked asks =
     c.line_limit_in.ensures.none c.in_err-line_limit_in.was asked.line_limit asks.line
 
+pub returns-in_err-given_number-clause-none : goal.returns-in_err-given_number-clause-none
+returns-in_err-given_number-clause-none c none asked asks =
+    c.given_number.ensures.none c.in_err-given_number.was asked.idle asks.idle
+
 pub returns-in_err-number-clause-none : goal.returns-in_err-number-clause-none
 returns-in_err-number-clause-none c none asked asks =
-    c.number.ensures.none c.in_err-number.was asked.idle asks.idle
+    c.number.ensures.none c.in_err-number.was asked.longest asks.longest
 
 pub returns-in_err-number-2-clause-none : goal.returns-in_err-number-2-clause-none
 returns-in_err-number-2-clause-none c none asked asks =
-    c.number-2.ensures.none c.in_err-number-2.was asked.longest asks.longest
+    c.number-2.ensures.none c.in_err-number-2.was asked.drain asks.drain
 
 pub returns-in_err-number-3-clause-none : goal.returns-in_err-number-3-clause-none
 returns-in_err-number-3-clause-none c none asked asks =
-    c.number-3.ensures.none c.in_err-number-3.was asked.drain asks.drain
-
-pub returns-in_err-number-4-clause-none : goal.returns-in_err-number-4-clause-none
-returns-in_err-number-4-clause-none c none asked asks =
-    c.number-4.ensures.none c.in_err-number-4.was asked.dial asks.dial
+    c.number-3.ensures.none c.in_err-number-3.was asked.dial asks.dial
 
 pub returns-clause-asked : goal.returns-clause-asked
 returns-clause-asked c = record {
   port = c.in_ok-short_number.ensures.some;
   limit = c.in_ok-short_number-2.ensures.some;
-  per_host = c.in_ok-short_number-3.ensures.some;
-  ticks = c.in_ok-short_number-4.ensures.some;
+  per_host = c.in_ok-size.ensures.some;
+  ticks = c.in_ok-short_number-3.ensures.some;
   line = c.in_ok-line_limit_in.ensures.some;
-  idle = c.in_ok-number.ensures.some;
-  longest = c.in_ok-number-2.ensures.some;
-  drain = c.in_ok-number-3.ensures.some;
-  dial = c.in_ok-number-4.ensures.some;
+  idle = c.in_ok-given_number.ensures.some;
+  longest = c.in_ok-number.ensures.some;
+  drain = c.in_ok-number-2.ensures.some;
+  dial = c.in_ok-number-3.ensures.some;
   proxied = record {
     given = λ is. c.get_flag.ensures.value (one_text-rows (found_of c.args.words.now) (codes "proxy") ∙ is);
     not_given = λ is. c.get_flag.ensures.other (one_text-rows (found_of c.args.words.now) (codes "proxy") ∙ is);

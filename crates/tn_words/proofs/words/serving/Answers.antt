@@ -38,6 +38,11 @@ returns-in_err-metrics-clause-lacks c =
     let p = err_from_is_err_and c.from_residual-in_err-metrics.result c.from_residual-in_err-metrics.ensures.1 in
     rw (p.1, p.2) (lacks_more c.in_err-metrics.field-0.0 (λ none asked asks. none _ asks.metrics) c.in_err-metrics.ensures.lacks)
 
+pub returns-in_err-banner-clause-lacks : goal.returns-in_err-banner-clause-lacks
+returns-in_err-banner-clause-lacks c =
+    let p = err_from_is_err_and c.from_residual-in_err-banner.result c.from_residual-in_err-banner.ensures.1 in
+    rw (p.1, p.2) (lacks_more c.in_err-banner.field-0.0 (λ none asked asks. none _ asks.banner) c.in_err-banner.ensures.lacks)
+
 pub returns-clause-asked : goal.returns-clause-asked
 returns-clause-asked c =
     let numbers = c.in-Some-serve_numbers.ensures.asked in
@@ -65,4 +70,5 @@ returns-clause-asked c =
       sends_signals = choices.sends_signals;
       logfmt = choices.logfmt;
       metrics = c.in_ok-metrics.ensures.asked;
+      banner = c.in_ok-banner.ensures.asked;
     }
