@@ -14,9 +14,9 @@ _tn() {
         --signals) mapfile -t COMPREPLY < <(compgen -W 'act send' -- "$word"); return ;;
         --escape) mapfile -t COMPREPLY < <(compgen -W 'none' -- "$word"); return ;;
         --keys) mapfile -t COMPREPLY < <(compgen -W 'own standard' -- "$word"); return ;;
-        --until|--metrics|--trace|--log) mapfile -t COMPREPLY < <(compgen -f -- "$word"); return ;;
+        --until|--metrics|--banner|--trace|--log) mapfile -t COMPREPLY < <(compgen -f -- "$word"); return ;;
         --host|--to) mapfile -t COMPREPLY < <(compgen -A hostname -- "$word"); return ;;
-        -p|--port|--limit|--per-host|--count|--ticks|--line|--idle|--longest|--drain|--notes|--dial|--width|--height|--return|-q|-w|--timeout|--again|--bind) return ;;
+        -p|--port|--listen-fd|--limit|--per-host|--count|--ticks|--line|--idle|--longest|--drain|--notes|--dial|--width|--height|--return|-q|-w|--timeout|--again|--bind) return ;;
     esac
     if ((COMP_CWORD == 1)); then
         words='local replay decode world serve connect help -h --help -V --version'
@@ -31,7 +31,7 @@ _tn() {
             world)
                 words='-h --help' ;;
             serve)
-                words='--host -p --port --limit --per-host --count --forever --until --ticks --line --idle --longest --drain --proxy --local --verbose --notes --metrics --to --dial --crlf --cr --line-cut --signals -h --help' ;;
+                words='--host -p --port --listen-fd --stdin --limit --per-host --count --forever --until --ticks --line --idle --longest --drain --proxy --local --verbose --notes --metrics --banner --to --dial --crlf --cr --line-cut --signals -h --help' ;;
             connect)
                 if [[ $word != -* ]]; then mapfile -t COMPREPLY < <(compgen -A hostname -A service -- "$word"); return; fi
                 words='-p --port --width --height --line --escape --keys --return --trace --log -q -w --timeout --again -4 --ipv4 -6 --ipv6 --bind --quiet --plain --lf --cr -h --help' ;;

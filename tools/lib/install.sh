@@ -1,14 +1,13 @@
 # shellcheck shell=bash
 # What `./tn install`, tools/package, tools/build-c and tools/check-c share.
 
-# Puts a program, its launcher, the ladder of a trace, the manual page, completions and a unit of systemd, which name PREFIX, into a folder.
+# Puts a program, its launcher, the ladder of a trace, the manual page, completions and units of systemd, which name PREFIX, into a folder.
 # They run without this repository: bin/tn starts the launcher, with the program that lies next to it, and bin/tn-ladder is a link.
 #
 #   install_program PROGRAM PREFIX FOLDER
 install_program() {
-    local program=$1 prefix=$2 into=$3 top unit
+    local program=$1 prefix=$2 into=$3 top unit text
     top=$(dirname "$(dirname "$(dirname "$(readlink -f "${BASH_SOURCE[0]}")")")")
-    unit=$(<"$top/share/systemd/tn.service")
     install -D -m 755 "$program" "$into/libexec/tn/tn"
     install -D -m 755 "$top/tools/launch" "$into/libexec/tn/launch"
     install -D -m 755 "$top/tools/ladder" "$into/libexec/tn/ladder"
@@ -16,7 +15,10 @@ install_program() {
     install -D -m 644 "$top/docs/tn.1" "$into/share/man/man1/tn.1"
     install -D -m 644 "$top/share/completions/tn.bash" "$into/share/bash-completion/completions/tn"
     install -D -m 644 "$top/share/completions/_tn" "$into/share/zsh/site-functions/_tn"
-    install -D -m 644 /dev/stdin "$into/lib/systemd/system/tn.service" <<<"${unit//\/usr\/local/"$prefix"}"
+    for unit in "$top"/share/systemd/*; do
+        text=$(<"$unit")
+        install -D -m 644 /dev/stdin "$into/lib/systemd/system/${unit##*/}" <<<"${text//\/usr\/local/"$prefix"}"
+    done
     install -D -m 755 /dev/stdin "$into/bin/tn" <<'SCRIPT'
 #!/usr/bin/env bash
 folder=$(dirname "$(dirname "$(readlink -f "$0")")")/libexec/tn

@@ -1,6 +1,6 @@
 -- What was asked of a network, by several calls of it.
 use Rattle.std.specs.Prelude.{◌≡◌, ℕ, zero, suc, Bool, true, List, [], ◌∷◌, Contains, MatchResult}
-use Rattle.std.specs.Prelude.{Result, Ok, Err, IfOk}
+use Rattle.std.specs.Prelude.{Option, Result, Ok, Err, IfOk}
 use Rattle.std.specs.IoError.{error_kind}
 use Rattle.std.specs.List.{filter}
 use Rattle.std.specs.Net.ToAddrs.{HostAddrs, host_addrs}
@@ -71,13 +71,13 @@ Listens listens shares accepts count_of fails result =
 
 -- What is known of one network: what each of its calls gives evidence of.
 pub record Asking : Type 1 where
-  pub listens : List ℕ → ℕ → Result TcpListener Error → Type 0
+  pub listens : List ℕ → ℕ → Option ℕ → Result TcpListener Error → Type 0
   pub shares : TcpListener → Result TcpListener Error → Type 0
   pub accepts : TcpListener → ℕ → Result (TcpStream × SocketAddr) Error → Type 0
   pub finds : List ℕ → ℕ → Result HostAddrs Error → Type 0
   pub dials : SocketAddr → Result TcpStream Error → Type 0
 
-abbrev pub asking : (List ℕ → ℕ → Result TcpListener Error → Type 0)
+abbrev pub asking : (List ℕ → ℕ → Option ℕ → Result TcpListener Error → Type 0)
     → (TcpListener → Result TcpListener Error → Type 0)
     → (TcpListener → ℕ → Result (TcpStream × SocketAddr) Error → Type 0)
     → (List ℕ → ℕ → Result HostAddrs Error → Type 0) → (SocketAddr → Result TcpStream Error → Type 0) → Asking

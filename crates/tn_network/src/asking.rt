@@ -1,8 +1,9 @@
 //! What is asked of a network.
 
+use crate::handed::{connection_of, listener_at};
 use crate::sourced::dial_from;
 use std::io;
-use std::io::Write;
+use std::io::{ErrorKind, Write};
 use std::net::{
     HostAddrs, IpAddr, Net, Shutdown, SocketAddr, TcpListener, TcpStream, ToSocketAddrs,
 };
@@ -11,15 +12,15 @@ use std::time::Duration;
 /// A network, as it is asked. Each relation holds of what was asked in a call, and of its answer; nothing
 /// else gives one. A thread may rest on this trait: it names no types of the network.
 pub trait Network {
-    ghost use Rattle.std.specs.Prelude.{ℕ, List, Result};
+    ghost use Rattle.std.specs.Prelude.{ℕ, List, Option, Result};
     ghost use Rattle.std.specs.declared.io.Error.{Error};
     ghost use Rattle.std.specs.declared.net.socket_addr.SocketAddr.{SocketAddr};
     ghost use Rattle.std.specs.declared.net.tcp.TcpListener.{TcpListener};
     ghost use Rattle.std.specs.declared.net.tcp.TcpStream.{TcpStream};
     ghost use Rattle.std.specs.Net.ToAddrs.{HostAddrs};
 
-    // a listener at this host and this port
-    ghost listens: { Self → List ℕ → ℕ → Result TcpListener Error → Type 0 };
+    // a listener at this host and this port, or the one that is handed in at this descriptor
+    ghost listens: { Self → List ℕ → ℕ → Option ℕ → Result TcpListener Error → Type 0 };
 
     // one more handle of the same listener
     ghost shares: { Self → TcpListener → Result TcpListener Error → Type 0 };
@@ -36,9 +37,10 @@ pub trait Network {
     // a connection to this address
     ghost dials: { Self → SocketAddr → Result TcpStream Error → Type 0 };
 
-    /// Listens at a host, an address or a name that has one.
-    fn listen(&self, host: &str, port: u16) -> io::Result<TcpListener>
-        ensures { listens self.now host.now port result };
+    /// Listens at a host, an address or a name that has one; or at the socket that the process was started with
+    /// at this descriptor. If that socket is a connection, it is the first that comes.
+    fn listen(&self, host: &str, port: u16, handed: Option<u16>) -> io::Result<TcpListener>
+        ensures { listens self.now host.now port handed result };
 
     fn share(&self, listener: &TcpListener) -> io::Result<TcpListener>
         ensures { shares self.now listener.now result };
@@ -67,7 +69,7 @@ pub trait Network {
 }
 
 impl<H: Net<Listener = TcpListener, Stream = TcpStream>> Network for H {
-    ghost listens = { λ _ _ _ _. Unit {0} };
+    ghost listens = { λ _ _ _ _ _. Unit {0} };
 
     ghost shares = { λ _ _ _. Unit {0} };
 
@@ -79,16 +81,24 @@ impl<H: Net<Listener = TcpListener, Stream = TcpStream>> Network for H {
 
     ghost dials = { λ _ _ _. Unit {0} };
 
-    fn listen(&self, host: &str, port: u16) -> io::Result<TcpListener> {
-        TcpListener::bind(self, (host, port))
+    fn listen(&self, host: &str, port: u16, handed: Option<u16>) -> io::Result<TcpListener> {
+        match handed {
+            Some(descriptor) => listener_at(descriptor),
+            None => TcpListener::bind(self, (host, port)),
+        }
     }
 
     fn share(&self, listener: &TcpListener) -> io::Result<TcpListener> {
         listener.try_clone()
     }
 
-    fn accept(&self, listener: &TcpListener, _number: u64) -> io::Result<(TcpStream, SocketAddr)> {
-        listener.accept()
+    fn accept(&self, listener: &TcpListener, number: u64) -> io::Result<(TcpStream, SocketAddr)> {
+        match listener.accept() {
+            Err(error) if number == 0 && error.kind() == ErrorKind::InvalidInput => {
+                connection_of(listener)
+            },
+            accepted => accepted,
+        }
     }
 
     fn dismiss(&self, mut stream: TcpStream, words: &[u8]) -> TcpStream {

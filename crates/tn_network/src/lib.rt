@@ -1,7 +1,7 @@
 //! The network as the program asks for it: each call leaves contracts evidence of what was asked.
 //!
 //! ```
-//! let listener = rt.listen("127.0.0.1", 2323)?;
+//! let listener = rt.listen("127.0.0.1", 2323, None)?;
 //! let stream = reach(&rt, "127.0.0.1", 2323, 0, &mut Unheard, &mut causes)?;
 //! ```
 //!
@@ -17,5 +17,6 @@ pub use reaching::{Trying, Unheard, reach, reach_by};
 
 mod asking;
 mod dialing;
+mod handed;
 mod reaching;
 mod sourced;

@@ -1,5 +1,5 @@
 -- What is known of the machine that the program runs on.
-use Rattle.std.specs.Prelude.{ℕ, List, Result}
+use Rattle.std.specs.Prelude.{ℕ, List, Option, Result}
 use Rattle.std.specs.Net.ToAddrs.{HostAddrs}
 use Rattle.std.specs.declared.io.Error.{Error}
 use Rattle.std.specs.declared.net.socket_addr.SocketAddr.{SocketAddr}
@@ -17,7 +17,7 @@ pub record Machine : Type 1 where
   -- what a server may count that was asked for by these words
   pub serves : ServeWords → Served → Type 0
 
-abbrev pub machine_of : (List ℕ → ℕ → Result TcpListener Error → Type 0)
+abbrev pub machine_of : (List ℕ → ℕ → Option ℕ → Result TcpListener Error → Type 0)
     → (TcpListener → Result TcpListener Error → Type 0)
     → (TcpListener → ℕ → Result (TcpStream × SocketAddr) Error → Type 0)
     → (List ℕ → ℕ → Result HostAddrs Error → Type 0) → (SocketAddr → Result TcpStream Error → Type 0)

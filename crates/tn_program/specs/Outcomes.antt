@@ -42,7 +42,7 @@ pub record EndsServing (machine : Machine) (serving : ServeWords) (ended : Resul
   pub all : IfOk ended (ServesUntil (count_as serving.count)
       (IfAny machine.sees (option_map string_bytes serving.until)))
   pub listened : UnlessMemory ended (Listens
-      (machine.network.listens (string_bytes serving.host) serving.port)
+      (machine.network.listens (string_bytes serving.host) serving.socket.port serving.socket.handed)
       machine.network.shares machine.network.accepts (λ (served : Served). served.accepted)
       (λ error ended. FailsBy error ended) ended)
   pub counted : IfOk ended (machine.serves serving)

@@ -49,8 +49,8 @@ RunsAsked machine Decode origin bytes old new = IfSome bytes (λ stream. Decodes
 RunsAsked machine World origin bytes old new = IfSome bytes (λ script. PlaysScript script old new)
 RunsAsked machine (Serve serving) origin bytes old new = (served : Served)
     × ServesUntil (count_as serving.count) (IfAny machine.sees (option_map string_bytes serving.until)) served
-    × Listens (machine.network.listens (string_bytes serving.host) serving.port) machine.network.shares
-    machine.network.accepts
+    × Listens (machine.network.listens (string_bytes serving.host) serving.socket.port serving.socket.handed)
+    machine.network.shares machine.network.accepts
     (λ (served : Served). served.accepted) (λ error ended. FailsBy error ended) (ok served)
     × machine.serves serving served × (new ≡ old)
 RunsAsked machine (Connect connecting) origin bytes old new = (port : ℕ) × IsPort connecting.port port

@@ -1,5 +1,5 @@
 -- What was asked for, as sessions over connections take it.
-use Rattle.std.specs.Prelude.{◌≡◌, ◌||◌, ◌/◌, ℕ, Bool, true, IsTrue, false, Option, None, Some, IsSome, unwrap_or}
+use Rattle.std.specs.Prelude.{◌≡◌, ◌||◌, ◌&&◌, not, is_some, ◌/◌, ℕ, Bool, true, IsTrue, false, Option, None, Some, IsSome, unwrap_or}
 use Rattle.std.specs.Prelude.{Result, List, codes, eqb, nat_eq, if◌then◌else◌}
 use Rattle.std.specs.List.{starts_with}
 use Rattle.std.specs.Str.{bytes_eq}
@@ -50,6 +50,11 @@ abbrev pub is_loopback : List ℕ → Bool
 is_loopback host =
     starts_with eqb host (codes "127.") || bytes_eq host (codes "::1") || bytes_eq host (codes "localhost")
 
+-- whether only this machine reaches a server, as far as its words tell: nothing is known of a socket that is
+-- handed in
+abbrev pub is_local : ServeWords → Bool
+is_local asked = not (is_some asked.socket.handed) && is_loopback (string_bytes asked.host)
+
 -- how many sessions one address may have: as many as all may, for 0 and, if none are named, at a host of loopback;
 -- elsewhere half of all, and one at least
 abbrev pub half_of : ℕ → ℕ
@@ -75,7 +80,7 @@ options_as asked =
     record {
       line_limit = asked.line_limit;
       editing = editing_as asked.local;
-      idle = idle_as asked.idle (is_loopback (string_bytes asked.host));
+      idle = idle_as asked.idle (is_local asked);
       longest = asked.longest;
     }
 

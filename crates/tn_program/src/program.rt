@@ -28,9 +28,7 @@ use tn_cli::{CliFault, run_decode, run_local, run_replay, run_world};
 use tn_connect::{ClientContext, ConnectFault, Host, KeySource, News, connect, connect_plain};
 use tn_network::Network;
 use tn_streams::Drain;
-use tn_words::{
-    Asked, ConnectWords, LineEnd, ServeWords, VERSION_LINE, WordsFault, read_words,
-};
+use tn_words::{Asked, ConnectWords, LineEnd, ServeWords, VERSION_LINE, WordsFault, read_words};
 
 /// Runs what the words of the command line ask for, where they could be read. The program's name is the
 /// first of them. Returns the status to end with: 0 where that was done, and else the status of its fault
@@ -228,7 +226,8 @@ fn run_serve<H: Network + Host + Lookout + Replacing + Eprint + Files<File = Fil
     let Ok(banner) = read_banner(&rt, alloc, asked, causes) else {
         return Outcome::Unread;
     };
-    Outcome::Served(serve_asked(rt, alloc, asked, banner, is_journal, causes))
+    let served = serve_asked(rt, alloc, asked, banner, is_journal, causes);
+    Outcome::Served(served)
 }
 
 // A talk with a service that takes lines.

@@ -36,10 +36,11 @@ where
     ensures all { IfOk result (ServesUntil (count_as asked.now.count)
         (IfAny (H.sees rt) (option_map string_bytes asked.now.until))) }
     ensures listened { UnlessMemory result (Listens
-        (H.listens rt (string_bytes asked.now.host) asked.now.port)
+        (H.listens rt (string_bytes asked.now.host) asked.now.socket.port asked.now.socket.handed)
         (H.shares rt) (H.accepts rt) (λ (served : Served). served.accepted)
         (λ error ended. FailsBy error ended) result) }
-    ensures caused { IsCaused (string_bytes asked.now.host) asked.now.port (H.listens rt)
+    ensures caused { IsCaused (string_bytes asked.now.host) asked.now.socket.port
+        asked.now.socket.handed (H.listens rt)
         causes.old.items causes.new.items result }
     ensures counted { IfOk result (⟦<H as Serves>⟧.serves rt asked.now) }
     ensures limit { IsErrOf result ServeFault.Limit → ¬ IsLimit asked.now.sessions }
@@ -97,10 +98,11 @@ where
     ensures all { IfOk result (ServesUntil (count_as asked.now.count)
         (IfAny (H.sees rt) (option_map string_bytes asked.now.until))) }
     ensures listened { UnlessMemory result (Listens
-        (H.listens rt (string_bytes asked.now.host) asked.now.port)
+        (H.listens rt (string_bytes asked.now.host) asked.now.socket.port asked.now.socket.handed)
         (H.shares rt) (H.accepts rt) (λ (served : Served). served.accepted)
         (λ error ended. FailsBy error ended) result) }
-    ensures caused { IsCaused (string_bytes asked.now.host) asked.now.port (H.listens rt)
+    ensures caused { IsCaused (string_bytes asked.now.host) asked.now.socket.port
+        asked.now.socket.handed (H.listens rt)
         causes.old.items causes.new.items result }
     ensures counted { IfOk result (⟦<H as Serves>⟧.serves rt asked.now) }
     ensures limit { IsErrOf result ServeFault.Limit → ¬ IsLimit asked.now.sessions }
@@ -109,7 +111,8 @@ where
     let until = until_of(rt, alloc, asked)?;
     let at = At {
         host: asked.host.as_str(),
-        port: asked.port,
+        port: asked.socket.port,
+        handed: asked.socket.handed,
     };
     let Some(to) = &asked.to else {
         let service = answering_of(asked, banner);

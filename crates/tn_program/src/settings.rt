@@ -3,8 +3,8 @@
 ghost use Rattle.std.specs.Prelude.{◌≡◌, string_bytes};
 ghost use Rattle.tn_connect.specs.Clients.{window_of};
 ghost use Rattle.tn_program.specs.Settings.{count_as, escape_as, lines_as, options_as, origin_as, plain_as};
-ghost use Rattle.tn_program.specs.Settings.{half_of, idle_as, is_loopback, per_host_as, return_as};
-ghost use Rattle.tn_program.specs.Settings.{usual_per_host, window_as};
+ghost use Rattle.tn_program.specs.Settings.{half_of, idle_as, is_local, is_loopback, per_host_as};
+ghost use Rattle.tn_program.specs.Settings.{return_as, usual_per_host, window_as};
 
 use log::Level;
 use std::alloc::{AllocError, Global};
@@ -56,22 +56,31 @@ impl Service for Answering {
 // How it was asked to serve.
 pub(crate) fn serving_of(asked: &tn_words::ServeWords) -> Serving
     ensures sessions { result.sessions ≡ asked.now.sessions }
-    ensures per_host { result.per_host ≡ per_host_as asked.now.per_host
-        (is_loopback (string_bytes asked.now.host)) asked.now.sessions }
+    ensures per_host { result.per_host
+        ≡ per_host_as asked.now.per_host (is_local asked.now) asked.now.sessions }
     ensures count { result.count ≡ count_as asked.now.count }
     ensures drain { result.drain ≡ asked.now.drain }
     ensures proxied { result.is_proxied ≡ asked.now.proxied }
     ensures options { result.options ≡ options_as asked.now }
 {
-    let per_host = per_host_of(asked.per_host, is_loopback(&asked.host), asked.sessions);
+    let per_host = per_host_of(asked.per_host, is_local(asked), asked.sessions);
     Serving {
         sessions: asked.sessions,
         per_host,
         count: count_of(asked.count),
         drain: asked.drain,
         is_proxied: asked.proxied,
+        is_handed: asked.socket.handed.is_some(),
         options: options_of(asked),
     }
+}
+
+// Whether only this machine reaches a server, as far as its words tell.
+fn is_local(asked: &tn_words::ServeWords) -> bool
+    ensures { result ≡ is_local asked.now }
+{
+    let handed = asked.socket.handed.is_some();
+    !handed && is_loopback(&asked.host)
 }
 
 // Whether a host is of loopback, by its text. A name that only resolves to such an address is none.
@@ -87,13 +96,7 @@ fn per_host_of(given: Option<u16>, loopback: bool, sessions: u16) -> u16
     ensures { result ≡ per_host_as given loopback sessions }
 {
     match given {
-        Some(count) => {
-            if count == 0 {
-                ANY_NUMBER
-            } else {
-                count
-            }
-        },
+        Some(count) => { if count == 0 { ANY_NUMBER } else { count } },
         None => usual_per_host(loopback, sessions),
     }
 }
@@ -101,7 +104,11 @@ fn per_host_of(given: Option<u16>, loopback: bool, sessions: u16) -> u16
 fn usual_per_host(loopback: bool, sessions: u16) -> u16
     ensures { result ≡ usual_per_host loopback sessions }
 {
-    if loopback { ANY_NUMBER } else { half_of(sessions) }
+    if loopback {
+        ANY_NUMBER
+    } else {
+        half_of(sessions)
+    }
 }
 
 fn half_of(sessions: u16) -> u16
@@ -187,7 +194,7 @@ pub(crate) fn options_of(asked: &tn_words::ServeWords) -> SessionOptions
     SessionOptions {
         line_limit: asked.line_limit,
         editing,
-        idle: idle_of(asked.idle, is_loopback(&asked.host)),
+        idle: idle_of(asked.idle, is_local(asked)),
         longest: asked.longest,
     }
 }

@@ -1,5 +1,6 @@
 -- Why a server could not listen.
-use Rattle.std.specs.Prelude.{◌≡◌, ℕ, ◌==◌, ◌⊎◌, Bool, false, List, [], ◌∷◌, ◌++◌, codes, decimal, if◌then◌else◌, Result, Ok, Err}
+use Rattle.std.specs.Prelude.{◌≡◌, ℕ, ◌==◌, ◌⊎◌, Bool, false, Option, None, Some, List, [], ◌∷◌, ◌++◌, codes, decimal}
+use Rattle.std.specs.Prelude.{if◌then◌else◌, Result, Ok, Err}
 use Rattle.std.specs.List.{list_any}
 use Rattle.std.specs.declared.io.Error.{Error}
 use Rattle.std.specs.declared.net.tcp.TcpListener.{TcpListener}
@@ -26,19 +27,26 @@ bracketed host =
     then (if is_bracketed host then host else codes "[" ++ host ++ codes "]")
     else host
 
--- the line tells that nothing listens at this host and port, and why, in words of its own
-abbrev pub TellsWhyNot : List ℕ → ℕ → List ℕ → Type 0
-TellsWhyNot host port line =
+-- the place of a listener: this host and port, or the descriptor at which it is handed in
+abbrev pub place_of : List ℕ → ℕ → Option ℕ → List ℕ
+place_of host port None = bracketed host ++ codes ":" ++ decimal port
+place_of host port (Some descriptor) = codes "descriptor " ++ decimal descriptor
+
+-- the line tells that nothing listens at this place, and why, in words of its own
+abbrev pub TellsWhyNot : List ℕ → ℕ → Option ℕ → List ℕ → Type 0
+TellsWhyNot host port handed line =
     (why : List ℕ)
-    × (line ≡ codes "tn: cannot listen on " ++ bracketed host ++ codes ":" ++ decimal port ++ codes ": " ++ why ++ codes "\n")
+    × (line ≡ codes "tn: cannot listen on " ++ place_of host port handed ++ codes ": " ++ why ++ codes "\n")
 
 -- that was told by one more line
-abbrev pub HasTold : List ℕ → ℕ → List ℕ → List ℕ → Type 0
-HasTold host port old new = (line : List ℕ) × TellsWhyNot host port line × (new ≡ old ++ line)
+abbrev pub HasTold : List ℕ → ℕ → Option ℕ → List ℕ → List ℕ → Type 0
+HasTold host port handed old new =
+    (line : List ℕ) × TellsWhyNot host port handed line × (new ≡ old ++ line)
 
 -- There is a cause only where the listener that was asked for was refused, and then it tells that.
-abbrev pub IsCaused : {A : Type 0} → List ℕ → ℕ → (List ℕ → ℕ → Result TcpListener Error → Type 0) → List ℕ → List ℕ
-    → Result A ServeFault → Type 0
-IsCaused host port listens old new result =
+abbrev pub IsCaused : {A : Type 0} → List ℕ → ℕ → Option ℕ → (List ℕ → ℕ → Option ℕ → Result TcpListener Error → Type 0)
+    → List ℕ → List ℕ → Result A ServeFault → Type 0
+IsCaused host port handed listens old new result =
     (new ≡ old)
-    ⊎ (HasTold host port old new × ((error : Error) × listens host port (refused error) × FailsBy error result))
+    ⊎ (HasTold host port handed old new
+    × ((error : Error) × listens host port handed (refused error) × FailsBy error result))

@@ -38,6 +38,8 @@ pub(crate) struct Acceptor<H, U> {
     pub(crate) count: u64,
     /// Each connection is of a proxy, and begins with the line that says for whom.
     pub(crate) is_proxied: bool,
+    /// Others have the listener too, and go on with it.
+    pub(crate) is_handed: bool,
     pub(crate) until: U,
 }
 
@@ -161,11 +163,13 @@ impl<H: Host + Network, U: Until + Drop + Send + 'static> Acceptor<H, U> {
         }
     }
 
-    // Takes no more connections: also those that wait are refused.
+    // Takes no more connections: also those that wait are refused, unless others go on with the listener.
     fn close(&self, count: u64) -> Accepted
         ensures count { result.count ≡ count }
     {
-        let _ = c::shutdown(self.listener.as_raw_fd(), c::SHUT_RDWR);
+        if !self.is_handed {
+            let _ = c::shutdown(self.listener.as_raw_fd(), c::SHUT_RDWR);
+        }
         let _ = self.events.send(&self.rt, Event::Closed);
         Accepted {
             count,
@@ -263,11 +267,11 @@ impl<H: Host + Network, U: Until + Drop + Send + 'static> Acceptor<H, U> {
     }
 }
 
-// Waits for a connection. False where none came for a while.
+// Waits for a connection. False where none came for a while. A socket that is a connection can be written to.
 fn comes(listener: &TcpListener) -> bool {
     let mut ready = [pollfd {
         fd: listener.as_raw_fd(),
-        events: c::POLLIN,
+        events: c::POLLIN | c::POLLOUT,
         revents: 0,
     }];
     c::poll(&mut ready, LOOK) > 0

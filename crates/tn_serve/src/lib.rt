@@ -1,7 +1,7 @@
 //! A server's sessions over connections, in threads of their own: each gets the jobs that a `Service` makes.
 //!
 //! ```
-//! let at = At { host: "127.0.0.1", port: 2323 };
+//! let at = At { host: "127.0.0.1", port: 2323, handed: None };
 //! serve(rt, alloc, at, serving, Never, service, &log, &mut causes)?;
 //! ```
 //!

@@ -47,7 +47,7 @@ use tn_sockets::{Hook, Host, Standing};
 /// How many events wait at most for the loop.
 const EVENTS: usize = 16;
 
-/// Serves an address, or a name that has one, until so many connections were accepted, or `until` tells that
+/// Serves an address, or a name that has one, or a socket that is handed in, until so many connections were accepted, or `until` tells that
 /// no more are to come, and all their sessions have ended. Each connection has a session in threads of its
 /// own, with the jobs that the service makes for it, as long as there are no more of them, and no more from
 /// its host, than there may be; one more is told `full` and closed. Once `until` says so, sessions have
@@ -78,9 +78,10 @@ where
     ensures heard { IfOk result (λ served. HearsAll V.turns (HasEnded (server_of
         (facts_of V.Job.fresh V.Jobs.gives V.Job.reacts V.Job.steps V.Job.refuses) V.Jobs.left serving.options
         (V.makes service) (WasTurnedAway (H.dismisses rt)))) service served.whole served.faulted) }
-    ensures listened { Listens (H.listens rt at.entry.host.now at.entry.port) (H.shares rt) (H.accepts rt)
+    ensures listened { Listens (H.listens rt at.entry.host.now at.entry.port at.entry.handed)
+        (H.shares rt) (H.accepts rt)
         (λ (served : Served). served.accepted) (λ error ended. FailsBy error ended) result }
-    ensures caused { IsCaused at.entry.host.now at.entry.port (H.listens rt)
+    ensures caused { IsCaused at.entry.host.now at.entry.port at.entry.handed (H.listens rt)
         causes.old.items causes.new.items result }
     ensures limit { IsErrOf result ServeFault.Limit → ¬ IsLimit serving.sessions }
 {
@@ -193,6 +194,7 @@ fn accepting<H: Host + Network, U: Until + Drop + Send + 'static>(
         over,
         count: serving.count,
         is_proxied: serving.is_proxied,
+        is_handed: serving.is_handed,
         until,
     };
     match acceptor.start() {

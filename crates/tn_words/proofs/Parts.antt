@@ -11,7 +11,6 @@ use Rattle.tn_words.specs.declared.words.ServeNumbers.{ServeNumbers}
 
 abbrev pub serve_numbers_of : ServeWords → ServeNumbers
 serve_numbers_of asked = record {
-  port = asked.port;
   sessions = asked.sessions;
   per_host = asked.per_host;
   ticks = asked.ticks;
@@ -28,7 +27,6 @@ serve_numbers_of asked = record {
 pub serve_numbers_asked : (rows : List Row) (asked : ServeWords) → AsksServe rows asked
     → AsksServeNumbers rows (serve_numbers_of asked)
 serve_numbers_asked rows asked asks = record {
-  port = asks.port;
   limit = asks.limit;
   per_host = asks.per_host;
   ticks = asks.ticks;
@@ -49,6 +47,7 @@ choices_of asked = record {
   sends_signals = asked.sends_signals;
   logfmt = asked.logfmt;
   count = asked.count;
+  socket = asked.socket;
 }
 
 pub choices_asked : (rows : List Row) (asked : ServeWords) → AsksServe rows asked → AsksServeChoices rows (choices_of asked)
@@ -58,6 +57,7 @@ choices_asked rows asked asks = record {
   sends_signals = asks.sends_signals;
   logfmt = asks.logfmt;
   count = asks.count;
+  socket = asks.socket;
 }
 
 abbrev pub connect_numbers_of : ConnectWords → ConnectNumbers

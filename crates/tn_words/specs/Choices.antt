@@ -2,11 +2,11 @@
 use Rattle.std.specs.Prelude.{List, codes, fold}
 use Rattle.clap.specs.Words.{App, Rule, with_rule}
 use Rattle.tn_words.specs.Commands.{flag_rule, host_rule, maybe_port_rule, place_rule}
-use Rattle.tn_words.specs.Commands.{patience_rule, port_rule, text_rule, wait_rule, whole_rule, with_default}
+use Rattle.tn_words.specs.Commands.{patience_rule, text_rule, wait_rule, whole_rule, with_default}
 use Rattle.tn_words.specs.Commands.{with_letter}
 use Rattle.tn_words.specs.declared.commands.Choice.{Choice}
 use Rattle.tn_words.specs.declared.commands.Choice.TheVariants.{Default, Flag, Host, HostPlace, Letter, Number, Port}
-use Rattle.tn_words.specs.declared.commands.Choice.TheVariants.{Patience, PortPlace, RequiredPort, Text, Wait}
+use Rattle.tn_words.specs.declared.commands.Choice.TheVariants.{ListenPort, Patience, PortPlace, Text, Wait}
 
 -- what a parse goes by at a choice
 abbrev pub rule_of_choice : Choice → Rule
@@ -17,7 +17,7 @@ rule_of_choice (Number whole _) = whole_rule whole.name.now whole.least whole.mo
 rule_of_choice (Default whole text _)
     = with_default (whole_rule whole.name.now whole.least whole.most) text.now
 rule_of_choice Host = host_rule
-rule_of_choice RequiredPort = port_rule
+rule_of_choice ListenPort = maybe_port_rule
 rule_of_choice HostPlace = place_rule (codes "host")
 rule_of_choice PortPlace = place_rule (codes "at")
 rule_of_choice Port = maybe_port_rule

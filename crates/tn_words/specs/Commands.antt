@@ -35,10 +35,6 @@ whole_rule name least most = record (number_rule name least most) { long = Some 
 abbrev pub with_default : Rule → Text → Rule
 with_default rule text = record rule { defaults = text ∷ [] }
 
--- the option, which has to be given
-abbrev pub required : Rule → Rule
-required rule = record rule { required = true }
-
 -- an option that is given or not
 abbrev pub flag_rule : Text → Rule
 flag_rule name = record (new_rule name) { long = Some name; action = Some SetTrue }
@@ -50,9 +46,6 @@ with_letter rule letter = record rule { short = Some letter }
 -- the port, by `--port` or by `-p`, 112
 abbrev pub maybe_port_rule : Rule
 maybe_port_rule = with_letter (whole_rule (codes "port") 1 65535) 112
-
-abbrev pub port_rule : Rule
-port_rule = required maybe_port_rule
 
 -- how many seconds, by `-q`, 113
 abbrev pub wait_rule : Rule
@@ -79,7 +72,9 @@ line_rule = with_default (whole_rule (codes "line") 255 4095) (codes "255")
 abbrev pub serve : Shape
 serve = with_rules (codes "serve") (
     host_rule
-    ∷ port_rule
+    ∷ maybe_port_rule
+    ∷ whole_rule (codes "listen-fd") 3 1023
+    ∷ flag_rule (codes "stdin")
     ∷ with_default (whole_rule (codes "limit") 1 64) (codes "8")
     ∷ whole_rule (codes "per-host") 0 64
     ∷ whole_rule (codes "count") 1 1000000

@@ -1,14 +1,13 @@
 -- The parts of what is asked for that own no memory.
 use Rattle.std.specs.Prelude.{◌≡◌, Some, List, codes}
 use Rattle.clap.specs.Words.{Row}
-use Rattle.tn_words.specs.Words.{AsksCount, AsksLine, HasFlag, HasNumber, MayHaveNumber}
+use Rattle.tn_words.specs.Words.{AsksCount, AsksLine, AsksSocket, HasFlag, HasNumber, MayHaveNumber}
 use Rattle.tn_words.specs.Words.{ends_cut_in, logfmt_in, sends_signals_in, service_line_end_in}
 use Rattle.tn_words.specs.declared.words.ConnectNumbers.{ConnectNumbers}
 use Rattle.tn_words.specs.declared.words.ServeChoices.{ServeChoices}
 use Rattle.tn_words.specs.declared.words.ServeNumbers.{ServeNumbers}
 
 pub record AsksServeNumbers (rows : List Row) (asked : ServeNumbers) : Type 0 where
-  pub port : HasNumber rows (codes "port") 1 65535 asked.port
   pub limit : HasNumber rows (codes "limit") 1 64 asked.sessions
   pub per_host : MayHaveNumber rows (codes "per-host") 0 64 asked.per_host
   pub ticks : HasNumber rows (codes "ticks") 0 1000 asked.ticks
@@ -27,6 +26,7 @@ pub record AsksServeChoices (rows : List Row) (asked : ServeChoices) : Type 0 wh
   pub sends_signals : sends_signals_in rows ≡ Some asked.sends_signals
   pub logfmt : logfmt_in rows ≡ Some asked.logfmt
   pub count : AsksCount rows asked.count
+  pub socket : AsksSocket rows asked.socket
 
 pub record AsksConnectNumbers (rows : List Row) (asked : ConnectNumbers) : Type 0 where
   pub width : MayHaveNumber rows (codes "width") 0 65535 asked.width

@@ -29,6 +29,7 @@ use Rattle.tn_words.specs.declared.settings.Escape.{Escape}
 use Rattle.tn_words.specs.declared.settings.Port.{Port}
 use Rattle.tn_words.specs.declared.settings.Port.TheVariants.{Number, Service}
 use Rattle.tn_words.specs.declared.settings.ServeWords.{ServeWords}
+use Rattle.tn_words.specs.declared.settings.Socket.{Socket}
 use Rattle.tn_words.specs.declared.words.WordsFault.{WordsFault}
 use Rattle.tn_words.specs.declared.words.WordsFault.TheVariants as fault
 
@@ -144,9 +145,29 @@ abbrev pub MayHavePath : List Row → Text → Option Text → Type 0
 MayHavePath rows name None = is_given name rows ≡ false
 MayHavePath rows name (Some path) = HasText rows name path × IsPath path
 
+-- the socket that a server listens on: a port, or the one at this descriptor, which is 0 for a connection that is
+-- standard input; one of the three is given, and with the last no count of connections
+abbrev pub chosen_socket : Option ℕ → Option ℕ → Bool → Bool → Option Socket
+chosen_socket (Some port) None false counts = Some (record { port = port; handed = None })
+chosen_socket None (Some descriptor) false counts = Some (record { port = 0; handed = Some descriptor })
+chosen_socket None None true false = Some (record { port = 0; handed = Some 0 })
+chosen_socket port descriptor stdin counts = None
+
+-- how many connections there are to be is said
+abbrev pub has_count : List Row → Bool
+has_count rows = is_flagged (codes "forever") rows || is_given (codes "count") rows
+
+-- The words give this one socket.
+pub record AsksSocket (rows : List Row) (asked : Socket) : Type 0 where
+  pub port : Option ℕ
+  pub descriptor : Option ℕ
+  pub by_port : MayHaveNumber rows (codes "port") 1 65535 port
+  pub by_descriptor : MayHaveNumber rows (codes "listen-fd") 3 1023 descriptor
+  pub chosen : chosen_socket port descriptor (is_flagged (codes "stdin") rows) (has_count rows) ≡ Some asked
+
 pub record AsksServe (rows : List Row) (asked : ServeWords) : Type 0 where
   pub host : HasText rows (codes "host") (string_bytes asked.host)
-  pub port : HasNumber rows (codes "port") 1 65535 asked.port
+  pub socket : AsksSocket rows asked.socket
   pub limit : HasNumber rows (codes "limit") 1 64 asked.sessions
   pub per_host : MayHaveNumber rows (codes "per-host") 0 64 asked.per_host
   pub count : AsksCount rows asked.count

@@ -8,7 +8,7 @@ ghost use Rattle.tn_words.specs.Choices.{rule_of_choice, with_choices};
 ghost use Rattle.tn_words.specs.Commands.{tn, alone, offline, plain, serve, connect, whole_rule};
 ghost use Rattle.tn_words.specs.Commands.{with_default, flag_rule};
 ghost use Rattle.tn_words.specs.Commands.{host_rule, maybe_port_rule, number_rule, place_rule};
-ghost use Rattle.tn_words.specs.Commands.{patience_rule, port_rule, text_rule, wait_rule};
+ghost use Rattle.tn_words.specs.Commands.{patience_rule, text_rule, wait_rule};
 
 use clap::builder::ValueParser;
 use clap::{Arg, ArgAction, Command, value_parser};
@@ -39,6 +39,15 @@ pub(crate) const PORT: Whole = Whole {
     least: 1,
     most: 65_535,
 };
+
+/// The first descriptor after the standard streams, and the last that systemd could pass.
+pub(crate) const LISTEN_FD: Whole = Whole {
+    name: "listen-fd",
+    least: 3,
+    most: 1_023,
+};
+
+pub(crate) const STDIN: &str = "stdin";
 
 pub(crate) const LIMIT: Whole = Whole {
     name: "limit",
@@ -224,7 +233,7 @@ enum Choice {
     /// The address to listen on.
     Host,
     /// The port to listen on.
-    RequiredPort,
+    ListenPort,
     /// The place of the host to connect to.
     HostPlace,
     /// The place of the port behind it.
@@ -247,7 +256,15 @@ const LINE_LENGTH: Choice = Choice::Default(
 /// The options of `tn serve`.
 const SERVE_CHOICES: &[Choice] = &[
     Choice::Host,
-    Choice::RequiredPort,
+    Choice::ListenPort,
+    Choice::Number(
+        LISTEN_FD,
+        "Listens on the socket that the process was started with at this descriptor, in place of a port",
+    ),
+    Choice::Flag(
+        STDIN,
+        "Serves the one connection that is standard input, in place of a port",
+    ),
     Choice::Default(LIMIT, "8", "How many sessions there may be at once"),
     Choice::Number(
         PER_HOST,
@@ -656,7 +673,7 @@ fn choice_arg<'a>(alloc: Global, choice: Choice) -> Arg<'a>
         Choice::Number(whole, help) => optional_number(alloc, whole, help),
         Choice::Default(whole, default, help) => whole_option(alloc, whole, default, help),
         Choice::Host => host_option(alloc),
-        Choice::RequiredPort => required_port(alloc, "The port to listen on"),
+        Choice::ListenPort => port_option(alloc, "The port to listen on"),
         Choice::HostPlace => host_place(alloc),
         Choice::PortPlace => port_place(alloc),
         Choice::Port => port_option(
@@ -742,13 +759,6 @@ fn patience_option<'a>(alloc: Global) -> Arg<'a>
         .value_name("SECONDS")
         .default_value("0")
         .help("After that, leaves once nothing has come for this many seconds; 0 never does")
-}
-
-fn required_port<'a>(alloc: Global, help: &'static str) -> Arg<'a>
-    ensures rule { rule_of result ≡ port_rule }
-    ensures local { result.global ≡ false }
-{
-    port_option(alloc, help).required(true)
 }
 
 // An option for a number that need not be given.

@@ -9,7 +9,7 @@
 
 pub use commands::VERSION_LINE;
 pub use settings::{
-    Address, Characters, ConnectWords, Escape, Port, ReturnBytes, ServeWords, USUAL_HEIGHT,
+    Address, Characters, ConnectWords, Escape, Port, ReturnBytes, ServeWords, Socket, USUAL_HEIGHT,
     USUAL_WIDTH,
 };
 pub use tn_lines::LineEnd;
@@ -21,4 +21,5 @@ mod dialing;
 pub mod laws;
 mod places;
 mod settings;
+mod sockets;
 mod words;

@@ -116,13 +116,21 @@ fn has_colon(text: &str) -> bool
     text.as_bytes().contains(&b':')
 }
 
+/// The socket that a server listens on.
+#[derive(Clone, Copy, Debug, PartialEq, Eq)]
+pub struct Socket {
+    /// Its port, from 1 to 65,535, or 0 if it is handed in.
+    pub port: u16,
+    /// The descriptor at which it is handed in, from 3 to 1,023, or 0 for a connection that is standard input.
+    pub handed: Option<u16>,
+}
+
 /// How to serve.
 #[derive(Debug, Drop, PartialEq, Eq)]
 pub struct ServeWords {
-    /// The address to listen on, or a name that has one.
+    /// The address to listen on, or a name that has one, unless the socket is handed in.
     pub host: String,
-    /// The port, from 1 to 65,535.
-    pub port: u16,
+    pub socket: Socket,
     /// The most sessions at once, from 1 to 64.
     pub sessions: u16,
     /// The most of them from one address, from 1 to 64, or 0 for as many as there may be of all.

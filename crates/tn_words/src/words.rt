@@ -16,14 +16,15 @@ ghost use Rattle.tn_words.specs.Words.{is_flagged, is_given, line_end_in, servic
 ghost use Rattle.tn_words.specs.Words.{service_line_end_in, usual_line};
 
 use crate::commands::{
-    BANNER, CONNECT, COUNT, CR, CRLF, DECODE, DIAL, DRAIN, ESCAPE, FOREVER, HEIGHT, HOST, IDLE, KEYS, LF,
-    LIMIT, LINE, LINE_CUT, LOCAL, LOCALLY, LOG, LONGEST, METRICS, MOST_PATH, NOTES, PATIENCE,
-    PER_HOST, PLAIN, PORT, PROXIED, QUIET, REPLAY, RETURN, SERVE, SIGNALS, TICKS, TIMEOUT, TO,
+    BANNER, CONNECT, COUNT, CR, CRLF, DECODE, DIAL, DRAIN, ESCAPE, FOREVER, HEIGHT, HOST, IDLE,
+    KEYS, LF, LIMIT, LINE, LINE_CUT, LOCAL, LOCALLY, LOG, LONGEST, METRICS, MOST_PATH, NOTES,
+    PATIENCE, PER_HOST, PLAIN, PROXIED, QUIET, REPLAY, RETURN, SERVE, SIGNALS, TICKS, TIMEOUT, TO,
     TRACE, UNTIL, VERBOSE, VERSION_LINE, WAIT, WIDTH, WORLD, Whole, tn_command,
 };
 use crate::dialing::{family_in, source_of};
 use crate::places::place_of;
-use crate::settings::{Address, Characters, ConnectWords, Escape, ReturnBytes, ServeWords};
+use crate::settings::{Address, Characters, ConnectWords, Escape, ReturnBytes, ServeWords, Socket};
+use crate::sockets::{socket_in, socket_lack};
 use clap::error::ErrorKind;
 use clap::{ArgMatches, Error};
 use std::alloc::{AllocError, Global};
@@ -192,7 +193,7 @@ fn serving(alloc: Global, words: &ArgMatches<'_>) -> Result<ServeWords, WordsFau
     let host = String::from_str(alloc, host)?;
     Ok(ServeWords {
         host,
-        port: numbers.port,
+        socket: choices.socket,
         sessions: numbers.sessions,
         per_host: numbers.per_host,
         count: choices.count,
@@ -219,7 +220,6 @@ fn serving(alloc: Global, words: &ArgMatches<'_>) -> Result<ServeWords, WordsFau
 /// The numbers and flags of how to serve.
 #[derive(Clone, Copy)]
 struct ServeNumbers {
-    port: u16,
     sessions: u16,
     per_host: Option<u16>,
     ticks: u16,
@@ -240,7 +240,6 @@ fn serve_numbers(words: &ArgMatches<'_>) -> Option<ServeNumbers>
         ¬ AsksServeNumbers (rows_of (found_of words.now)) asked }
 {
     Some(ServeNumbers {
-        port: short_number(words, PORT)?,
         sessions: short_number(words, LIMIT)?,
         per_host: size(words, PER_HOST)?,
         ticks: short_number(words, TICKS)?,
@@ -263,6 +262,7 @@ struct ServeChoices {
     sends_signals: bool,
     logfmt: bool,
     count: Option<u32>,
+    socket: Socket,
 }
 
 fn serve_choices(alloc: Global, words: &ArgMatches<'_>) -> Result<ServeChoices, WordsFault>
@@ -285,12 +285,16 @@ fn serve_choices(alloc: Global, words: &ArgMatches<'_>) -> Result<ServeChoices, 
     let Some(count) = count_in(words) else {
         return Err(lacking(alloc, &Lack::Words(TWO_COUNTS)));
     };
+    let Some(socket) = socket_in(words) else {
+        return Err(lacking(alloc, &socket_lack(words)));
+    };
     Ok(ServeChoices {
         line_end,
         ends_cut,
         sends_signals,
         logfmt,
         count,
+        socket,
     })
 }
 

@@ -74,6 +74,7 @@ fn serving(sessions: u16, count: u64) -> Serving {
         count,
         drain: 0,
         is_proxied: false,
+        is_handed: false,
         options: options(0),
     }
 }
@@ -247,6 +248,7 @@ fn a_server_that_is_told_to_end_accepts_nobody(rt: HostRuntime) {
     let at = At {
         host: "127.0.0.1",
         port: 0,
+        handed: None,
     };
     let mut causes = Vec::new(alloc);
     let service = Answering {

@@ -110,7 +110,8 @@ fn a_service_that_is_not_there_is_told(rt: HostRuntime) -> Result<(), Fail> {
     drop(listener);
     let (server, client) = join(rt, alloc, port)?;
     let screen = screen_of(alloc, client, b"")?;
-    assert!(rt; shows(&screen, b"the service cannot be reached: Connection refused (os error 111)\r\n"));
+    let told = b"the service cannot be reached: Connection refused (os error 111)\r\n";
+    assert!(rt; shows(&screen, told));
     // On standard error it is told, too, and why.
     assert!(rt; !server.join(&rt));
     Ok(())

@@ -1,5 +1,5 @@
-use Rattle.std.specs.Prelude.{string_bytes}
-use Rattle.tn_program.proofs.Causes.{uncaused}
+use Rattle.std.proofs.Common.{refl}
+use Rattle.tn_program.proofs.Causes.{quiet}
 use Rattle.tn_program.proofs.program.run_asked.Goals as goal
 
 pub returns-in-Some-clause-comes : goal.returns-in-Some-clause-comes
@@ -8,6 +8,9 @@ returns-in-Some-clause-comes g c = rw c.in-Connect.is c.run_plain.ensures.comes
 pub returns-in-None-clause-comes : goal.returns-in-None-clause-comes
 returns-in-None-clause-comes g c = rw c.in-Connect.is c.run_connect.ensures.comes
 
-pub returns-in-Serve-clause-uncaused : goal.returns-in-Serve-clause-uncaused
-returns-in-Serve-clause-uncaused g c = uncaused (string_bytes c.in-Serve.asked.host) c.in-Serve.asked.port (g.H.Network.listens c.args.rt) _ _ _
-    c.serve_asked-served.ensures.caused
+pub returns-in-Serve-clause-comes : goal.returns-in-Serve-clause-comes
+returns-in-Serve-clause-comes g c = rw c.in-Serve.is (c.run_serve.ensures.comes c.args.streams.origin (g.R.Read.remaining c.args.streams.reader)
+    (g.W.Write.contents c.args.writer.now))
+
+pub returns-in-Serve-clause-quiet : goal.returns-in-Serve-clause-quiet
+returns-in-Serve-clause-quiet g c = quiet c.run_serve.result _ refl

@@ -22,10 +22,10 @@ returns-in_err-from_str-clause-caused g c = inl refl
 
 pub returns-in_default-clause-caused : goal.returns-in_default-clause-caused
 returns-in_default-clause-caused g c =
-    subst (λ (host : List ℕ). IsCaused host c.args.asked.now.port (g.H.Network.listens c.args.rt) c.args.causes.now.items c.serve.new.causes.items c.serve.result)
+    subst (λ (host : List ℕ). IsCaused host c.args.asked.now.socket.port c.args.asked.now.socket.handed (g.H.Network.listens c.args.rt) c.args.causes.now.items c.serve.new.causes.items c.serve.result)
     c.as_str.ensures.value c.serve.ensures.caused
 
 pub returns-clause-caused : goal.returns-clause-caused
 returns-clause-caused g c =
-    subst (λ (host : List ℕ). IsCaused host c.args.asked.now.port (g.H.Network.listens c.args.rt) c.args.causes.now.items c.serve-2.new.causes.items c.serve-2.result)
+    subst (λ (host : List ℕ). IsCaused host c.args.asked.now.socket.port c.args.asked.now.socket.handed (g.H.Network.listens c.args.rt) c.args.causes.now.items c.serve-2.new.causes.items c.serve-2.result)
     c.as_str.ensures.value c.serve-2.ensures.caused

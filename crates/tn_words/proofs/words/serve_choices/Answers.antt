@@ -28,6 +28,11 @@ returns-in_default-count_in-clause-lacks c =
     lacks_by c.lacking-in_default-count_in.result c.lacking-in_default-count_in.ensures (λ asked asks.
     c.count_in.ensures.none c.in_default-count_in.is asked.count asks.count)
 
+pub returns-in_default-socket_in-clause-lacks : goal.returns-in_default-socket_in-clause-lacks
+returns-in_default-socket_in-clause-lacks c =
+    lacks_by c.lacking-in_default-socket_in.result c.lacking-in_default-socket_in.ensures (λ asked asks.
+    c.socket_in.ensures.none c.in_default-socket_in.is asked.socket asks.socket)
+
 pub returns-clause-asked : goal.returns-clause-asked
 returns-clause-asked c = record {
   line_end = sym c.service_line_end_in.ensures ∙ c.in-Some.is;
@@ -35,4 +40,5 @@ returns-clause-asked c = record {
   sends_signals = sym c.sends_signals_in.ensures ∙ c.in-Some-sends_signals_in.is;
   logfmt = sym c.logfmt_in.ensures ∙ c.in-Some-logfmt_in.is;
   count = search rules;
+  socket = search rules;
 }

@@ -5,19 +5,15 @@ use Rattle.tn_words.proofs.words.serve_numbers.Goals as goal
 
 pub returns-in_err-short_number-clause-none : goal.returns-in_err-short_number-clause-none
 returns-in_err-short_number-clause-none c none asked asks =
-    c.short_number.ensures.none c.in_err-short_number.was asked.port asks.port
-
-pub returns-in_err-short_number-2-clause-none : goal.returns-in_err-short_number-2-clause-none
-returns-in_err-short_number-2-clause-none c none asked asks =
-    c.short_number-2.ensures.none c.in_err-short_number-2.was asked.sessions asks.limit
+    c.short_number.ensures.none c.in_err-short_number.was asked.sessions asks.limit
 
 pub returns-in_err-size-clause-none : goal.returns-in_err-size-clause-none
 returns-in_err-size-clause-none c none asked asks =
     c.size.ensures.none c.in_err-size.was asked.per_host asks.per_host
 
-pub returns-in_err-short_number-3-clause-none : goal.returns-in_err-short_number-3-clause-none
-returns-in_err-short_number-3-clause-none c none asked asks =
-    c.short_number-3.ensures.none c.in_err-short_number-3.was asked.ticks asks.ticks
+pub returns-in_err-short_number-2-clause-none : goal.returns-in_err-short_number-2-clause-none
+returns-in_err-short_number-2-clause-none c none asked asks =
+    c.short_number-2.ensures.none c.in_err-short_number-2.was asked.ticks asks.ticks
 
 pub returns-in_err-line_limit_in-clause-none : goal.returns-in_err-line_limit_in-clause-none
 returns-in_err-line_limit_in-clause-none c none asked asks =
@@ -41,10 +37,9 @@ returns-in_err-number-3-clause-none c none asked asks =
 
 pub returns-clause-asked : goal.returns-clause-asked
 returns-clause-asked c = record {
-  port = c.in_ok-short_number.ensures.some;
-  limit = c.in_ok-short_number-2.ensures.some;
+  limit = c.in_ok-short_number.ensures.some;
   per_host = c.in_ok-size.ensures.some;
-  ticks = c.in_ok-short_number-3.ensures.some;
+  ticks = c.in_ok-short_number-2.ensures.some;
   line = c.in_ok-line_limit_in.ensures.some;
   idle = c.in_ok-given_number.ensures.some;
   longest = c.in_ok-number.ensures.some;

@@ -50,7 +50,7 @@ returns-clause-asked c =
     record {
       host = given_some (found_of c.args.words.now) (codes "host") c.get_str.result c.get_str.ensures c.in-Some.host c.in-Some.is
           ∙ ap Some (sym c.in_ok-host.ensures.ok);
-      port = numbers.port;
+      socket = choices.socket;
       limit = numbers.limit;
       per_host = numbers.per_host;
       count = choices.count;
