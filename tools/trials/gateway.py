@@ -85,6 +85,26 @@ def new_lines_of_a_service_are_shown_as_such(world):
     serving.end()
 
 
+TELNET = b"\xff\xfd\x18\xff\xfb\x01\xff\xfa\x18\x01\xff\xff\xff\xf0login: \xff\xf9\xff\xffend\n"
+
+
+@case(each={"at once": (len(TELNET), TELNET, b"login: \xff\xffend\r\n", 1), "in pieces": (1, TELNET, b"login: \xff\xffend\r\n", 1),
+            "never, but has the byte 255": (9, b"\xff one \xff\xff two \xff\n", b"\xff\xff one \xff\xff\xff\xff two \xff\xff\r\n", 0)})
+def a_service_that_speaks_telnet_is_noted(world, size, said, shown, count):
+    def talk(_, connection):
+        connection.setsockopt(socket.IPPROTO_TCP, socket.TCP_NODELAY, 1)
+        for at in range(0, len(said), size):
+            # Its first command comes whole.
+            connection.sendall(said[at:at + size] if at >= 3 or size > 3 else said[:3] if at == 0 else b"")
+            time.sleep(0.01)
+
+    _, serving = joined(world, talk)
+    expect_same(shown, peer_of(world, serving).read_to_end(), "what is shown")
+    printed = serving.end(None)
+    notes = re.findall(rb"Z session 0 \(serial 1\) from 127\.0\.0\.1:\d+: its service speaks Telnet, which is not shown\n", printed)
+    expect_same((count, count), (len(notes), printed.count(b"\n")), f"the notes of it, and all lines: {printed}")
+
+
 @case
 def a_return_is_shown_before_the_service_says_more(world):
     def talk(service, connection):

@@ -37,8 +37,8 @@ pub trait Network {
     // a connection to this address
     ghost dials: { Self → SocketAddr → Result TcpStream Error → Type 0 };
 
-    /// Listens at a host, an address or a name that has one; or at the socket that the process was started with
-    /// at this descriptor. If that socket is a connection, it is the first that comes.
+    /// Listens at a host, an address or a name that has one; or at the socket that the process was started
+    /// with at this descriptor. If that socket is a connection, it is the first that comes.
     fn listen(&self, host: &str, port: u16, handed: Option<u16>) -> io::Result<TcpListener>
         ensures { listens self.now host.now port handed result };
 

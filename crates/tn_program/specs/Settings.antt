@@ -1,6 +1,6 @@
 -- What was asked for, as sessions over connections take it.
-use Rattle.std.specs.Prelude.{◌≡◌, ◌||◌, ◌&&◌, not, is_some, ◌/◌, ℕ, Bool, true, IsTrue, false, Option, None, Some, IsSome, unwrap_or}
-use Rattle.std.specs.Prelude.{Result, List, codes, eqb, nat_eq, if◌then◌else◌}
+use Rattle.std.specs.Prelude.{◌≡◌, ◌||◌, ◌&&◌, not, is_some, ◌/◌, ℕ, Bool, true, IsTrue, false, Option, None, Some}
+use Rattle.std.specs.Prelude.{IsSome, unwrap_or, Result, List, codes, eqb, nat_eq, if◌then◌else◌}
 use Rattle.std.specs.List.{starts_with}
 use Rattle.std.specs.Str.{bytes_eq}
 use Rattle.std.specs.Prelude.{Ok, Err, string_bytes}
@@ -55,8 +55,8 @@ is_loopback host =
 abbrev pub is_local : ServeWords → Bool
 is_local asked = not (is_some asked.socket.handed) && is_loopback (string_bytes asked.host)
 
--- how many sessions one address may have: as many as all may, for 0 and, if none are named, at a host of loopback;
--- elsewhere half of all, and one at least
+-- how many sessions one address may have: as many as all may, for 0 and, if none are named, at a local
+-- server; elsewhere half of all, and one at least
 abbrev pub half_of : ℕ → ℕ
 half_of sessions = if nat_eq sessions 1 then 1 else sessions / 2
 
@@ -68,8 +68,7 @@ abbrev pub per_host_as : Option ℕ → Bool → ℕ → ℕ
 per_host_as (Some count) loopback sessions = if nat_eq count 0 then 64 else count
 per_host_as None loopback sessions = usual_per_host loopback sessions
 
--- after how many seconds a session is idle: if none are named, never at a host of loopback, and elsewhere after an
--- hour
+-- after how many seconds a session is idle: if none are named, never at a local server, else after an hour
 abbrev pub idle_as : Option ℕ → Bool → ℕ
 idle_as (Some seconds) loopback = seconds
 idle_as None true = 0

@@ -34,11 +34,11 @@ impl<H: Host + Network> Serves for H {
         (options_as asked) (AnswersAsAsked asked.ticks) (WasTurnedAway (H.dismisses rt)))
         served.whole served.faulted served.refused)
         × IfSome asked.to (λ to. CountsSessions (server_of (facts_of
-        ⟦<Gateway<ServiceReader<H, Heard<H>>, ServiceWriter<H, Told<H>, Noting<H>>> as Job>⟧.fresh
+        ⟦<Gateway<ServiceReader<H, Heard<H, Noting<H>>>, ServiceWriter<H, Told<H>, Noting<H>>> as Job>⟧.fresh
         ⟦<Joiner<H, Noting<H>> as Maker>⟧.gives
-        ⟦<Gateway<ServiceReader<H, Heard<H>>, ServiceWriter<H, Told<H>, Noting<H>>> as Job>⟧.reacts
-        ⟦<Gateway<ServiceReader<H, Heard<H>>, ServiceWriter<H, Told<H>, Noting<H>>> as Job>⟧.steps
-        ⟦<Gateway<ServiceReader<H, Heard<H>>, ServiceWriter<H, Told<H>, Noting<H>>> as Job>⟧.refuses)
+        ⟦<Gateway<ServiceReader<H, Heard<H, Noting<H>>>, ServiceWriter<H, Told<H>, Noting<H>>> as Job>⟧.reacts
+        ⟦<Gateway<ServiceReader<H, Heard<H, Noting<H>>>, ServiceWriter<H, Told<H>, Noting<H>>> as Job>⟧.steps
+        ⟦<Gateway<ServiceReader<H, Heard<H, Noting<H>>>, ServiceWriter<H, Told<H>, Noting<H>>> as Job>⟧.refuses)
         ⟦<Joiner<H, Noting<H>> as Maker>⟧.left
         (options_as asked) (JoinsAsAsked rt (string_bytes to.host) to.port asked.dial (lines_as asked))
         (WasTurnedAway (H.dismisses rt))) served.whole served.faulted served.refused) };

@@ -1,7 +1,7 @@
 //! The program: words and streams in, a status out.
 
 ghost use Rattle.std.specs.Prelude.{◌≡◌, ◌≢◌, ◌⊎◌, ℕ, List, None, Some, IfErr, IfOk, IsOk, OnErr, map};
-ghost use Rattle.std.specs.Prelude.{string_bytes};
+ghost use Rattle.std.specs.Prelude.{Option, string_bytes};
 ghost use Rattle.std.specs.IoError.{error_kind};
 ghost use Rattle.tn_program.specs.Machine.{machine_of};
 ghost use Rattle.tn_program.specs.Outcomes.{ComesOf, ComesOfNoRun, ComesOfRun, EndsVersion, EndsWith};

@@ -18,7 +18,7 @@ use std::sync::{Arc, Wait};
 use tn_network::Network;
 use tn_serve::{At, Call, Finished, Host, NoteWriter, Notes, ServeFault, Served, Service, serve};
 use tn_services::{
-    Gateway, Heard, HearsCut, Joiner, LineFormat, ServiceReader, ServiceWriter, Told,
+    Gateway, Heard, HearsCut, HearsTelnet, Joiner, LineFormat, ServiceReader, ServiceWriter, Told,
 };
 
 /// Serves as was asked for, and writes notes to standard error: `is_journal` says that systemd's journal reads
@@ -162,7 +162,7 @@ pub struct Joining<H> {
     pub banner: Option<Arc<Vec<u8>, Global>>,
 }
 
-/// Has the server note a line that may have been cut.
+/// Has the server note a line that may have been cut, and a service that speaks Telnet.
 #[derive(Drop)]
 pub struct Noting<H> {
     rt: H,
@@ -175,11 +175,17 @@ impl<H: Wait> HearsCut for Noting<H> {
     }
 }
 
+impl<H: Wait> HearsTelnet for Noting<H> {
+    fn hear_telnet(&self) {
+        self.notes.note_telnet(&self.rt);
+    }
+}
+
 impl<H: Host + Network> Service for Joining<H> {
     ghost use Rattle.std.specs.Prelude.{string_bytes};
     ghost use Rattle.tn_program.specs.Settings.{JoinsAsAsked};
 
-    type Job = Gateway<ServiceReader<H, Heard<H>>, ServiceWriter<H, Told<H>, Noting<H>>>;
+    type Job = Gateway<ServiceReader<H, Heard<H, Noting<H>>>, ServiceWriter<H, Told<H>, Noting<H>>>;
 
     type Jobs = Joiner<H, Noting<H>>;
 
@@ -193,7 +199,11 @@ impl<H: Host + Network> Service for Joining<H> {
         let Call { hook, notes, .. } = call;
         let rt = self.rt;
         let host = String::from_str(alloc, self.host.as_str())?;
-        let notes = Noting { rt, notes };
+        let heard = Noting {
+            rt,
+            notes: notes.another()?,
+        };
+        let notes = (heard, Noting { rt, notes });
         let (port, patience) = (self.port, self.patience);
         Ok(Joiner::new(rt, host, port, patience, self.lines, hook, notes))
     }

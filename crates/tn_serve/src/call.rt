@@ -2,7 +2,7 @@
 
 use crate::events::Event;
 use crossbeam_channel::Sender;
-use std::alloc::Global;
+use std::alloc::{AllocError, Global};
 use std::net::SocketAddr;
 use std::sync::Wait;
 use tn_sockets::Hook;
@@ -26,6 +26,24 @@ pub struct Notes {
 }
 
 impl Notes {
+    /// One more of the same.
+    ///
+    /// # Errors
+    ///
+    /// Out of memory.
+    pub fn another(&self) -> Result<Notes, AllocError> {
+        Ok(Notes {
+            events: self.events.clone()?,
+            number: self.number,
+        })
+    }
+
+    /// Has it noted that the service of its session speaks Telnet. While too much is to be noted, that is
+    /// dropped.
+    pub fn note_telnet<R: Wait>(&self, rt: &R) {
+        let _ = self.events.try_send(rt, Event::Telnet(self.number));
+    }
+
     /// Has it noted that a line of so many bytes may have been cut. While too much is to be noted, that is
     /// dropped.
     pub fn note_cut<R: Wait>(&self, rt: &R, bytes: usize) {

@@ -20,6 +20,8 @@ pub(crate) enum Event {
     Closed,
     /// A line of so many bytes, of the session with this number, may have been cut.
     Cut(usize, usize),
+    /// The service of the session with this number speaks Telnet.
+    Telnet(usize),
     /// The session with this number has ended, and its thread is about to.
     Ended(usize),
 }

@@ -5,8 +5,8 @@ use std::io;
 use std::sync::Arc;
 use tn_streams::{Drain, Finish, is_interrupted};
 
-/// The writing side of a connection, which shows a text of its own after the opening words, the first that are
-/// written. Nothing else is written before it.
+/// The writing side of a connection, which shows a text of its own after the opening words, the first that
+/// are written. Nothing else is written before it.
 #[derive(Drop)]
 pub(crate) struct Greeting<W> {
     pub(crate) side: W,
@@ -23,8 +23,8 @@ impl<W: Finish> Greeting<W> {
     }
 }
 
-// Writes the bytes. One that only was interrupted is tried again; after any other failure the session's own next
-// write fails too.
+// Writes the bytes. A write that only was interrupted is made again; after any other failure the session's
+// own next write fails too.
 fn show<W: Finish>(side: &mut W, bytes: &[u8]) {
     let mut left = bytes;
     for _ in 0..bytes.len() {

@@ -43,6 +43,14 @@ pub(crate) fn cut<L: Log>(log: &L, caller: &Caller, bytes: usize) {
     );
 }
 
+/// Notes that the service of a session speaks Telnet.
+pub(crate) fn telnet<L: Log>(log: &L, caller: &Caller) {
+    warn!(
+        log; target: "telnet", session = caller.number, serial = caller.serial, peer:% = caller.peer;
+        "{}: its service speaks Telnet, which is not shown", Whose(caller)
+    );
+}
+
 /// Notes that a connection got no session, since it did not begin with the line of a proxy.
 pub(crate) fn unproxied<L: Log>(log: &L, peer: &SocketAddr) {
     warn!(

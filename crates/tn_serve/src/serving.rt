@@ -47,9 +47,9 @@ use tn_sockets::{Hook, Host, Standing};
 /// How many events wait at most for the loop.
 const EVENTS: usize = 16;
 
-/// Serves an address, or a name that has one, or a socket that is handed in, until so many connections were accepted, or `until` tells that
-/// no more are to come, and all their sessions have ended. Each connection has a session in threads of its
-/// own, with the jobs that the service makes for it, as long as there are no more of them, and no more from
+/// Serves an address, or a name that has one, or a socket that is handed in, until so many connections were
+/// accepted, or `until` tells that no more are to come, and all their sessions have ended. Each connection has a
+/// session in threads of its own, with the jobs that the service makes for it, as long as there are no more of them, and no more from
 /// its host, than there may be; one more is told `full` and closed. Once `until` says so, sessions have
 /// `serving.drain` seconds to end; then their last words are `closing`. `log` gets a record of each event: a
 /// warning for a session that ends in a fault, after an error `tn: session`. If it cannot listen, `causes` gets
@@ -338,6 +338,7 @@ impl<H: Host + Network, V: Service, O: Asked<V::Jobs>> Open<H, V, O> {
             Event::Refused(peer, error) => return note_texts::full_by(log, &peer, &error),
             Event::Unproxied(peer) => return note_texts::unproxied(log, &peer),
             Event::Cut(number, bytes) => return self.tell_cut(number, bytes, log),
+            Event::Telnet(number) => return self.tell_telnet(number, log),
             Event::Quiet => return,
             Event::Closed => {},
         }
@@ -397,6 +398,13 @@ impl<H: Host + Network, V: Service, O: Asked<V::Jobs>> Open<H, V, O> {
     fn tell_cut<L: Log>(&self, number: usize, bytes: usize, log: &L) {
         if let Some(caller) = self.running.caller_of(number) {
             note_texts::cut(log, &caller, bytes);
+        }
+    }
+
+    // Notes that the service of a session speaks Telnet.
+    fn tell_telnet<L: Log>(&self, number: usize, log: &L) {
+        if let Some(caller) = self.running.caller_of(number) {
+            note_texts::telnet(log, &caller);
         }
     }
 

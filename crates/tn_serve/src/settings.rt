@@ -52,7 +52,8 @@ pub struct Serving {
     /// Whether each connection is of a proxy, and begins with a line that says for whom (the PROXY protocol,
     /// version 1). One that has no such line within a second is closed.
     pub is_proxied: bool,
-    /// Whether others have the listener too, as one that the process was started with. It is left to them as it is.
+    /// Whether others have the listener too, as one that the process was started with. It is left to them as
+    /// it is.
     pub is_handed: bool,
     pub options: SessionOptions,
 }

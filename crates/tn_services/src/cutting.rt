@@ -12,6 +12,11 @@ pub trait HearsCut {
     fn hear_cut(&self, bytes: usize);
 }
 
+/// Who hears of a service that speaks Telnet.
+pub trait HearsTelnet {
+    fn hear_telnet(&self);
+}
+
 /// How lines go to a service.
 #[derive(Clone, Copy, PartialEq, Eq)]
 pub struct LineFormat {

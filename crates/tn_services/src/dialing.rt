@@ -9,7 +9,7 @@ ghost use Rattle.tn_services.specs.HangingUp.{HangsUpAtEnd, IsLast};
 ghost use Rattle.tn_services.specs.Joining.{Connects, count};
 ghost use Rattle.tn_sockets.specs.Passing.{HandsOn};
 
-use crate::cutting::{HearsCut, LineFormat};
+use crate::cutting::{HearsCut, HearsTelnet, LineFormat};
 use crate::hanging_up::HangUp;
 use crate::joining::Gateway;
 use crate::joint::{Heard, Joint, LOOK, Told};
@@ -54,13 +54,14 @@ pub struct Joiner<H, N> {
     port: u16,
     patience: u32,
     lines: LineFormat,
-    hook: Option<(Hook, N)>,
-    jobs: Option<Gateways<ServiceReader<H, Heard<H>>, ServiceWriter<H, Told<H>, N>>>,
+    hook: Option<(Hook, N, N)>,
+    jobs: Option<Gateways<ServiceReader<H, Heard<H, N>>, ServiceWriter<H, Told<H>, N>>>,
 }
 
 impl<H, N> Joiner<H, N> {
     /// Jobs that are joined to the service at this host and port, which they dial for so many seconds at most.
-    /// They hang up by this hook once it ends, and tell `notes` of lines that may have been cut.
+    /// They hang up by this hook once it ends. The first of `notes` is told of a service that speaks Telnet,
+    /// the second of lines that may have been cut.
     pub fn new(
         rt: H,
         host: String,
@@ -68,7 +69,7 @@ impl<H, N> Joiner<H, N> {
         patience: u32,
         lines: LineFormat,
         hook: Hook,
-        notes: N,
+        notes: (N, N),
     ) -> Joiner<H, N>
         ensures rt { result.rt ≡ rt }
         ensures host { result.host ≡ host }
@@ -83,7 +84,7 @@ impl<H, N> Joiner<H, N> {
             port,
             patience,
             lines,
-            hook: Some((hook, notes)),
+            hook: Some((hook, notes.0, notes.1)),
             jobs: None,
         }
     }
@@ -111,8 +112,8 @@ impl<H: Clock + Copy + Network + Wait, N: Drop> Joiner<H, N> {
         &self,
         alloc: Global,
         hook: Hook,
-        notes: N,
-    ) -> Result<Gateways<ServiceReader<H, Heard<H>>, ServiceWriter<H, Told<H>, N>>, AllocError>
+        notes: (N, N),
+    ) -> Result<Gateways<ServiceReader<H, Heard<H, N>>, ServiceWriter<H, Told<H>, N>>, AllocError>
         ensures both { IfOk result (λ jobs. count jobs.writer + count jobs.reader ≡ 2) }
         ensures lines { IfOk result (λ jobs. jobs.lines ≡ self.now.lines) }
         ensures told { IfOk result (λ jobs. IfSome jobs.writer (λ writer. IsToldTo self.now.rt
@@ -130,11 +131,11 @@ impl<H: Clock + Copy + Network + Wait, N: Drop> Joiner<H, N> {
             hook: hook.another()?,
             said_all: Arc::try_clone(&said_all)?,
             heeds_interrupts: !self.lines.sends_signals,
-            notes,
+            notes: notes.1,
         };
         let reader = ServiceReader {
             rt: self.rt,
-            stream: Heard::new(self.rt, alloc, joint, hook.another()?),
+            stream: Heard::new(self.rt, alloc, joint, hook.another()?, notes.0),
             hook,
             said_all,
             returned: false,
@@ -150,20 +151,20 @@ impl<H: Clock + Copy + Network + Wait, N: Drop> Joiner<H, N> {
         ensures tried { self.new.hook ≡ None }
         ensures refused { OnErr result (IsSome self.old.hook) }
     {
-        let Some((hook, notes)) = self.hook.take() else {
+        let Some((hook, heard, told)) = self.hook.take() else {
             return Ok(());
         };
-        self.jobs = Some(self.join(alloc, hook, notes)?);
+        self.jobs = Some(self.join(alloc, hook, (heard, told))?);
         Ok(())
     }
 }
 
-impl<H: Clock + Copy + Network + Wait, N: HearsCut + Drop> Maker for Joiner<H, N> {
+impl<H: Clock + Copy + Network + Wait, N: HearsCut + HearsTelnet + Drop> Maker for Joiner<H, N> {
     ghost use Rattle.std.specs.Prelude.{Some, string_bytes};
     ghost use Rattle.tn_services.specs.Dialing.{IsToldTo};
     ghost use Rattle.tn_services.specs.Joining.{GivesReached, GivesSide, left_to_make};
 
-    type Job = Gateway<ServiceReader<H, Heard<H>>, ServiceWriter<H, Told<H>, N>>;
+    type Job = Gateway<ServiceReader<H, Heard<H, N>>, ServiceWriter<H, Told<H>, N>>;
 
     ghost left = { λ joiner. Some (left_to_make joiner.hook joiner.jobs) };
 
@@ -175,7 +176,7 @@ impl<H: Clock + Copy + Network + Wait, N: HearsCut + Drop> Maker for Joiner<H, N
         &mut self,
         alloc: Global,
     ) -> Result<
-        Option<Gateway<ServiceReader<H, Heard<H>>, ServiceWriter<H, Told<H>, N>>>,
+        Option<Gateway<ServiceReader<H, Heard<H, N>>, ServiceWriter<H, Told<H>, N>>>,
         AllocError,
     > {
         self.connect(alloc)?;

@@ -6,7 +6,9 @@ ghost use Rattle.std.specs.Prelude.{◌≡◌, None, string_bytes};
 ghost use Rattle.tn_network.specs.Asked.{Reaches};
 ghost use Rattle.tn_services.specs.Dialing.{unreached};
 
+use crate::cutting::HearsTelnet;
 use crate::dialing::Pacing;
+use crate::telnet::Speech;
 use std::alloc::Global;
 use std::io::{ErrorKind, Read, Write};
 use std::net::{Shutdown, TcpStream};
@@ -77,7 +79,7 @@ fn prepared(stream: &TcpStream) -> io::Result<TcpStream> {
 
 /// What the service says. The first reads dial it, and each of them waits for a short time.
 #[derive(Drop)]
-pub struct Heard<H> {
+pub struct Heard<H, N> {
     pub(crate) rt: H,
     pub(crate) joint: Arc<Joint, Global>,
     alloc: Global,
@@ -90,10 +92,19 @@ pub struct Heard<H> {
     /// The cause, and how many bytes of it were read.
     cause: Vec<u8>,
     told: usize,
+    speech: Speech,
+    /// It hears of a service that speaks Telnet.
+    notes: N,
 }
 
-impl<H> Heard<H> {
-    pub(crate) fn new(rt: H, alloc: Global, joint: Arc<Joint, Global>, hook: Hook) -> Heard<H>
+impl<H, N> Heard<H, N> {
+    pub(crate) fn new(
+        rt: H,
+        alloc: Global,
+        joint: Arc<Joint, Global>,
+        hook: Hook,
+        notes: N,
+    ) -> Heard<H, N>
         ensures rt { result.rt ≡ rt }
         ensures joint { result.joint ≡ joint }
         ensures words { result.words.now ≡ unreached }
@@ -108,11 +119,13 @@ impl<H> Heard<H> {
             end: b"\n",
             cause: Vec::new(alloc),
             told: 0,
+            speech: Speech::new(),
+            notes,
         }
     }
 }
 
-impl<H: Clock + Copy + Network + Wait> Heard<H> {
+impl<H: Clock + Copy + Network + Wait, N: Drop> Heard<H, N> {
     // Asks each address once, for a short time.
     fn ask(&self, causes: &mut Vec<u8>) -> io::Result<TcpStream>
         ensures { Reaches (H.finds self.now.rt (string_bytes self.now.joint.value.host)
@@ -178,14 +191,15 @@ impl<H: Clock + Copy + Network + Wait> Heard<H> {
     }
 }
 
-impl<H: Clock + Copy + Network + Wait> Read for Heard<H> {
+impl<H: Clock + Copy + Network + Wait, N: HearsTelnet + Drop> Read for Heard<H, N> {
     fn read(&mut self, buf: &mut [u8]) -> io::Result<usize>
         ensures bound { ReadsAtMost result buf.new }
         ensures bytes { ReadConsumes None None result buf.new }
     {
         if let Some(stream) = self.joint.stream.get() {
             let mut stream = stream;
-            return stream.read(buf);
+            let count = stream.read(buf)?;
+            return keep_text(&mut self.speech, &self.notes, count, buf);
         }
         if self.joint.is_given_up() {
             return self.say(buf);
@@ -195,12 +209,36 @@ impl<H: Clock + Copy + Network + Wait> Read for Heard<H> {
     }
 }
 
-impl<H> Pacing for Heard<H> {
+impl<H, N> Pacing for Heard<H, N> {
     fn wait_at_most(&self, milliseconds: u64) {
         if let Some(stream) = self.joint.stream.get() {
             stream.wait_at_most(milliseconds);
         }
     }
+}
+
+// Keeps the text of what was read, and tells once of a service that speaks Telnet. A read without text is to
+// be made again.
+fn keep_text<N: HearsTelnet>(
+    speech: &mut Speech,
+    notes: &N,
+    count: usize,
+    buf: &mut [u8],
+) -> io::Result<usize>
+    ensures bound { ReadsAtMost result buf.new }
+{
+    let Some(bytes) = buf.get_mut(..count) else {
+        return Ok(0);
+    };
+    let was_text = !speech.speaks_telnet();
+    let kept = speech.keep_text(bytes);
+    if was_text && speech.speaks_telnet() {
+        notes.hear_telnet();
+    }
+    if kept == 0 && count > 0 {
+        return Err(io::Error::from(ErrorKind::WouldBlock));
+    }
+    Ok(kept.min(buf.len()))
 }
 
 /// What goes to the service. Until it is reached a write waits for a short time, and is to be made again.

@@ -16,7 +16,7 @@
 
 pub use answerers::Answerers;
 pub use answering::Answerer;
-pub use cutting::{HearsCut, LineFormat};
+pub use cutting::{HearsCut, HearsTelnet, LineFormat};
 pub use dialing::{Joiner, Pacing, ServiceReader, ServiceWriter};
 pub use hanging_up::HangUp;
 pub use joining::Gateway;
@@ -38,3 +38,4 @@ mod line_ends;
 mod makers;
 mod sending;
 mod showing;
+mod telnet;

@@ -145,8 +145,8 @@ abbrev pub MayHavePath : List Row → Text → Option Text → Type 0
 MayHavePath rows name None = is_given name rows ≡ false
 MayHavePath rows name (Some path) = HasText rows name path × IsPath path
 
--- the socket that a server listens on: a port, or the one at this descriptor, which is 0 for a connection that is
--- standard input; one of the three is given, and with the last no count of connections
+-- the socket that a server listens on: a port, or the one at this descriptor, which is 0 for a connection
+-- that is standard input; one of the three is given, and with the last no count of connections
 abbrev pub chosen_socket : Option ℕ → Option ℕ → Bool → Bool → Option Socket
 chosen_socket (Some port) None false counts = Some (record { port = port; handed = None })
 chosen_socket None (Some descriptor) false counts = Some (record { port = 0; handed = Some descriptor })

@@ -121,7 +121,8 @@ fn has_colon(text: &str) -> bool
 pub struct Socket {
     /// Its port, from 1 to 65,535, or 0 if it is handed in.
     pub port: u16,
-    /// The descriptor at which it is handed in, from 3 to 1,023, or 0 for a connection that is standard input.
+    /// The descriptor at which it is handed in, from 3 to 1,023, or 0 for a connection that is standard
+    /// input.
     pub handed: Option<u16>,
 }
 
