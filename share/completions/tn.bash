@@ -34,7 +34,7 @@ _tn() {
                 words='--host -p --port --listen-fd --stdin --limit --per-host --count --forever --until --ticks --line --idle --longest --drain --proxy --local --verbose --notes --metrics --banner --to --dial --crlf --cr --line-cut --signals -h --help' ;;
             connect)
                 if [[ $word != -* ]]; then mapfile -t COMPREPLY < <(compgen -A hostname -A service -- "$word"); return; fi
-                words='-p --port --width --height --line --escape --keys --return --trace --log -q -w --timeout --again -4 --ipv4 -6 --ipv6 --bind --quiet --plain --lf --cr -h --help' ;;
+                words='-p --port --width --height --line --escape --keys --return --trace --log --log-times --text -q -w --timeout --again -4 --ipv4 -6 --ipv6 --bind --quiet --plain --lf --cr -h --help' ;;
             help)
                 words='local replay decode world serve connect help' ;;
             *) return ;;

@@ -3,9 +3,9 @@ import os
 import subprocess
 import time
 
-from ends import IAC, NO_GO_AHEAD, WILL, Listener, Peer, Serving
-from services import Service
-from terminal import at_terminal
+from ends import DO, IAC, NO_GO_AHEAD, WILL, Listener, Peer, Serving, without_time
+from services import Service, instrument
+from terminal import Terminal, at_terminal
 from world import case, expect, expect_in_order, expect_same, status_of
 
 
@@ -84,6 +84,73 @@ def a_log_has_what_a_terminal_shows_of_a_session(world):
     terminal.leave()
     with open(path, "rb") as log:
         expect_same(b"login: welcome\r\n", log.read(), "the log")
+
+
+@case(each={"by Telnet": (bytes([IAC, WILL, 1]),), "by lines": (b"", "--plain")})
+def a_log_is_begun_and_ended_at_the_terminal(world, opening, *words):
+    path, other = world.path("log"), world.path("other")
+    write(path, "before\n")
+    listener, terminal = at_terminal(world, *words)
+    listener.send(opening + b"one\r\n")
+    terminal.see(b"one\r\n")
+    terminal.type(f"\x1dlog {path}\r".encode(), b"\r\nthe log begins\r\n")
+    listener.send(b"two\r\n")
+    terminal.see(b"two\r\n")
+    terminal.type(f"\x1dlog {other}\r".encode(), b"\r\nthe log begins\r\n")
+    listener.send(b"three\r\n")
+    terminal.see(b"three\r\n")
+    terminal.type(b"\x1dlog off\r", b"\r\nthe log ends\r\n")
+    listener.send(b"four\r\n")
+    terminal.see(b"four\r\n")
+    terminal.type(b"\x1dlog off\r", b"\r\nthere is no log\r\n")
+    terminal.type(b"\x1dlog /no/such/folder/x\r", b"\r\n/no/such/folder/x: No such file or directory")
+    terminal.type(b"\x1dlog\r", b"\r\nunknown command")
+    listener.send(b"five\r\n")
+    terminal.see(b"five\r\n")
+    terminal.leave()
+    expect_same(("before\ntwo\n", 0o600), (text_of(path), mode_of(path)), "the first log, and its mode")
+    expect_same(("three\n", 0o600), (text_of(other), mode_of(other)), "the second log, and its mode")
+    expect_same(b"", listener.read_rest().replace(NO_GO_AHEAD, b"").replace(bytes([IAC, DO, 1]), b""), "what the server got")
+
+
+@case(each={"by Telnet": (), "by lines": ("--plain",)})
+def a_log_has_the_time_before_each_line(world, *words):
+    path = world.path("log")
+    expect_same((0, b""), one_line(world, *words, "--log", path, "--log-times"), "the status, and what is printed")
+    expect_same(["said"], [without_time(line) for line in text_of(path).splitlines()], "the lines of the log, without their times")
+
+
+@case
+def a_log_has_one_time_for_a_line_that_comes_in_pieces(world):
+    path = world.path("log")
+    listener, terminal = at_terminal(world, "--plain", "--log-times")
+    terminal.type(f"\x1dlog {path}\r".encode(), b"\r\nthe log begins\r\n")
+    for piece in (b"log", b"in: ", b"\r\nwel", b"come\r\n\r\nbye"):
+        listener.send(piece)
+        terminal.see(piece)
+    terminal.leave()
+    lines = [without_time(line) for line in text_of(path).splitlines()]
+    expect_same(["login: ", "welcome", "", "bye"], lines, "the lines of the log, without their times")
+
+
+@case
+def a_trace_without_telnet_has_each_byte(world):
+    path = world.path("trace")
+    service = Service(world, instrument)
+    run = world.run("connect", "--plain", "--lf", "-q", 1, "--trace", path, f"127.0.0.1:{service.port}", data=b"*IDN?\nX\xff\xfb\n")
+    service.end()
+    expect_same((0, b""), (run.returncode, run.stderr), "the status, and what is printed")
+    lines = [line.split(" ", 1)[1] for line in text_of(path).splitlines()]
+    went = "".join(line[len('> data "'):-1] for line in lines if line[0] == ">")
+    came = "".join(line[len('< data "'):-1] for line in lines if line[0] == "<")
+    expect_same(("*IDN?\\x0aX\\xff\\xfb\\x0a", "MAKER,MODEL,1,2\\x0a-113\\x0a"), (went, came), "what went, and what came")
+    expect_same(0o600, mode_of(path), "its mode")
+    terminal = Terminal(world, "--plain", "--trace", path, f"127.0.0.1:{Service(world, instrument).port}")
+    terminal.see(b"passwords too.\r\nTrying ")
+    terminal.leave()
+    expect_same((1, True), (one_line_not(world, "--plain", "--trace", "/no/such/folder/x")[0],
+                            b"tn: /no/such/folder/x: " in one_line_not(world, "--plain", "--trace", "/no/such/folder/x")[1]),
+                "the status, and whether a trace that cannot be made is reported")
 
 
 @case

@@ -200,6 +200,18 @@ def a_line_ends_by_whatever_return_sends(world, words, is_local):
     expect_same(2, shown.count(b"abc\r\n"), "how often the line is shown")
 
 
+@case
+def what_return_sends_is_changed_at_the_terminal(world):
+    listener, terminal = at_terminal(world, "--return", "lf")
+    terminal.type(b"a\r\x1dreturn crlf\rb\r", b"return crlf\r\nRETURN sends CR LF\r\n")
+    terminal.type(b"\x1dreturn crnul\rc\r", b"RETURN sends CR NUL\r\n")
+    terminal.type(b"\x1dreturn lf\rd\r\x1dreturn\r\x1dreturn cr\re\r.", b"RETURN sends LF\r\n")
+    listener.read_until(b".")
+    expect_same(b"a\nb\r\nc\r\0d\ne\n.", listener.got, "what the server got")
+    wait_until(lambda: bytes(terminal.shown).count(b"\r\nunknown command") == 2, "each unknown command is reported")
+    terminal.leave()
+
+
 @case(each={"another word": ("--return", "cr"), "no word": ("--return=",)})
 def what_return_may_send_is_reported(world, *words):
     run = world.run("connect", *words, "127.0.0.1:1")
@@ -287,7 +299,7 @@ def help_is_shown_and_not_sent(world):
     terminal.see(b"login: ")
     terminal.type(b"\x1d?\r")
     terminal.see(b"login: \r\ntn> ?\r\nquit, close, q  close")
-    for word in (b"again", b"status", b"suspend", b"send brk", b"send ip", b"send ayt", b"help"):
+    for word in (b"again", b"status", b"suspend", b"log FILE", b"log off", b"send brk", b"send ip", b"send ayt", b"return crlf", b"help"):
         terminal.see(b"\r\n" + word)
     terminal.type(b"k\r")
     listener.read_until(b"k\r")

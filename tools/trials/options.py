@@ -6,7 +6,8 @@
                  --to, --crlf, --cr, --line-cut     gateway
     tn connect   --escape, --width, --height        interactive.another_escape_character_is_taken, a_size_by_hand_wins
                  --keys                             interactive.the_terminals_own_characters_are_taken
-                 --trace, --log                     piped.a_trace_is_written, the module files
+                 --trace, --log, --log-times        piped.a_trace_is_written, the module files
+                 --text                             piped.a_text_from_a_pipe_has_one_return_for_a_line
                  -q, -w                             piped.the_end_of_a_pipe_is_sent_late, a_silent_server_is_left_after_the_input
                  --timeout                          piped.an_address_that_takes_no_connection_is_given_up
                  --again                            again

@@ -8,7 +8,7 @@ import subprocess
 import threading
 import time
 
-from ends import DO, IAC, NAWS, SB, WILL, Listener, Serving, filled, read_text, size
+from ends import DO, IAC, NAWS, NO_GO_AHEAD, SB, WILL, Listener, Serving, filled, read_text, size
 from services import Service
 from sockets import sockets_of
 from terminal import at_terminal
@@ -39,6 +39,53 @@ def from_a_pipe_every_byte_is_a_key(world):
     expect_same(b"\x1dq\x1d\x1dab\x08\x18\x03.\r\0", listener.got[:13], "what the server got")
     listener.close()
     expect_end(process, 0)  # A silent pipe does not hold the session.
+
+
+@case(each={
+    "CR LF": (b"user\r\npass\r\n", b"user\r\0pass\r\0"),
+    "LF": (b"user\n\npass\n", b"user\r\0\r\0pass\r\0"),
+    "CR": (b"user\r\rpass\r", b"user\r\0\r\0pass\r\0"),
+    "CR LF between LF": (b"\n\r\n\n\r\r\n.", b"\r\0\r\0\r\0\r\0\r\0."),
+    "all other bytes": (bytes(set(range(255)) - {10, 13}), bytes(set(range(255)) - {10, 13}))})
+def a_text_from_a_pipe_has_one_return_for_a_line(world, data, wanted):
+    listener, process = from_pipe(world, "--text")
+    process.stdin.write(data)
+    process.stdin.close()
+    expect_same(wanted, listener.read_rest().replace(NO_GO_AHEAD, b""), "what the server got")
+    listener.close()
+    expect_end(process, 0)
+
+
+@case
+def a_text_whose_cr_and_lf_come_apart_has_one_return(world):
+    listener, process = from_pipe(world, "--text")
+    for piece, wanted in ((b"user\r", b"user\r\0"), (b"\n", b""), (b"pass\r", b"pass\r\0"), (b"\nx", b"x"), (b"\n", b"\r\0")):
+        after = len(listener.got)
+        process.stdin.write(piece)
+        listener.read_until(wanted, after=after)
+    process.stdin.close()
+    expect_same(b"user\r\0pass\r\0x\r\0", listener.read_rest(), "what the server got")
+    listener.close()
+    expect_end(process, 0)
+
+
+@case
+def without_text_a_byte_from_a_pipe_stays_what_it_is(world):
+    listener, process = from_pipe(world)
+    process.stdin.write(b"user\r\npass\n")
+    process.stdin.close()
+    expect_same(b"user\r\0\npass\n", listener.read_rest(), "what the server got")
+    listener.close()
+    expect_end(process, 0)
+
+
+@case
+def at_a_terminal_a_text_changes_nothing(world):
+    listener, terminal = at_terminal(world, "--text")
+    terminal.type(b"a\r\nb\n.")
+    listener.read_until(b".")
+    expect_same(b"a\r\0\nb\n.", listener.got, "what the server got")
+    terminal.leave()
 
 
 @case

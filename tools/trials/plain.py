@@ -100,7 +100,7 @@ def faults_are_reported(world):
 
 @case
 def options_of_telnet_are_not_for_plain(world):
-    for word in ("--trace=f", "--return=crlf", "--escape=^]", "--escape=none", "--width=80", "--height=24"):
+    for word in ("--return=crlf", "--width=80", "--height=24"):
         run = world.run("connect", "--plain", word, "127.0.0.1:1")
         expect_same((2, True), (run.returncode, b"--plain" in run.stderr), f"the status of {word}, and that it is reported")
 
@@ -191,6 +191,82 @@ def an_interrupt_on_an_empty_line_leaves(world):
     terminal.type(b"\x03")
     terminal.end(130)
     expect_same(b"a\r\n", service.end(), "what went")
+
+
+@case(each={
+    "a word": (b"a\x1dstatus\rb\r", b"ab\r\n"),
+    "words that are edited": (b"a\x1dstab\x7ftus\rb\x1dxyz\x15help\rc\r", b"abc\r\n"),
+    "an empty line": (b"a\x1d\rb\x1d\nc\x1dnone\x03d\r", b"abcd\r\n"),
+    "the escape character twice": (b"a\x1d\x1db\r", b"a\x1db\r\n"),
+    "an unknown word": (b"a\x1dlose it\rb\r", b"ab\r\n"),
+    "a control function": (b"a\x1dsend brk\rb\x1di\rc\r", b"abc\r\n"),
+    "keys that send more than a byte": (b"a\x1d\x1b[A\x1bOB\x1b[15~?\rb\r", b"ab\r\n"),
+    "another escape character": (b"a\x01?\rb\x1d?\r", b"ab\x1d?\r\n", {}, "--escape", "^A"),
+    "no escape character": (b"a\x1d?\r", b"a\x1d?\r\n", {}, "--escape", "none"),
+    "own characters": (b"ax\x08\x1dlose\x08\x08\x08\x08?\rb\r", b"ab\r\n", {termios.VERASE: b"\x08"})})
+def a_line_to_the_client_goes_to_no_service(world, keys, wanted, characters=None, *words):
+    service, terminal = plain_terminal(world, listening, *words, characters=characters)
+    terminal.type(keys)
+    service.wait_for(wanted[-2:])
+    terminal.type(b"\x04")
+    terminal.end()
+    expect_same(wanted, service.end(), "what went")
+
+
+@case
+def a_line_to_the_client_is_shown_in_the_midst_of_another(world):
+    service, terminal = plain_terminal(world, answering)
+    terminal.see(b"Connected to 127.0.0.1. Escape character is '^]'.\r\n")
+    terminal.type(b"one\r", b"one\r\ngot one\r\n")
+    terminal.type(b"ab", b"ab")
+    terminal.type(b"\x1dstap\x7ftus", b"\r\ntn> stap\x08 \x08tus")
+    terminal.type(b"\r", f"connected to 127.0.0.1 port {service.port}\r\nlines are edited here, echo is made here\r\n8 bytes came, 5 went\r\n".encode())
+    terminal.type(b"\x1dhelp\r", b"\r\nlog FILE ", b"again sends itself.\r\n")
+    expect(b"send brk" not in terminal.shown, "what only Telnet has is listed")
+    terminal.type(b"\x1db\r", b"\r\nwithout Telnet no control function can be sent\r\n")
+    terminal.type(b"\x1dreturn lf\r", b"\r\nwithout Telnet --lf and --cr choose what RETURN sends\r\n")
+    terminal.type(b"\x1dlose\r", b"\r\nunknown command")
+    terminal.type(b"c\r", b"got abc\r\n")
+    terminal.type(b"\x04")
+    terminal.end()
+    _, terminal = plain_terminal(world, listening, "--escape", "none")
+    terminal.see(b"Connected to 127.0.0.1.\r\n")
+
+
+@case(each={word: (b"\x1d" + word.encode() + b"\r",) for word in ("q", "quit", "close")})
+def it_can_be_left_by_a_word(world, keys):
+    service, terminal = plain_terminal(world, answering)
+    terminal.type(b"one\rhalf" + keys + b"two\r", b"Connection closed.\r\n")
+    terminal.end()
+    expect_same(b"one\r\n", service.end(), "what went")
+    expect(b"not sent" not in terminal.shown, "keys are reported as not sent")
+
+
+@case
+def a_service_that_reads_nothing_can_be_left_by_a_word(world):
+    service = Service(world, lambda service, connection: service.hold(), buffer=1024)
+    terminal = Terminal(world, "--plain", f"127.0.0.1:{service.port}")
+    terminal.see(b"Connected to")
+    lines = (b"x" * 99 + b"\r") * 10_000
+    terminal.paste(lines[:200_000])
+    begun = time.monotonic()
+    terminal.type(b"\x1dq\r")
+    terminal.end()
+    expect(time.monotonic() - begun < 10, "leaving takes too long")
+    service.go_on.set()
+
+
+@case
+def it_can_be_stopped_by_a_word(world):
+    service, terminal = plain_terminal(world, answering, shell=True)
+    terminal.type(b"ab\x1dz\r", b"stopped")
+    expect(terminal.is_set_back(), "the terminal is not set back while it is stopped")
+    terminal.type(b"\n")
+    terminal.gets_raw()
+    terminal.type(b"c\r")
+    service.wait_for(b"c\r\n")
+    terminal.type(b"\x1dq\r", b"ended with 0")
+    expect_same(b"abc\r\n", service.end(), "what went")
 
 
 @case

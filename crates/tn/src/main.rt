@@ -165,6 +165,8 @@ fn main(rt: HostRuntime) -> ExitCode {
     };
     let mut screen = Outlet {
         screen: Screen {
+            rt,
+            alloc,
             writer: rt.stdout(),
             link: linked,
         },

@@ -1,24 +1,25 @@
 -- What the bytes of a reader are as keys.
-use Rattle.std.proofs.Common.{◌≡◌, ℕ, Bool, true, false, if◌then◌else◌, Option, Some, None, List, [], ◌∷◌, map, option_map, refl, ap}
-use Rattle.tn_connect.specs.Talks.{keys_in, own_by}
+use Rattle.std.proofs.Common.{◌≡◌, ℕ, false, Option, Some, None, List, [], ◌∷◌, option_map, refl, ap}
+use Rattle.tn_connect.specs.Talks.{keys_in, plain_keyboard}
 use Rattle.tn_connect.specs.declared.settings.KeySource.{KeySource}
 use Rattle.tn_connect.specs.declared.settings.KeySource.TheVariants.{Reader, Input, Terminal}
-use Rattle.tn_discipline.specs.Characters.{is_reserved}
-use Rattle.tn_sockets.specs.Mapping.{mapped, none_own}
+use Rattle.tn_sockets.proofs.Sorting.{none_mapped}
+use Rattle.tn_sockets.specs.PlainKeys.{keys_left, keys_typed}
+use Rattle.tn_sockets.specs.Prompting.{closed}
+use Rattle.tn_sockets.specs.Typing.{of_bytes}
 
-either : (b : Bool) (n : ℕ) → (if b then n else n) ≡ n
-either true n = refl
-either false n = refl
+all_are_keys : (bytes : List ℕ) → keys_typed of_bytes closed bytes ≡ bytes
+unfolding keys_typed
+all_are_keys [] = refl
+all_are_keys (byte ∷ bytes) = λ i. none_mapped byte i ∷ all_are_keys bytes i
 
-all_stay : (bytes : List ℕ) → map (mapped none_own) bytes ≡ bytes
-all_stay [] = refl
-all_stay (byte ∷ bytes) = λ i. either (is_reserved byte) byte i ∷ all_stay bytes i
-
-none_changes : (bytes : Option (List ℕ)) → option_map (map (mapped none_own)) bytes ≡ bytes
+none_changes : (bytes : Option (List ℕ)) → option_map (keys_typed of_bytes closed) bytes ≡ bytes
 none_changes None = refl
-none_changes (Some bytes) = ap Some (all_stay bytes)
+none_changes (Some bytes) = ap Some (all_are_keys bytes)
 
-pub keys_by : (origin : KeySource) (bytes : Option (List ℕ)) → option_map (map (mapped (own_by origin))) bytes ≡ keys_in origin bytes
-keys_by Reader bytes = none_changes bytes
-keys_by Input bytes = none_changes bytes
-keys_by (Terminal own) bytes = refl
+-- without Telnet
+pub keys_by : (origin : KeySource) (escape : Option ℕ) (bytes : Option (List ℕ))
+    → option_map (keys_left false (record { keyboard = plain_keyboard origin escape; prompt = closed })) bytes ≡ keys_in origin escape bytes
+keys_by Reader escape bytes = none_changes bytes
+keys_by Input escape bytes = none_changes bytes
+keys_by (Terminal own) escape bytes = refl

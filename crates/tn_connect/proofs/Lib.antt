@@ -3,3 +3,4 @@ mod Heard
 mod Keys
 mod Put
 mod Reached
+mod Texts

@@ -1,5 +1,5 @@
 -- Which session a client runs over a connection.
-use Rattle.std.specs.Prelude.{◌≡◌, ℕ, Option, Some, None, List, [], Result, Ok, Err, IfErr}
+use Rattle.std.specs.Prelude.{◌≡◌, ℕ, Bool, true, false, Option, Some, None, List, [], Result, Ok, Err, IfErr}
 use Rattle.std.specs.declared.io.Error.{Error}
 use Rattle.std.specs.declared.net.tcp.TcpStream.{TcpStream}
 use Rattle.crossbeam_channel.specs.Claims.{view}
@@ -9,9 +9,10 @@ use Rattle.tn_connect.specs.declared.fault.ConnectFault.{ConnectFault}
 use Rattle.tn_connect.specs.declared.settings.Connecting.{Connecting}
 use Rattle.tn_connect.specs.declared.settings.KeySource.{KeySource}
 use Rattle.tn_connect.specs.declared.settings.KeySource.TheVariants.{Reader, Input, Terminal}
+use Rattle.tn_connect.specs.Texts.{with_text}
 use Rattle.tn_sockets.specs.Typing.{of_bytes}
 use Rattle.tn_sockets.specs.declared.escaping.Keyboard.{Keyboard}
-use Rattle.tn_sockets.specs.declared.escaping.ReturnKey.{ReturnKey}
+use Rattle.tn_sockets.specs.declared.returns.ReturnKey.{ReturnKey}
 use Rattle.tn_session.specs.Client.{RunningClient}
 use Rattle.tn_session.specs.Facts.{Window, client_result}
 use Rattle.tn_session.specs.declared.parties.ClientPorts.{ClientPorts}
@@ -24,21 +25,21 @@ abbrev pub window_of : Connecting → Window
 window_of connecting =
     record { width = connecting.width; height = connecting.height; limit = connecting.line_limit }
 
--- What is known beforehand of the keys of a reader with these bytes: the bytes, and that no size of a window
--- is told and nothing asked for; or nothing where they are waited for, but that only at a terminal anything
+-- What is known beforehand of the keys of a reader with these bytes, which may be a text: the keys that they
+-- are, and that no size of a window is told and nothing asked for; or nothing where they are waited for, but that only at a terminal anything
 -- is asked for.
-abbrev pub foreseen : KeySource → Option (List ℕ) → KnownTyping
-foreseen Reader bytes =
+abbrev pub foreseen : KeySource → Bool → Option (List ℕ) → KnownTyping
+foreseen Reader text bytes =
     record {
-      reader = record { bytes = bytes; failures = None; sizes = Some []; words = no_words };
+      reader = record { bytes = with_text text false bytes; failures = None; sizes = Some []; words = no_words };
       controls = Some [];
     }
-foreseen Input bytes =
+foreseen Input text bytes =
     record {
       reader = record { bytes = None; failures = None; sizes = None; words = no_words };
       controls = Some [];
     }
-foreseen (Terminal own) bytes =
+foreseen (Terminal own) text bytes =
     record {
       reader = record { bytes = None; failures = None; sizes = None; words = no_words };
       controls = None;
@@ -49,7 +50,13 @@ abbrev pub keyboard_by : KeySource → Option ℕ → ReturnKey → Keyboard
 keyboard_by Reader escape returns = of_bytes
 keyboard_by Input escape returns = of_bytes
 keyboard_by (Terminal own) escape returns =
-    record { escape = escape; own = own; editing = own; returns = returns }
+    record { escape = escape; own = own; editing = own; returns = returns; may_change = true }
+
+-- a terminal's keys are those of no text
+abbrev pub text_by : KeySource → Bool → Bool
+text_by Reader text = text
+text_by Input text = text
+text_by (Terminal own) text = false
 
 abbrev pub keyboard_of : Connecting → Keyboard
 keyboard_of connecting = keyboard_by connecting.origin connecting.escape connecting.returns

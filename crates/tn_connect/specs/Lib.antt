@@ -2,5 +2,6 @@ pub mod Clients
 pub mod Faults
 pub mod Sent
 pub mod Talks
+pub mod Texts
 pub mod Told
 pub mod Warnings

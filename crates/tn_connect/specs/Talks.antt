@@ -1,6 +1,6 @@
 -- Which talk a client has with a service that takes lines.
 use Rattle.std.specs.Prelude.{◌≡◌, ◌≢◌, ℕ, Bool, true, false, Option, Some, IfSome, List, []}
-use Rattle.std.specs.Prelude.{length, map, option_map}
+use Rattle.std.specs.Prelude.{length, option_map}
 use Rattle.std.specs.declared.net.tcp.TcpStream.{TcpStream}
 use Rattle.tn_connect.specs.declared.settings.KeySource.{KeySource}
 use Rattle.tn_connect.specs.declared.settings.KeySource.TheVariants.{Reader, Input, Terminal}
@@ -10,8 +10,11 @@ use Rattle.tn_connect.specs.declared.talks.TalkReport.{TalkReport}
 use Rattle.tn_discipline.specs.Characters.{standard_characters}
 use Rattle.tn_discipline.specs.Keys.{standard_flags}
 use Rattle.tn_discipline.specs.declared.termios.Settings.{Settings}
-use Rattle.tn_sockets.specs.Mapping.{mapped, none_own}
-use Rattle.tn_sockets.specs.declared.own_characters.OwnCharacters.{OwnCharacters}
+use Rattle.tn_sockets.specs.PlainKeys.{keys_typed}
+use Rattle.tn_sockets.specs.Prompting.{closed}
+use Rattle.tn_sockets.specs.Typing.{of_bytes}
+use Rattle.tn_sockets.specs.declared.escaping.Keyboard.{Keyboard}
+use Rattle.tn_sockets.specs.declared.returns.ReturnKey.TheVariants.{CrNul}
 use Rattle.tn_lines.specs.Kinds.{Kind, typed, read, has_left_by}
 use Rattle.tn_lines_client.specs.Ending.{is_left}
 use Rattle.tn_lines_client.specs.Logs.{bytes_in}
@@ -38,17 +41,20 @@ is_terminal (Terminal own) = true
 is_terminal Reader = false
 is_terminal Input = false
 
-abbrev pub own_by : KeySource → OwnCharacters
-own_by (Terminal own) = own
-own_by Reader = none_own
-own_by Input = none_own
+-- what the bytes of keys stand for: only at a terminal for anything but themselves
+abbrev pub plain_keyboard : KeySource → Option ℕ → Keyboard
+plain_keyboard (Terminal own) escape =
+    record { escape = escape; own = own; editing = own; returns = CrNul; may_change = false }
+plain_keyboard Reader escape = of_bytes
+plain_keyboard Input escape = of_bytes
 
 -- the keys that the bytes of a reader are: at a terminal its own special characters stand for the standard
--- ones
-abbrev pub keys_in : KeySource → Option (List ℕ) → Option (List ℕ)
-keys_in (Terminal own) bytes = option_map (map (mapped own)) bytes
-keys_in Reader bytes = bytes
-keys_in Input bytes = bytes
+-- ones, no line to the client itself is among them, and they end where the user asks to leave
+abbrev pub keys_in : KeySource → Option ℕ → Option (List ℕ) → Option (List ℕ)
+keys_in (Terminal own) escape bytes =
+    option_map (keys_typed (plain_keyboard (Terminal own) escape) closed) bytes
+keys_in Reader escape bytes = bytes
+keys_in Input escape bytes = bytes
 
 -- A talk was held with these keys and this screen, before and after it: all that was typed, said and told
 -- stands in the logs, and so many bytes more were to be told. The user was warned once where what came shows
@@ -73,7 +79,7 @@ pub record HoldsTalk (plain : Plain) (keys seen now : Option (List ℕ)) (report
 abbrev pub HoldsTyped : Plain → Option (List ℕ) → Option (List ℕ) → Option (List ℕ) → TalkReport
     → Type 0
 HoldsTyped plain bytes seen now report =
-    HoldsTalk plain (keys_in plain.origin bytes) seen now report
+    HoldsTalk plain (keys_in plain.origin plain.escape bytes) seen now report
 
 -- a talk was held so, and its connection did not break
 abbrev pub RunsTalk : Plain → Option (List ℕ) → Option (List ℕ) → Option (List ℕ) → TalkReport

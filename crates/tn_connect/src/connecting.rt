@@ -5,7 +5,7 @@ ghost use Rattle.std.specs.Prelude.{IsTrue};
 ghost use Rattle.crossbeam_channel.specs.Claims.{view};
 ghost use Rattle.crossbeam_channel.specs.Ends.{sends_on};
 ghost use Rattle.tn_connect.specs.Clients.{ConnectsBy, RunsClient, RunsWriting, connection_of, foreseen};
-ghost use Rattle.tn_connect.specs.Clients.{keyboard_of, window_of};
+ghost use Rattle.tn_connect.specs.Clients.{keyboard_of, text_by, window_of};
 ghost use Rattle.tn_connect.specs.Faults.{IsOfNetwork};
 ghost use Rattle.tn_connect.specs.Sent.{TookWhatWasWritten};
 ghost use Rattle.tn_machines.specs.Ending.{EndsWhole};
@@ -25,6 +25,7 @@ use crate::news::{tell_that_it_stands, wait_for_terminal};
 use crate::publishing::Publisher;
 use crate::sending::{Delivered, Sender};
 use crate::settings::{ClientContext, Connecting, KeySource};
+use crate::text_keys::TextKeys;
 use crate::waiting::{Brought, LOOK, Patience, Patient};
 use std::alloc::{AllocError, Global};
 use std::fs::File;
@@ -233,9 +234,10 @@ fn talk_from<H: Host, K: Read + Drop + Send + 'static, S: Write, Q: Queue>(
 ) -> Result<(Report, ClientPorts), SessionFault>
     requires nothing_yet { view outgoing.old.pass ≡ putter [] }
     ensures ran { IfOk result (λ r.
-        RunsWriting (window_of connecting) (foreseen connecting.origin (K.remaining typing.keys))
+        RunsWriting (window_of connecting) (foreseen connecting.origin connecting.text (K.remaining typing.keys))
         (S.contents screen.old) (S.contents screen.new) (put_bytes (view outgoing.new.pass)) r.0 r.1) }
 {
+    let typing = as_text(typing, is_text(&connecting));
     match connecting.origin {
         KeySource::Reader => {
             let keys = Keys::new(typing);
@@ -281,8 +283,47 @@ fn keyboard_of(connecting: &Connecting) -> Keyboard
             own,
             editing: own,
             returns: connecting.returns,
+            may_change: true,
         },
         KeySource::Reader | KeySource::Input => Keyboard::of_bytes(),
+    }
+}
+
+// The same, whose keys may be the bytes of a text.
+fn as_text<H, K>(typing: Typing<H, K>, is_text: bool) -> Typing<H, TextKeys<K>>
+    ensures { result.keys ≡ record { keys = typing.keys; is_text = is_text; after_return = false } }
+{
+    let Typing {
+        keys,
+        throttle,
+        link,
+        host,
+        port,
+        width,
+        height,
+        sizes,
+        terminal,
+    } = typing;
+    Typing {
+        keys: TextKeys::new(keys, is_text),
+        throttle,
+        link,
+        host,
+        port,
+        width,
+        height,
+        sizes,
+        terminal,
+    }
+}
+
+// Whether the keys are the bytes of a text. A terminal's are not.
+fn is_text(connecting: &Connecting) -> bool
+    ensures { result ≡ text_by connecting.now.origin connecting.now.text }
+{
+    match connecting.origin {
+        KeySource::Terminal(_) => false,
+        KeySource::Reader | KeySource::Input => connecting.text,
     }
 }
 
@@ -298,7 +339,7 @@ fn talk_and_send<H: Host, K: Read + Drop + Send + 'static, S: Write, Q: Queue + 
     requires new { IsNew opened.queue }
     requires named { IsNamed Q.table Q.key (sends_on opened.queue.to) }
     ensures ran { IfOk result (λ talked. IfOk talked.ended (λ r.
-        RunsWriting (window_of connecting) (foreseen connecting.origin (K.remaining typing.keys))
+        RunsWriting (window_of connecting) (foreseen connecting.origin connecting.text (K.remaining typing.keys))
         (S.contents screen.old) (S.contents screen.new) (put_bytes (view talked.queue)) r.0 r.1)) }
     ensures sent { IfOk result (λ talked.
         IsSent (put_bytes (view talked.queue)) (talked.sent ≡ Ok Whole) (logged talked.log)) }
@@ -437,7 +478,7 @@ pub fn connect<H: Host + Network, K: Read + Drop + Send + 'static, S: Write, E: 
     notes: ClientContext<'_, E>,
 ) -> Result<Connected, ConnectFault>
     ensures ran { IfOk result (RunsClient (window_of connecting)
-        (foreseen connecting.origin (K.remaining keys))
+        (foreseen connecting.origin connecting.text (K.remaining keys))
         (S.contents screen.old) (S.contents screen.new)) }
     ensures sent { IfOk result TookWhatWasWritten }
     ensures whole { IfOk result (λ connected. EndsWhole connected.report.ended) }

@@ -29,6 +29,9 @@ const FOR_EVER: i32 = -1;
 /// After how many milliseconds it is looked whether the service is to be told that no more comes.
 const LOOK: i32 = 200;
 
+/// How many milliseconds a user who leaves waits at most for what he typed before to be taken.
+const LEAVING: i32 = 1_000;
+
 const TELNET: &[u8] = b"tn: the other end speaks Telnet: leave out --plain\n";
 
 /// Waits by POSIX's `poll`. Keys of a reader of which nothing else is known can always be read.
@@ -149,6 +152,15 @@ impl<'a, H: Clock + Copy + Wait, E> Polling<'a, H, E> {
         mem::replace(&mut self.warned, Warnings::new())
     }
 
+    // What can be done once the user leaves: what he typed before is told as long as it is taken.
+    fn leave(&self, wants: Wants) -> Ready {
+        let mut waited = [waits_at(wants.room, self.service, POLLOUT)];
+        if wants.room && poll(&mut waited, LEAVING) > 0 && waited[0].revents & POLLOUT != 0 {
+            return Ready::Room;
+        }
+        Ready::Leave
+    }
+
     // Waits until one of them can be done.
     fn wait_for(&self, wants: Wants) -> Ready {
         for _ in self.rt.forever() {
@@ -191,6 +203,9 @@ impl<'a, H: Clock + Copy + Wait, E: Drain> Await for Polling<'a, H, E> {
         ensures warned { Some (count_in self.new.warned) ≡ Some (count_in self.old.warned) }
         ensures quiet { self.new.errors ≡ self.old.errors }
     {
+        if self.link.is_left() {
+            return self.leave(wants);
+        }
         if wants.keys && self.origin == KeySource::Reader {
             return Ready::Keys;
         }

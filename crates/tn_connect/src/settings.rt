@@ -38,6 +38,8 @@ pub struct Connecting {
     pub escape: Option<u8>,
     /// What RETURN sends at a terminal.
     pub returns: ReturnKey,
+    /// Whether keys that come from no terminal are the bytes of a text.
+    pub text: bool,
     /// How many seconds after the end of standard input the server is told that no more comes.
     pub wait: u32,
     /// For how many seconds nothing may come after that; at 0 it may for ever.
@@ -56,6 +58,8 @@ pub struct Plain {
     pub line_end: LineEnd,
     /// Where the lines come from: they are edited where it is a terminal.
     pub origin: KeySource,
+    /// The escape character of a terminal, if it has one.
+    pub escape: Option<u8>,
     /// How many seconds after the end of standard input the service is told that no more comes.
     pub wait: u32,
     /// For how many seconds nothing may come after that; at 0 it may for ever.

@@ -3,7 +3,7 @@
 ghost use Rattle.std.specs.Prelude.{◌≡◌, ◌≢◌, [], IfOk, Ok};
 ghost use Rattle.tn_connect.specs.Clients.{ConnectsBy};
 ghost use Rattle.tn_connect.specs.Talks.{HeardToTheEnd, HoldsTalk, HoldsTyped, RunsTalk};
-ghost use Rattle.tn_connect.specs.Talks.{is_terminal, kind_of, own_by, talked_over};
+ghost use Rattle.tn_connect.specs.Talks.{is_terminal, kind_of, plain_keyboard, talked_over};
 ghost use Rattle.tn_connect.specs.Warnings.{count_in};
 ghost use Rattle.tn_lines.specs.Kinds.{LeadsTo};
 ghost use Rattle.tn_network.specs.Asked.{ReachesBy};
@@ -11,7 +11,6 @@ ghost use Rattle.tn_network.specs.Dialing.{suits};
 
 use crate::causes::{note, note_log, note_unsent};
 use crate::fault::ConnectFault;
-use crate::mapping::MappedKeys;
 use crate::news::{tell_that_it_stands, wait_for_terminal};
 use crate::polls::Polling;
 use crate::settings::{ClientContext, KeySource, Plain};
@@ -27,7 +26,10 @@ use tn_discipline::Settings;
 use tn_lines::{AnyLines, FileLines, KeyLines};
 use tn_lines_client::{Over, ReadLog, Talk, TalkFault};
 use tn_network::{Network, reach_by};
-use tn_sockets::{Connection, Host, Link, Logged, OwnCharacters, WriteLog};
+use tn_sockets::{
+    About, Connection, Host, Keyboard, Link, Logged, Noted, NotedWriter, PlainKeys, ReturnKey,
+    Terminal, Trace, WriteLog,
+};
 use tn_streams::{Drain, Finish, Source};
 
 /// A talk that is over. In its logs contracts see all that was typed, said and told, and each warning.
@@ -104,13 +106,19 @@ fn talk<
     })
 }
 
-// The special characters of the terminal where keys are typed; none where they are read.
-fn own_of(origin: KeySource) -> OwnCharacters
-    ensures { result ≡ own_by origin }
+// Only at a terminal a byte stands for anything but itself.
+fn keyboard_of(origin: KeySource, escape: Option<u8>) -> Keyboard
+    ensures { result ≡ plain_keyboard origin escape }
 {
     match origin {
-        KeySource::Terminal(own) => own,
-        KeySource::Reader | KeySource::Input => OwnCharacters::none(),
+        KeySource::Terminal(own) => Keyboard {
+            escape,
+            own,
+            editing: own,
+            returns: ReturnKey::CrNul,
+            may_change: false,
+        },
+        KeySource::Reader | KeySource::Input => Keyboard::of_bytes(),
     }
 }
 
@@ -122,8 +130,8 @@ fn is_terminal(origin: KeySource) -> bool
 
 /// Connects to a host, an address or a name, and talks to the service there by lines, with these keys and
 /// this screen, until the service has closed or the user has left. At a terminal lines are edited as at one
-/// of its own; those of any other input go as they are. That the service speaks Telnet is told as soon as it
-/// shows. Of a fault the causes are noted.
+/// of its own, and the user speaks to the client itself behind the escape character; those of any other input
+/// go as they are. That the service speaks Telnet is told as soon as it shows. Of a fault the causes are noted.
 pub fn connect_plain<H: Host + Network, K: Read + Drop, S: Write, E: Drain>(
     rt: H,
     alloc: Global,
@@ -139,23 +147,50 @@ pub fn connect_plain<H: Host + Network, K: Read + Drop, S: Write, E: Drain>(
         (ReachesBy (suits plain.dialing) (H.finds rt host.now plain.port) (H.dials rt)) result }
 {
     let ClientContext {
+        trace,
         sizes,
         mut stands,
+        terminal,
         mut news,
         causes,
         link,
-        ..
     } = notes;
+    if trace.is_some() {
+        news.trace();
+    }
     let stream = reach_by(&rt, host, plain.port, plain.dialing, &mut news, causes)?;
     tell_that_it_stands(&mut stands);
-    news.connect(host, None);
+    news.connect(host, plain.escape);
     wait_for_terminal(&mut stands, &sizes);
     link.attach(&rt, stream.try_clone()?);
-    let talked = talk_over(rt, alloc, stream, plain, keys, screen, news.writer, &link)?;
-    note_log(causes, &link);
+    let Ok(trace) = Trace::without_telnet(rt, alloc, trace) else {
+        return Err(ConnectFault::Memory);
+    };
+    link.note_editing(false, true);
+    let about = About {
+        link: &link,
+        host,
+        port: plain.port,
+        window: None,
+    };
+    let around = Around {
+        about,
+        terminal: Terminal::new(terminal, stands),
+        trace: &trace,
+    };
+    let talked = talk_over(rt, alloc, stream, plain, keys, screen, news.writer, around)?;
+    note_files(causes, &link, &trace);
     let ended = ended_of(talked, causes);
     news.close(host, has_left(&ended), ended.is_ok());
     ended
+}
+
+/// What a talk has beside its streams.
+#[derive(Drop)]
+struct Around<'a, H> {
+    about: About<'a>,
+    terminal: Terminal,
+    trace: &'a Trace<H>,
 }
 
 // The same, over a connection that stands. It takes eight, as they go together nowhere else.
@@ -167,7 +202,7 @@ fn talk_over<H: Host, K: Read + Drop, S: Write, E: Drain>(
     keys: K,
     screen: &mut S,
     errors: &mut E,
-    link: &Link,
+    around: Around<'_, H>,
 ) -> Result<Result<TalkReport, TalkFault>, ConnectFault>
     ensures talked { IfOk result (λ talked. IfOk talked
         (HoldsTyped plain (K.remaining keys) (S.contents screen.old) (S.contents screen.new))) }
@@ -176,18 +211,34 @@ fn talk_over<H: Host, K: Read + Drop, S: Write, E: Drain>(
     let over = Snapshot::of(&stream);
     let (service, connection) = Connection::split(stream)?;
     service.set_nonblocking(true)?;
+    let Around {
+        about,
+        terminal,
+        trace,
+    } = around;
+    let link = about.link;
+    let keyboard = keyboard_of(plain.origin, plain.escape);
+    let keys = PlainKeys::new(rt, alloc, keys, keyboard, terminal, about);
     let ready = Polling::new(rt, &plain, service.as_raw_fd(), errors, link);
-    let own = own_of(plain.origin);
-    let keys = MappedKeys::new(keys, own);
+    let service = Noted::new(service, link, trace);
+    let connection = NotedWriter::new(connection, link, trace);
     let talked = talk(
         &rt, alloc, plain, over, ready, keys, service, connection, screen,
     );
     Ok(talked)
 }
 
+// Notes whether a file of the client lacks something.
+fn note_files<H: Host>(causes: &mut Vec<u8>, link: &Link, trace: &Trace<H>) {
+    if !trace.is_whole() {
+        note(causes, b"tn: the trace is not whole\n");
+    }
+    note_log(causes, link);
+}
+
 fn has_left(ended: &Result<TalkReport, ConnectFault>) -> bool {
     match ended {
-        Ok(report) => report.over == Over::Left,
+        Ok(report) => matches!(report.over, Over::Left | Over::Asked),
         Err(_) => false,
     }
 }

@@ -11,7 +11,7 @@ use Rattle.tn_lines.specs.declared.any_lines.AnyLines.{AnyLines}
 use Rattle.tn_lines.specs.declared.any_lines.AnyLines.TheVariants.{Typed, Read}
 use Rattle.tn_lines_client.specs.Ending.{ClosesAt, Ends, LeavesBy, ReadsFail, WritesFail, broken_unless, has_broken, has_left, is_left}
 use Rattle.tn_lines_client.specs.declared.talk.Over.{Over}
-use Rattle.tn_lines_client.specs.declared.talk.Over.TheVariants.{Closed, Broken, Left}
+use Rattle.tn_lines_client.specs.declared.talk.Over.TheVariants.{Closed, Broken, Left, Asked}
 use Rattle.tn_streams.specs.Foretelling.{Failures, ForetellsCall}
 use Rattle.tn_streams.specs.Telling.{Calls, TellsCall}
 
@@ -118,6 +118,9 @@ module _ (old new : AnyLines) (rest : Option (List ℕ)) (a : Option Failures) (
         writes = wrote;
         breaks = λ is. inr is;
       })
+
+  pub by_asking : new ≡ old → d ≡ c → Ends (Some Asked) old new rest a a c d
+  by_asking same told = left_or_on (Some Asked) refl tt (still (Some Asked) old new refl same) (writes_none c d told)
 
 -- ALL TURNS
 

@@ -5,7 +5,7 @@ use Rattle.std.specs.Io.KnownBytes.{IsAtEnd}
 use Rattle.tn_lines.specs.Kinds.{Kind, LeadsTo, has_left_by}
 use Rattle.tn_lines.specs.declared.any_lines.AnyLines.{AnyLines}
 use Rattle.tn_lines_client.specs.declared.talk.Over.{Over}
-use Rattle.tn_lines_client.specs.declared.talk.Over.TheVariants.{Closed, Broken, Left}
+use Rattle.tn_lines_client.specs.declared.talk.Over.TheVariants.{Closed, Broken, Left, Asked}
 use Rattle.tn_streams.specs.Foretelling.{Failures}
 use Rattle.tn_streams.specs.Telling.{Calls}
 
@@ -14,6 +14,7 @@ abbrev pub is_left : Over → Bool
 is_left Closed = false
 is_left Broken = false
 is_left Left = true
+is_left Asked = false
 
 -- the talk is over, since the user left
 abbrev pub has_left : Option Over → Bool
@@ -26,6 +27,7 @@ has_broken None = false
 has_broken (Some Closed) = false
 has_broken (Some Broken) = true
 has_broken (Some Left) = false
+has_broken (Some Asked) = false
 
 abbrev pub broken_unless : Bool → Option Over
 broken_unless true = None
@@ -43,6 +45,7 @@ ClosesAt None rest = ⊤
 ClosesAt (Some Closed) rest = IsAtEnd rest
 ClosesAt (Some Broken) rest = ⊤
 ClosesAt (Some Left) rest = ⊤
+ClosesAt (Some Asked) rest = ⊤
 
 -- if it was foretold: not more reads are still to fail than before, and fewer if one failed
 abbrev pub ReadsFail : Bool → Option Failures → Option Failures → Type 0
@@ -59,7 +62,7 @@ WritesFail false (Some old) (Some new) = old.failed ≤ new.failed
 WritesFail true (Some old) (Some new) = old.failed < new.failed
 
 -- The talk went on from these lines to those, with these bytes of the service left; or it ended, by a
--- user who left, at the end of the service, or since a read or a write failed.
+-- user who left, at the end of the service, since a read or a write failed, or since that was asked for.
 pub record Ends (over : Option Over) (old new : AnyLines) (rest : Option (List ℕ))
     (ahead left : Option Failures) (before after : Option Calls) : Type 0 where
   pub read_failed : Bool

@@ -14,6 +14,8 @@ pub enum Ready {
     Room,
     /// The service is to be told that no more comes.
     End,
+    /// The talk is to end.
+    Leave,
 }
 
 /// What a talk wants to do, beside reading what the service says.

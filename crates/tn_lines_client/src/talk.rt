@@ -35,6 +35,8 @@ pub enum Over {
     Broken,
     /// The user left, by an interrupt or a quit where nothing was typed.
     Left,
+    /// Whoever stands by the talk asked for its end.
+    Asked,
 }
 
 /// A talk with a service: lines go to it, and what it says is shown.
@@ -280,6 +282,7 @@ impl Talk {
                 self.finish(writer);
                 Ok(None)
             },
+            Ready::Leave => Ok(Some(Over::Asked)),
         }
     }
 

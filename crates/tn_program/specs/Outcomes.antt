@@ -106,7 +106,7 @@ ComesOfRun machine a origin bytes old new (outcome.Served ended) =
     (serving : ServeWords) × (a ≡ asked.Serve serving) × EndsServing machine serving ended old new
 ComesOfRun machine a origin bytes old new (outcome.Connected ended) =
     (connecting : ConnectWords) × (a ≡ asked.Connect connecting)
-    × EndsConnecting machine connecting ended (foreseen origin bytes) old new
+    × EndsConnecting machine connecting ended (foreseen origin connecting.text bytes) old new
 ComesOfRun machine a origin bytes old new (outcome.Talked ended) =
     (connecting : ConnectWords) × (a ≡ asked.Connect connecting)
     × EndsTalking machine connecting ended origin bytes old new

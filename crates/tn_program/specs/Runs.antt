@@ -55,7 +55,7 @@ RunsAsked machine (Serve serving) origin bytes old new = (served : Served)
     × machine.serves serving served × (new ≡ old)
 RunsAsked machine (Connect connecting) origin bytes old new = (port : ℕ) × IsPort connecting.port port
     × (((connected : Connected) × (connecting.plain ≡ None)
-    × RunsClient (window_as connecting) (foreseen origin bytes) old new connected
+    × RunsClient (window_as connecting) (foreseen origin connecting.text bytes) old new connected
     × EndsWhole connected.report.ended
     × ConnectsBy connection_of (ReachesBy (suits connecting.dialing)
     (machine.network.finds (string_bytes connecting.host) port) machine.network.dials) (ran connected))

@@ -26,8 +26,8 @@ use Rattle.tn_words.specs.declared.settings.Escape.TheVariants as escape
 use Rattle.tn_words.specs.declared.settings.ReturnBytes.{ReturnBytes}
 use Rattle.tn_words.specs.declared.settings.ReturnBytes.TheVariants as bytes
 use Rattle.tn_words.specs.declared.settings.ServeWords.{ServeWords}
-use Rattle.tn_sockets.specs.declared.escaping.ReturnKey.{ReturnKey}
-use Rattle.tn_sockets.specs.declared.escaping.ReturnKey.TheVariants.{CrNul, CrLf, Lf}
+use Rattle.tn_sockets.specs.declared.returns.ReturnKey.{ReturnKey}
+use Rattle.tn_sockets.specs.declared.returns.ReturnKey.TheVariants.{CrNul, CrLf, Lf}
 
 abbrev pub editing_as : Bool → Editing
 editing_as true = Local
@@ -143,6 +143,7 @@ plain_as asked port line_end origin =
       line_limit = asked.line_limit;
       line_end = line_end;
       origin = origin_as asked.characters origin;
+      escape = escape_as asked.escape;
       wait = asked.wait;
       patience = asked.patience;
       dialing = asked.dialing;

@@ -31,11 +31,12 @@ abbrev pub status_after_connecting : {A : Type 0} → Result A ConnectFault → 
 status_after_connecting (Ok done) = 0
 status_after_connecting (Err fault) = status_of_connecting fault
 
--- a user who left by an interrupt has the status that a shell gives
+-- a user who left by an interrupt has the status that a shell gives; one who asked the client to leave, none
 abbrev pub status_of_over : Over → ℕ
 status_of_over over.Closed = 0
 status_of_over over.Broken = 3
 status_of_over over.Left = 130
+status_of_over over.Asked = 0
 
 -- the status after a talk with a service that takes lines
 abbrev pub status_after_talking : Result TalkReport ConnectFault → ℕ

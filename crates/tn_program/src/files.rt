@@ -4,16 +4,14 @@
 ghost use Rattle.std.specs.Prelude.{◌≢◌, ◌⊎◌, None, OnErr};
 
 use std::alloc::Global;
-use std::fs::{File, Files, OpenOptions, Permissions};
-use std::io::{ErrorKind, Write};
-use std::os::unix::fs::{MetadataExt, OpenOptionsExt, PermissionsExt};
+use std::fs::{File, Files, OpenOptions};
+use std::io::Write;
+use std::os::unix::fs::OpenOptionsExt;
 use std::sync::Wait;
 use std::{fs, io};
 use tn_connect::Link;
+use tn_sockets::{ClientFiles, PRIVATE, is_device, open_device};
 use tn_words::ConnectWords;
-
-/// Only its owner reads and writes such a file.
-const PRIVATE: u32 = 0o600;
 
 /// The file that gets the trace, if one is wanted. If it can't be made, that is noted.
 pub(crate) fn open_trace<H: Files<File = File>>(
@@ -45,10 +43,13 @@ pub(crate) fn open_log<H: Files<File = File> + Wait>(
 ) -> io::Result<()>
     ensures { OnErr result (asked.now.log ≢ None) }
 {
+    if asked.log_times {
+        link.time_log();
+    }
     let Some(path) = &asked.log else {
         return Ok(());
     };
-    match append_private(rt, path.as_str()) {
+    match rt.append_to(path.as_str()) {
         Ok(file) => {
             link.log_to(rt, file);
             Ok(())
@@ -76,44 +77,4 @@ fn create_private<H: Files<File = File>>(rt: &H, alloc: Global, path: &str) -> i
     options.write(true);
     options.create_new(true);
     options.open(rt, path)
-}
-
-// A file that is appended to. A link is not followed.
-fn append_private<H: Files<File = File>>(rt: &H, path: &str) -> io::Result<File> {
-    if is_device(rt, path) {
-        return open_device(rt, path);
-    }
-    let mut options = OpenOptions::new();
-    options.mode(PRIVATE);
-    options.append(true);
-    options.create(true);
-    let file = options.open(rt, path)?;
-    let named = fs::symlink_metadata(rt, path)?;
-    let opened = file.metadata()?;
-    if named.is_symlink() || named.ino() != opened.ino() {
-        return Err(io::Error::new(ErrorKind::PermissionDenied, "it is a link"));
-    }
-    file.set_permissions(Permissions::from_mode(PRIVATE))?;
-    Ok(file)
-}
-
-// Whether the path leads to what is there and no regular file: a terminal, a pipe, or a descriptor.
-fn is_device<H: Files<File = File>>(rt: &H, path: &str) -> bool {
-    if path.starts_with("/dev/") || path.starts_with("/proc/") {
-        return true;
-    }
-    match fs::metadata(rt, path) {
-        Ok(found) => !found.is_file(),
-        Err(_) => false,
-    }
-}
-
-// It has to be the user's own, or the system's.
-fn open_device<H: Files<File = File>>(rt: &H, path: &str) -> io::Result<File> {
-    let file = OpenOptions::new().write(true).open(rt, path)?;
-    let owner = file.metadata()?.uid();
-    if owner != 0 && owner != libc::geteuid() {
-        return Err(io::Error::new(ErrorKind::PermissionDenied, "it is somebody else's"));
-    }
-    Ok(file)
 }

@@ -194,7 +194,7 @@ fn after_over(over: Over) -> u8
     ensures { result ≡ status_of_over over }
 {
     match over {
-        Over::Closed => 0,
+        Over::Closed | Over::Asked => 0,
         Over::Broken => 3,
         Over::Left => INTERRUPTED,
     }

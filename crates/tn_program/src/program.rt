@@ -258,6 +258,9 @@ fn run_plain<
     let Some(port) = port_of(&rt, alloc, &asked.port, causes) else {
         return Outcome::Talked(Err(ConnectFault::Network));
     };
+    let Ok(trace) = open_trace(&rt, alloc, asked, causes) else {
+        return Outcome::Untraced;
+    };
     let Ok(()) = open_log(&rt, asked, &streams.link, causes) else {
         return Outcome::Untraced;
     };
@@ -276,7 +279,7 @@ fn run_plain<
         is_told: matches!(origin, KeySource::Terminal(_)) && !asked.quiet,
     };
     let notes = ClientContext {
-        trace: None,
+        trace,
         sizes,
         stands,
         terminal,

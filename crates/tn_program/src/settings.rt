@@ -208,6 +208,7 @@ pub(crate) fn connecting_of(
     ensures origin { result.origin ≡ origin_as asked.now.characters origin }
     ensures escape { result.escape ≡ escape_as asked.now.escape }
     ensures returns { result.returns ≡ return_as asked.now.returns }
+    ensures text { result.text ≡ asked.now.text }
     ensures port { result.port ≡ port }
     ensures wait { result.wait ≡ asked.now.wait }
     ensures patience { result.patience ≡ asked.now.patience }
@@ -221,6 +222,7 @@ pub(crate) fn connecting_of(
         origin: origin_of(asked.characters, origin),
         escape: escape_of(asked.escape),
         returns: return_of(asked.returns),
+        text: asked.text,
         wait: asked.wait,
         patience: asked.patience,
         dialing: asked.dialing,
@@ -242,6 +244,7 @@ pub(crate) fn plain_of(
         line_limit: asked.line_limit,
         line_end,
         origin: origin_of(asked.characters, origin),
+        escape: escape_of(asked.escape),
         wait,
         patience: asked.patience,
         dialing: asked.dialing,

@@ -6,4 +6,3 @@ pub mod Services
 pub mod Servers
 pub mod Turns
 pub mod Counted
-pub mod Times

@@ -48,7 +48,6 @@ mod serving;
 mod session;
 mod settings;
 mod sight;
-mod times;
 mod traffic;
 mod turned;
 mod turns;

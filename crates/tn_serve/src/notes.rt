@@ -2,7 +2,6 @@
 //! session waits for a reader of the notes.
 
 use crate::logfmt::push_pairs;
-use crate::times::stamp;
 use crossbeam_channel::{Receiver, Sender};
 use log::kv::Source;
 use log::span::Spans;
@@ -13,7 +12,7 @@ use std::sync::atomic::{AtomicU64, Ordering};
 use std::sync::{Arc, Wait};
 use std::time::{Clock, Duration};
 use std::{fmt, str, thread};
-use tn_sockets::Host;
+use tn_sockets::{Host, stamp};
 
 /// The target of the program's own lines about faults, such as `tn: session`, which are printed as they are.
 pub(crate) const FAULT: &str = "tn";

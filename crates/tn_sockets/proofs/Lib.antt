@@ -11,3 +11,5 @@ pub mod Hearing
 pub mod Tracing
 pub mod LineTexts
 pub mod Stamping
+pub mod Dating
+pub mod Plain

@@ -1,13 +1,15 @@
 -- Bytes that are taken one by one give what stands among them.
-use Rattle.std.proofs.Common.{◌≡◌, ◌<◌, ◌+◌, ◌==◌, ℕ, Bool, true, false, if◌then◌else◌, IsTrue, codes, Option, None, Some, List, [], ◌∷◌, ◌++◌, length, map, take, refl, sym}
+use Rattle.std.proofs.Common.{◌≡◌, ◌<◌, ◌+◌, ◌==◌, ◌||◌, ℕ, Bool, true, false, if◌then◌else◌, IsFalse, IsTrue, codes, Option, None, Some, List, [], ◌∷◌, ◌++◌, length, map, take, refl, sym}
 use Rattle.std.proofs.Common.{ap, ◌∙◌, subst, append_assoc, append-nil, arith}
 use Rattle.std.proofs.Math.ListN.{get_or}
 use Rattle.std.proofs.lemmas.List.{map-append, take_more}
 use Rattle.tn_discipline.specs.Characters.{is_reserved}
-use Rattle.tn_sockets.specs.Mapping.{mapped, none_own}
+use Rattle.tn_codes.specs.declared.codes.Func.{Func}
+use Rattle.tn_codes.specs.declared.codes.Func.TheVariants as func
+use Rattle.tn_sockets.specs.Mapping.{mapped, none_own, own_function, standard_for}
 use Rattle.tn_sockets.specs.Prompting.{closed, edit_of}
 use Rattle.tn_sockets.specs.Typing.{AreTaken, Obeys, command, command_in, commands, input_in, inputs, inputs_in, is_escape, is_one, mapped_input, of_bytes}
-use Rattle.tn_sockets.specs.Typing.{returned, typed_as, prompt_after, prompt_behind, prompt_when, typed_after, typed_again, typed_by, typed_when, unmapped}
+use Rattle.tn_sockets.specs.Typing.{returned, returns_of, typed_as, prompt_after, prompt_behind, prompt_when, typed_after, typed_again, typed_by, typed_when, unmapped}
 use Rattle.tn_sockets.specs.declared.escaping.EscapeCommand.{EscapeCommand}
 use Rattle.tn_sockets.specs.declared.escaping.Escaping.{Escaping}
 use Rattle.tn_sockets.specs.declared.escaping.SessionInput.{SessionInput}
@@ -17,8 +19,11 @@ use Rattle.tn_sockets.specs.declared.escaping.Typed.{Typed}
 use Rattle.tn_sockets.specs.declared.escaping.Typed.TheVariants as typed
 use Rattle.tn_sockets.specs.declared.prompt.Edit.{Edit}
 use Rattle.tn_sockets.specs.declared.prompt.Edit.TheVariants.{Enter, Leave, Erase, Kill, Add, Skip, Refuse}
+use Rattle.tn_sockets.specs.declared.own_characters.OwnCharacters.{OwnCharacters}
 use Rattle.tn_sockets.specs.declared.prompt.Prompt.{Prompt}
-use Rattle.tn_streams.specs.declared.control.Control.TheVariants.{Brk, Ip, Ayt}
+use Rattle.tn_sockets.specs.declared.returns.ReturnKey.{ReturnKey}
+use Rattle.tn_sockets.specs.declared.returns.ReturnKey.TheVariants.{CrNul, CrLf, Lf}
+use Rattle.tn_streams.specs.declared.control.Control.TheVariants.{Brk, Ip, Ayt, NewLine}
 
 -- where no character is the user's own, each byte stays
 pub none_mapped : (byte : ℕ) → mapped none_own byte ≡ byte
@@ -26,6 +31,29 @@ none_mapped byte = same_either (is_reserved byte) byte where
   same_either : (b : Bool) (n : ℕ) → (if b then n else n) ≡ n
   same_either true n = refl
   same_either false n = refl
+
+-- no character of the user's own makes a key RETURN, or RETURN another one
+not_return : (a b c : Bool) → (a || b || c) ≡ false → b ≡ false
+not_return a false c is = refl
+not_return true true c is = cc
+not_return false true c is = cc
+
+standard_return : (f : Option Func) (byte : ℕ) → (byte == 13) ≡ false → (standard_for f byte == 13) ≡ false
+standard_return None byte apart = apart
+standard_return (Some func.Ip) byte apart = refl
+standard_return (Some func.Abort) byte apart = refl
+standard_return (Some func.Eof) byte apart = refl
+standard_return (Some func.Susp) byte apart = refl
+standard_return (Some func.Ec) byte apart = refl
+standard_return (Some func.El) byte apart = refl
+standard_return (Some f) byte apart = apart
+
+same_return : (own : OwnCharacters) (byte : ℕ) → (mapped own byte == 13) ≡ (byte == 13)
+same_return own byte = by_reserved (is_reserved byte) refl where
+  by_reserved : (b : Bool) → is_reserved byte ≡ b → ((if b then byte else standard_for (own_function own byte) byte) == 13) ≡ (byte == 13)
+  by_reserved true is = refl
+  by_reserved false is =
+      let apart = not_return (byte == 10) (byte == 13) (byte == 255) is in standard_return (own_function own byte) byte apart ∙ sym apart
 
 pub every : (bytes : List ℕ) → inputs of_bytes closed bytes ≡ map input.Key bytes
 every [] = refl
@@ -49,15 +77,37 @@ module _ (keyboard : Keyboard) where
   held true x y e = refl
   held false x y e = cc
 
-  from_key : (b : Bool) (byte : ℕ) → is_escape keyboard.escape byte ≡ b
-      → input_in (if b then typed.Nothing else typed_as (returned keyboard.returns (mapped keyboard.own byte)))
-      ≡ map (mapped_input keyboard) (input_in (if b then typed.Nothing else typed.Key (mapped none_own byte)))
-  from_key true byte is = refl
-  from_key false byte is =
-      given_as (returned keyboard.returns (mapped keyboard.own byte))
+  module _ (byte : ℕ) (is : is_escape keyboard.escape byte ≡ false) where
+    key : input.Key (mapped keyboard.own byte) ≡ mapped_input keyboard (input.Key byte)
+    key = plain (is_escape keyboard.escape byte) (input.Key byte) (input.Key (mapped keyboard.own byte)) is
+
+    -- RETURN as another input, which the characters do not change
+    other : (x : SessionInput) (c d : Bool) → x ≡ mapped_input keyboard x → d ≡ c → (if d then x else input.Key (mapped keyboard.own byte))
+        ≡ mapped_input keyboard (if c then x else input.Key byte)
+    other x true true stays same = stays
+    other x false false stays same = key
+    other x true false stays same = cc
+    other x false true stays same = cc
+
+    feed : (b : Bool) → input.Key 10 ≡ (if b then input.Key 10 else input.Key 10)
+    feed true = refl
+    feed false = refl
+
+    kept_return : (r : ReturnKey) → returned r (mapped keyboard.own byte) ≡ mapped_input keyboard (returned r byte)
+    kept_return CrNul = key
+    kept_return CrLf = other (input.Control NewLine) (byte == 13) (mapped keyboard.own byte == 13) refl (same_return keyboard.own byte)
+    kept_return Lf =
+        other (input.Key 10) (byte == 13) (mapped keyboard.own byte == 13) (feed (is_escape keyboard.escape 10)) (same_return keyboard.own byte)
+
+  from_key : (r : ReturnKey) (b : Bool) (byte : ℕ) → is_escape keyboard.escape byte ≡ b
+      → input_in (if b then typed.Nothing else typed_as (returned r (mapped keyboard.own byte)))
+      ≡ map (mapped_input keyboard) (input_in (if b then typed.Nothing else typed_as (returned r (mapped none_own byte))))
+  from_key r true byte is = refl
+  from_key r false byte is =
+      given_as (returned r (mapped keyboard.own byte))
       ∙ ap (λ (x : SessionInput). x ∷ [])
-      (plain (is_escape keyboard.escape byte) (input.Key byte) (returned keyboard.returns (mapped keyboard.own byte)) is
-      ∙ ap (λ (n : ℕ). mapped_input keyboard (input.Key n)) (sym (none_mapped byte)))
+      (kept_return byte is r ∙ ap (λ (n : ℕ). mapped_input keyboard (returned r n)) (sym (none_mapped byte)))
+      ∙ ap (map (mapped_input keyboard)) (sym (given_as (returned r (mapped none_own byte))))
 
   -- what a line means is no key
   no_key : (b c d e : Bool) (command : EscapeCommand) → input_in (if b then typed.Nothing else if c then typed.Control Brk else if d then typed.Control Ip
@@ -83,7 +133,7 @@ module _ (keyboard : Keyboard) where
   again : (b : Bool) (byte : ℕ) → is_escape keyboard.escape byte ≡ true
       → input_in (if b then typed.Key byte else typed.Nothing) ≡ map (mapped_input keyboard) (input_in (if b then typed.Key byte else typed.Nothing))
   again true byte is = ap (λ (x : SessionInput). x ∷ [])
-      (held (is_escape keyboard.escape byte) (input.Key byte) (returned keyboard.returns (mapped keyboard.own byte)) is)
+      (held (is_escape keyboard.escape byte) (input.Key byte) (input.Key (mapped keyboard.own byte)) is)
   again false byte is = refl
 
   from_line : (b : Bool) (edit : Edit) (line : List ℕ) (byte : ℕ) → is_escape keyboard.escape byte ≡ b
@@ -94,7 +144,7 @@ module _ (keyboard : Keyboard) where
 
   is_mapped : (opens : Bool) (prompt : Prompt) (byte : ℕ) → input_in (typed_when opens keyboard prompt byte)
       ≡ map (mapped_input keyboard) (input_in (typed_when opens (unmapped keyboard) prompt byte))
-  is_mapped false prompt byte = from_key (is_escape keyboard.escape byte) byte refl
+  is_mapped false prompt byte = from_key (returns_of keyboard prompt) (is_escape keyboard.escape byte) byte refl
   is_mapped true prompt byte =
       from_line (is_escape keyboard.escape byte) (edit_of keyboard.editing prompt.sequence byte) prompt.line byte refl
 
@@ -106,10 +156,13 @@ module _ (keyboard : Keyboard) where
   same_command : (opens : Bool) (prompt : Prompt) (byte : ℕ) → command_in (typed_when opens keyboard prompt byte)
       ≡ command_in (typed_when opens (unmapped keyboard) prompt byte)
   same_command false prompt byte = from (is_escape keyboard.escape byte) where
-    from : (b : Bool) → command_in (if b then typed.Nothing else typed_as (returned keyboard.returns (mapped keyboard.own byte)))
-        ≡ command_in (if b then typed.Nothing else typed.Key (mapped none_own byte))
+    r : ReturnKey
+    r = returns_of keyboard prompt
+
+    from : (b : Bool) → command_in (if b then typed.Nothing else typed_as (returned r (mapped keyboard.own byte)))
+        ≡ command_in (if b then typed.Nothing else typed_as (returned r (mapped none_own byte)))
     from true = refl
-    from false = no_command (returned keyboard.returns (mapped keyboard.own byte))
+    from false = no_command (returned r (mapped keyboard.own byte)) ∙ sym (no_command (returned r (mapped none_own byte)))
   same_command true prompt byte = refl
 
 pub all_mapped : (keyboard : Keyboard) (prompt : Prompt) (bytes : List ℕ)
@@ -128,6 +181,21 @@ same_commands keyboard prompt (byte ∷ bytes) =
     (λ i. same_command keyboard prompt.is_open prompt byte i ++ same_commands keyboard (prompt_after keyboard prompt byte) bytes i)
     ∙ ap (λ (p : Prompt). command_in (typed_after (unmapped keyboard) prompt byte) ++ commands (unmapped keyboard) p bytes)
     (same_prompt keyboard prompt.is_open prompt byte)
+
+-- what RETURN is to send changes no other key
+as_key : (r : ReturnKey) (key : ℕ) → (key == 13) ≡ false → returned r key ≡ input.Key key
+as_key CrNul key apart = refl
+as_key CrLf key apart = λ i. if apart i then input.Control NewLine else input.Key key
+as_key Lf key apart = λ i. if apart i then input.Key 10 else input.Key key
+
+pub unchanged : (keyboard : Keyboard) (prompt : Prompt) (byte : ℕ) (r : Option ReturnKey) (opens : Bool) → IsFalse (byte == 13)
+    → typed_when opens keyboard prompt byte ≡ typed_when opens keyboard (record prompt { returns = r }) byte
+unchanged keyboard prompt byte r true apart = refl
+unchanged keyboard prompt byte r false apart =
+    let stays = same_return keyboard.own byte ∙ apart in
+    let one = as_key (returns_of keyboard prompt) (mapped keyboard.own byte) stays in
+    let two = as_key (returns_of keyboard (record prompt { returns = r })) (mapped keyboard.own byte) stays in
+    ap (λ (x : SessionInput). if is_escape keyboard.escape byte then typed.Nothing else typed_as x) (one ∙ sym two)
 
 -- of a line no byte is a key, but the escape character on an empty one
 module _ (line : List ℕ) (byte key : ℕ) where

@@ -7,6 +7,8 @@ pub mod Sizes
 pub mod Mapping
 pub mod Prompting
 pub mod Typing
+pub mod PlainKeys
 pub mod Kept
 pub mod Presence
 pub mod Traces
+pub mod Times

@@ -1,20 +1,23 @@
 -- The line that a user types to the client itself, behind the escape character: how it is edited.
 use Rattle.std.specs.Prelude.{ℕ, nat_le, ◌==◌, ◌||◌, ◌&&◌, ◌+◌, ◌-◌, true, false, not, List, [], ◌∷◌, ◌++◌, length}
-use Rattle.std.specs.Prelude.{take, if◌then◌else◌}
+use Rattle.std.specs.Prelude.{Option, Some, None, codes, take, if◌then◌else◌}
+use Rattle.std.specs.Str.{bytes_eq}
 use Rattle.tn_sockets.specs.Mapping.{mapped}
 use Rattle.tn_sockets.specs.declared.own_characters.OwnCharacters.{OwnCharacters}
 use Rattle.tn_sockets.specs.declared.prompt.Edit.{Edit}
 use Rattle.tn_sockets.specs.declared.prompt.Edit.TheVariants.{Enter, Leave, Erase, Kill, Add, Skip, Refuse}
 use Rattle.tn_sockets.specs.declared.prompt.Prompt.{Prompt}
+use Rattle.tn_sockets.specs.declared.returns.ReturnKey.{ReturnKey}
+use Rattle.tn_sockets.specs.declared.returns.ReturnKey.TheVariants.{CrNul, CrLf, Lf}
 use Rattle.tn_sockets.specs.declared.prompt.Sequence.{Sequence}
 use Rattle.tn_sockets.specs.declared.prompt.Sequence.TheVariants as sequence
 
 -- no line is typed, and one begins
 abbrev pub closed : Prompt
-closed = record { is_open = false; line = []; sequence = sequence.Nothing }
+closed = record { is_open = false; line = []; sequence = sequence.Nothing; returns = None }
 
-abbrev pub opened : Prompt
-opened = record { is_open = true; line = []; sequence = sequence.Nothing }
+abbrev pub opened : Prompt → Prompt
+opened prompt = record prompt { is_open = true; line = []; sequence = sequence.Nothing }
 
 -- a line has at most 255 bytes
 abbrev pub with_added : List ℕ → ℕ → List ℕ
@@ -47,20 +50,31 @@ edit_of own sequence.Control byte =
 edit_of own sequence.Letter byte =
     if nat_le 32 byte && nat_le byte 126 then Skip sequence.Nothing else plain_edit own byte
 
+-- what a line asks RETURN to send, if it asks for that
+abbrev pub return_in : List ℕ → Option ReturnKey
+return_in line =
+    if bytes_eq line (codes "return crnul") then Some CrNul else if bytes_eq line (codes "return crlf") then Some CrLf
+    else if bytes_eq line (codes "return lf") then Some Lf else None
+
+-- what was asked for last
+abbrev pub later : Option ReturnKey → Option ReturnKey → Option ReturnKey
+later (Some asked) before = Some asked
+later None before = before
+
+abbrev pub last_return : List ℕ → Option ReturnKey → Option ReturnKey
+last_return line before = later (return_in line) before
+
 -- and what the line is then
 abbrev pub after_edit : Edit → ℕ → Prompt → Prompt
-after_edit Enter byte prompt = record { is_open = false; line = prompt.line; sequence = sequence.Nothing }
-after_edit Leave byte prompt = record { is_open = false; line = prompt.line; sequence = sequence.Nothing }
-after_edit Erase byte prompt =
-    record { is_open = prompt.is_open; line = without_last prompt.line; sequence = sequence.Nothing }
-after_edit Kill byte prompt = record { is_open = prompt.is_open; line = []; sequence = sequence.Nothing }
-after_edit Add byte prompt =
-    record { is_open = prompt.is_open; line = with_added prompt.line byte; sequence = sequence.Nothing }
-after_edit (Skip s) byte prompt = record { is_open = prompt.is_open; line = prompt.line; sequence = s }
-after_edit Refuse byte prompt =
-    record { is_open = prompt.is_open; line = prompt.line; sequence = sequence.Nothing }
+after_edit Enter byte prompt =
+    record prompt { is_open = false; sequence = sequence.Nothing; returns = last_return prompt.line prompt.returns }
+after_edit Leave byte prompt = record prompt { is_open = false; sequence = sequence.Nothing }
+after_edit Erase byte prompt = record prompt { line = without_last prompt.line; sequence = sequence.Nothing }
+after_edit Kill byte prompt = record prompt { line = []; sequence = sequence.Nothing }
+after_edit Add byte prompt = record prompt { line = with_added prompt.line byte; sequence = sequence.Nothing }
+after_edit (Skip s) byte prompt = record prompt { sequence = s }
+after_edit Refuse byte prompt = record prompt { sequence = sequence.Nothing }
 
 -- the line after the escape character, which ends an empty one
 abbrev pub after_escape : Prompt → Prompt
-after_escape prompt =
-    record { is_open = not (length prompt.line == 0); line = prompt.line; sequence = sequence.Nothing }
+after_escape prompt = record prompt { is_open = not (length prompt.line == 0); sequence = sequence.Nothing }

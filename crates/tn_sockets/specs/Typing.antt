@@ -1,21 +1,22 @@
 -- What is typed at a terminal. Behind an escape character a line is typed to the client itself, which is a
 -- command, or asks the session for a control function.
 use Rattle.std.specs.Prelude.{◌≡◌, ◌≤◌, ◌⊎◌, ◌==◌, ◌||◌, ℕ, nat_eq, Bool, true, false, Option, None, Some, List}
-use Rattle.std.specs.Prelude.{[], ◌∷◌, ◌++◌, codes, length, take, if◌then◌else◌}
+use Rattle.std.specs.Prelude.{[], ◌∷◌, ◌++◌, codes, is_some, length, take, unwrap_or, if◌then◌else◌}
+use Rattle.std.specs.List.{starts_with}
 use Rattle.std.specs.Str.{bytes_eq}
 use Rattle.tn_sockets.specs.declared.escaping.EscapeCommand.{EscapeCommand}
 use Rattle.tn_sockets.specs.declared.escaping.EscapeCommand.TheVariants.{Close, Help, Status, Suspend}
-use Rattle.tn_sockets.specs.declared.escaping.EscapeCommand.TheVariants.{Unknown}
+use Rattle.tn_sockets.specs.declared.escaping.EscapeCommand.TheVariants.{LogOff, LogTo, Return, Unknown}
 use Rattle.tn_sockets.specs.declared.escaping.Next.{Next}
 use Rattle.tn_sockets.specs.declared.escaping.Next.TheVariants.{Leaves, Returns}
 use Rattle.tn_sockets.specs.Mapping.{mapped, none_own}
-use Rattle.tn_sockets.specs.Prompting.{after_edit, after_escape, edit_of, opened}
+use Rattle.tn_sockets.specs.Prompting.{after_edit, after_escape, edit_of, opened, return_in}
 use Rattle.tn_sockets.specs.declared.escaping.Escaping.{Escaping}
 use Rattle.tn_sockets.specs.declared.escaping.SessionInput.{SessionInput}
 use Rattle.tn_sockets.specs.declared.escaping.SessionInput.TheVariants as input
 use Rattle.tn_sockets.specs.declared.escaping.Keyboard.{Keyboard}
-use Rattle.tn_sockets.specs.declared.escaping.ReturnKey.{ReturnKey}
-use Rattle.tn_sockets.specs.declared.escaping.ReturnKey.TheVariants.{CrNul, CrLf, Lf}
+use Rattle.tn_sockets.specs.declared.returns.ReturnKey.{ReturnKey}
+use Rattle.tn_sockets.specs.declared.returns.ReturnKey.TheVariants.{CrNul, CrLf, Lf}
 use Rattle.tn_sockets.specs.declared.escaping.Typed.{Typed}
 use Rattle.tn_sockets.specs.declared.escaping.Typed.TheVariants as typed
 use Rattle.tn_sockets.specs.declared.prompt.Edit.{Edit}
@@ -25,7 +26,7 @@ use Rattle.tn_streams.specs.declared.control.Control.TheVariants.{Brk, Ip, Ayt, 
 
 -- every byte is a key, and stands for itself
 abbrev pub of_bytes : Keyboard
-of_bytes = record { escape = None; own = none_own; editing = none_own; returns = CrNul }
+of_bytes = record { escape = None; own = none_own; editing = none_own; returns = CrNul; may_change = false }
 
 abbrev pub is_escape : Option ℕ → ℕ → Bool
 is_escape None byte = false
@@ -42,7 +43,10 @@ command line =
     else if bytes_eq line (codes "again") then Close Returns
     else if is_one line (codes "?") (codes "help") then Help
     else if is_one line (codes "s") (codes "status") then Status
-    else if is_one line (codes "z") (codes "suspend") then Suspend else Unknown
+    else if is_one line (codes "z") (codes "suspend") then Suspend
+    else if bytes_eq line (codes "log off") then LogOff
+    else if starts_with nat_eq line (codes "log ") then LogTo
+    else if is_some (return_in line) then Return else Unknown
 
 -- what a line is: it may ask for the control functions BRK, IP and AYT; an empty one asks for nothing
 abbrev pub meant : List ℕ → Typed
@@ -67,6 +71,14 @@ returned CrNul key = input.Key key
 returned CrLf key = if key == 13 then input.Control NewLine else input.Key key
 returned Lf key = if key == 13 then input.Key 10 else input.Key key
 
+-- what RETURN sends: what was asked for last, if that may be asked for
+abbrev pub returns_by : Bool → ReturnKey → Option ReturnKey → ReturnKey
+returns_by true usual asked = unwrap_or asked usual
+returns_by false usual asked = usual
+
+abbrev pub returns_of : Keyboard → Prompt → ReturnKey
+returns_of keyboard prompt = returns_by keyboard.may_change keyboard.returns prompt.returns
+
 abbrev pub typed_as : SessionInput → Typed
 typed_as (input.Key key) = typed.Key key
 typed_as (input.Control control) = typed.Control control
@@ -76,7 +88,7 @@ typed_as (input.Control control) = typed.Control control
 abbrev pub typed_when : Bool → Keyboard → Prompt → ℕ → Typed
 typed_when false keyboard prompt byte =
     if is_escape keyboard.escape byte then typed.Nothing
-    else typed_as (returned keyboard.returns (mapped keyboard.own byte))
+    else typed_as (returned (returns_of keyboard prompt) (mapped keyboard.own byte))
 typed_when true keyboard prompt byte =
     if is_escape keyboard.escape byte then typed_again prompt.line byte
     else typed_by (edit_of keyboard.editing prompt.sequence byte) prompt.line
@@ -89,7 +101,7 @@ reading escaping byte = typed_after escaping.keyboard escaping.prompt byte
 
 -- what of the line is typed behind this byte
 abbrev pub prompt_when : Bool → Keyboard → Prompt → ℕ → Prompt
-prompt_when false keyboard prompt byte = if is_escape keyboard.escape byte then opened else prompt
+prompt_when false keyboard prompt byte = if is_escape keyboard.escape byte then opened prompt else prompt
 prompt_when true keyboard prompt byte =
     if is_escape keyboard.escape byte then after_escape prompt
     else after_edit (edit_of keyboard.editing prompt.sequence byte) byte prompt
@@ -157,14 +169,13 @@ IsTakenUpTo count keyboard prompt bytes =
     (count ≤ length bytes)
     × ((count ≡ length bytes) ⊎ AskToClose (commands keyboard prompt (take count bytes)))
 
--- the same keyboard, whose keys are those of no characters of the user's own, and with RETURN as CR
+-- the same keyboard, whose keys are those of no characters of the user's own
 abbrev pub unmapped : Keyboard → Keyboard
-unmapped keyboard = record keyboard { own = none_own; returns = CrNul }
+unmapped keyboard = record keyboard { own = none_own }
 
--- what the user's own characters and RETURN make of what a session gets without them; a key that is the escape
--- character was typed after another one
+-- what the user's own characters make of what a session gets without them; a key that is the escape character
+-- was typed after another one
 abbrev pub mapped_input : Keyboard → SessionInput → SessionInput
 mapped_input keyboard (input.Key byte) =
-    if is_escape keyboard.escape byte then input.Key byte
-    else returned keyboard.returns (mapped keyboard.own byte)
+    if is_escape keyboard.escape byte then input.Key byte else input.Key (mapped keyboard.own byte)
 mapped_input keyboard (input.Control control) = input.Control control

@@ -11,7 +11,8 @@ ghost use Rattle.tn_sockets.specs.Passing.{GivesInputs, given_of, handed_on};
 ghost use Rattle.tn_streams.specs.Foretelling.{ForetellsCall};
 ghost use Rattle.tn_streams.specs.Telling.{CountsRead, TellsCall};
 
-use crate::deeds::Deeds;
+use crate::client_files::ClientFiles;
+use crate::deeds::{About, Deeds};
 use crate::escaping::{Escaping, Keyboard, SessionInput};
 use crate::kept;
 use crate::keys::Typing;
@@ -79,7 +80,7 @@ pub struct Console<H, K> {
     asked: Option<Control>,
 }
 
-impl<H: Clock + Copy + Wait, K: Read + Drop> Console<H, K> {
+impl<H: ClientFiles + Clock + Copy + Wait, K: Read + Drop> Console<H, K> {
     /// Keys that come from there, which is standard input, and what they stand for. With an escape character
     /// its user speaks to the client itself.
     pub fn new(rt: H, alloc: Global, mut typing: Typing<H, K>, keyboard: Keyboard) -> Console<H, K>
@@ -194,8 +195,9 @@ impl<H: Clock + Copy + Wait, K: Read + Drop> Console<H, K> {
         ensures asked { self.new.asked ≡ self.old.asked }
     {
         let mut deeds = Deeds {
+            rt: self.rt,
             alloc: self.alloc,
-            typing: &self.typing,
+            about: about(&self.typing),
             terminal: mem::replace(&mut self.terminal, Terminal::new(None, None)),
             own: self.escaping.keyboard.own,
         };
@@ -329,6 +331,19 @@ impl<H: Clock + Copy + Wait, K: Read + Drop> Console<H, K> {
     }
 }
 
+// A session of Telnet, as its user is told of it.
+fn about<H, K>(typing: &Typing<H, K>) -> About<'_> {
+    About {
+        link: &typing.link,
+        host: typing.host.as_str(),
+        port: typing.port,
+        window: Some(WindowSize {
+            width: typing.width,
+            height: typing.height,
+        }),
+    }
+}
+
 // A descriptor that is waited at.
 fn waits_at(fd: i32) -> pollfd {
     pollfd {
@@ -338,7 +353,7 @@ fn waits_at(fd: i32) -> pollfd {
     }
 }
 
-impl<H: Clock + Copy + Wait, K: Read + Drop> Source for Console<H, K> {
+impl<H: ClientFiles + Clock + Copy + Wait, K: Read + Drop> Source for Console<H, K> {
     ghost sizes = { λ _. None };
 
     ghost controls = { λ _. None };

@@ -1,15 +1,15 @@
 //! One typed byte after another.
 
 ghost use Rattle.std.specs.Prelude.{◌≡◌, ◌≤◌, ◌+◌, ◌++◌, List, Option, None, [], ◌∷◌, length, take};
-ghost use Rattle.std.specs.Str.{bytes_eq};
 ghost use Rattle.std.specs.VecDeque.{deque_capacity, deque_len};
 ghost use Rattle.tn_sockets.specs.Prompting.{closed, edit_of};
 ghost use Rattle.tn_sockets.specs.Typing.{IsTakenUpTo, Obeys, command, commands, inputs, is_escape, is_one, meant};
-ghost use Rattle.tn_sockets.specs.Typing.{returned, typed_as};
+ghost use Rattle.tn_sockets.specs.Typing.{returned, returns_of, typed_as};
 ghost use Rattle.tn_sockets.specs.Typing.{of_bytes, prompt_after, prompt_behind, reading, typed_again};
 
 use crate::own_characters::OwnCharacters;
 use crate::prompt::{Edit, Prompt, edit_of};
+use crate::returns::{ReturnKey, is};
 use std::collections::VecDeque;
 use tn_streams::Control;
 
@@ -32,6 +32,12 @@ pub enum EscapeCommand {
     Status,
     /// `suspend` or `z`: stop, until the shell goes on with it.
     Suspend,
+    /// `log` and the name of a file: append to it what the screen gets.
+    LogTo,
+    /// `log off`: end that.
+    LogOff,
+    /// `return` and `crnul`, `crlf` or `lf`: send that at RETURN.
+    Return,
     /// Any other line: it means nothing.
     Unknown,
 }
@@ -79,7 +85,8 @@ pub trait Obey {
     // The commands that were obeyed, where that is told.
     ghost obeyed: { Self → Option (List EscapeCommand) } = { λ _. None };
 
-    fn obey(&mut self, command: EscapeCommand)
+    /// The command is what this line asks for.
+    fn obey(&mut self, command: EscapeCommand, line: &[u8])
         ensures { Obeys (obeyed self.old) (command ∷ []) (obeyed self.new) };
 
     /// Shows this. No command is obeyed by it.
@@ -87,24 +94,14 @@ pub trait Obey {
         ensures { Obeys (obeyed self.old) [] (obeyed self.new) };
 }
 
-/// What the key RETURN sends if keys go one at a time (RFC 1123, section 3.3.1).
-#[derive(Clone, Copy, PartialEq, Eq)]
-pub enum ReturnKey {
-    CrNul,
-    CrLf,
-    Lf,
-}
-
-impl ReturnKey {
-    // A key as it is given to a session: CR, which goes as CR NUL, is RETURN.
-    fn given(self, key: u8) -> Typed
-        ensures { result ≡ typed_as (returned self key) }
-    {
-        match self {
-            ReturnKey::CrLf if key == b'\r' => Typed::Control(Control::NewLine),
-            ReturnKey::Lf if key == b'\r' => Typed::Key(b'\n'),
-            _ => Typed::Key(key),
-        }
+// A key as it is given to a session: CR, which goes as CR NUL, is RETURN.
+fn given(returns: ReturnKey, key: u8) -> Typed
+    ensures { result ≡ typed_as (returned returns key) }
+{
+    match returns {
+        ReturnKey::CrLf if key == b'\r' => Typed::Control(Control::NewLine),
+        ReturnKey::Lf if key == b'\r' => Typed::Key(b'\n'),
+        _ => Typed::Key(key),
     }
 }
 
@@ -117,7 +114,10 @@ pub struct Keyboard {
     pub own: OwnCharacters,
     /// The characters that edit a line which is typed to the client itself.
     pub editing: OwnCharacters,
+    /// What RETURN sends.
     pub returns: ReturnKey,
+    /// Whether a line to the client itself may change that.
+    pub may_change: bool,
 }
 
 impl Keyboard {
@@ -130,6 +130,7 @@ impl Keyboard {
             own: OwnCharacters::none(),
             editing: OwnCharacters::none(),
             returns: ReturnKey::CrNul,
+            may_change: false,
         }
     }
 }
@@ -182,7 +183,17 @@ impl Escaping {
         if escape {
             return Typed::Nothing;
         }
-        self.keyboard.returns.given(self.keyboard.own.mapped(byte))
+        given(self.returns(), self.keyboard.own.mapped(byte))
+    }
+
+    // What RETURN sends.
+    fn returns(&self) -> ReturnKey
+        ensures { result ≡ returns_of self.now.keyboard self.now.prompt }
+    {
+        match self.prompt.returns {
+            Some(returns) if self.keyboard.may_change => returns,
+            _ => self.keyboard.returns,
+        }
     }
 
     // The line behind this byte.
@@ -212,7 +223,7 @@ impl Escaping {
     }
 
     // What is shown of this byte.
-    fn echo(&self, byte: u8) -> Echo {
+    pub(crate) fn echo(&self, byte: u8) -> Echo {
         if !self.prompt.is_open {
             return if self.is_escape(byte) {
                 Echo::Prompt
@@ -262,11 +273,11 @@ impl Escaping {
                     let _pushed = kept.push_back(SessionInput::Control(control));
                 },
                 Typed::Command(EscapeCommand::Close(next)) => {
-                    obeying.obey(EscapeCommand::Close(next));
+                    obeying.obey(EscapeCommand::Close(next), self.prompt.line.as_slice());
                     let taken = place + 1;
                     return taken;
                 },
-                Typed::Command(command) => obeying.obey(command),
+                Typed::Command(command) => obeying.obey(command, self.prompt.line.as_slice()),
                 Typed::Nothing => {},
             }
         }
@@ -330,6 +341,15 @@ fn command_of(line: &[u8]) -> EscapeCommand
     if is_one(line, b"z", b"suspend") {
         return EscapeCommand::Suspend;
     }
+    if is(line, b"log off") {
+        return EscapeCommand::LogOff;
+    }
+    if line.starts_with(b"log ") {
+        return EscapeCommand::LogTo;
+    }
+    if ReturnKey::asked(line).is_some() {
+        return EscapeCommand::Return;
+    }
     EscapeCommand::Unknown
 }
 
@@ -338,10 +358,4 @@ fn is_one(line: &[u8], letter: &[u8], word: &[u8]) -> bool
     ensures { result ≡ is_one line.now letter.now word.now }
 {
     is(line, letter) || is(line, word)
-}
-
-fn is(line: &[u8], word: &[u8]) -> bool
-    ensures { result ≡ bytes_eq line.now word.now }
-{
-    line == word
 }

@@ -1,5 +1,6 @@
 //! The machine that sessions run on.
 
+use crate::client_files::ClientFiles;
 use log::Log;
 use std::io::Print;
 use std::sync::Wait;
@@ -7,10 +8,11 @@ use std::thread::Threads;
 use std::time::Clock;
 
 /// What a session over a connection needs from the machine that it runs on, besides the network:
-/// threads and waits, the clock, standard output for what a client tells its user at a terminal, and a log.
-pub trait Host: Clock + Log + Print + Threads + Wait + Copy + Send + 'static {}
+/// threads and waits, the clock, standard output for what a client tells its user at a terminal, a log, and
+/// the files of a client.
+pub trait Host: ClientFiles + Clock + Log + Print + Threads + Wait + Copy + Send + 'static {}
 
 impl<H> Host for H
 where
-    H: Clock + Log + Print + Threads + Wait + Copy + Send + 'static,
+    H: ClientFiles + Clock + Log + Print + Threads + Wait + Copy + Send + 'static,
 {}

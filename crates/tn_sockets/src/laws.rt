@@ -1,6 +1,6 @@
 //! Laws of what is typed, over the definitions alone.
 
-ghost use Rattle.std.specs.Prelude.{◌≡◌, ℕ, None, Some, List, [], ◌∷◌, ◌++◌, IsFalse, IsTrue, map};
+ghost use Rattle.std.specs.Prelude.{◌≡◌, ◌==◌, ℕ, None, Option, Some, List, [], ◌∷◌, ◌++◌, IsFalse, IsTrue, map};
 ghost use Rattle.tn_codes.specs.declared.codes.Func.{Func};
 ghost use Rattle.std.specs.List.{All};
 ghost use Rattle.tn_discipline.specs.Canon.{typed_entries};
@@ -17,6 +17,7 @@ ghost use Rattle.tn_sockets.specs.declared.escaping.Typed.{Typed};
 ghost use Rattle.tn_sockets.specs.declared.escaping.Typed.TheVariants as typed;
 ghost use Rattle.tn_sockets.specs.declared.own_characters.OwnCharacters.{OwnCharacters};
 ghost use Rattle.tn_sockets.specs.declared.prompt.Prompt.{Prompt};
+ghost use Rattle.tn_sockets.specs.declared.returns.ReturnKey.{ReturnKey};
 
 /// Where there is no escape character and no character of the user's own, every byte is a key.
 pub fn every_byte_is_a_key()
@@ -47,13 +48,19 @@ pub fn standard_characters_change_nothing()
     ensures { (byte : ℕ) → mapped standard_own byte ≡ byte }
 {}
 
-/// The user's own characters, and what RETURN is to send, change which keys a session gets, each by itself,
-/// and nothing else.
+/// The user's own characters change which keys a session gets, each by itself, and nothing else.
 pub fn only_keys_are_mapped()
     ensures inputs { (keyboard : Keyboard) (prompt : Prompt) (bytes : List ℕ) →
         inputs keyboard prompt bytes ≡ map (mapped_input keyboard) (inputs (unmapped keyboard) prompt bytes) }
     ensures commands { (keyboard : Keyboard) (prompt : Prompt) (bytes : List ℕ) →
         commands keyboard prompt bytes ≡ commands (unmapped keyboard) prompt bytes }
+{}
+
+/// What RETURN is to send changes no other key, and no line to the client itself.
+pub fn only_return_is_changed()
+    ensures { (keyboard : Keyboard) (prompt : Prompt) (byte : ℕ) (returns : Option ReturnKey) →
+        IsFalse (byte == 13) → typed_after keyboard prompt byte
+        ≡ typed_after keyboard (record prompt { returns = returns }) byte }
 {}
 
 /// Of a line that is typed to the client itself no byte is a key, but the escape character on an empty one.

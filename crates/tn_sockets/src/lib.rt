@@ -9,7 +9,8 @@
 //! let sent = sending.run()?; // in a thread of its own
 //!
 //! let own = OwnCharacters::none();
-//! let keyboard = Keyboard { escape: Some(0x1d), own, editing: own, returns: ReturnKey::CrNul }; // ^]
+//! let returns = ReturnKey::CrNul;
+//! let keyboard = Keyboard { escape: Some(0x1d), own, editing: own, returns, may_change: true }; // ^]
 //! let mut escaping = Escaping::new(keyboard);
 //! escaping.take(b'a'); // Typed::Key(b'a')
 //! escaping.take(0x1d); // Typed::Nothing
@@ -23,30 +24,35 @@
 #![tactic(auto)]
 
 pub use attended::{Attended, Standing};
+pub use client_files::{ClientFiles, PRIVATE, is_device, open_device};
 pub use connection::{Closing, Connection};
 pub use console::Console;
-pub use escaping::{
-    Echo, EscapeCommand, Escaping, Keyboard, Next, Obey, ReturnKey, SessionInput, Typed,
-};
+pub use deeds::About;
+pub use escaping::{Echo, EscapeCommand, Escaping, Keyboard, Next, Obey, SessionInput, Typed};
 pub use hook::Hook;
 pub use host::Host;
 pub use incoming::Incoming;
 pub use keys::{Keys, Typing};
 pub use link::Link;
 pub use logged::Logged;
+pub use noted::{Noted, NotedWriter};
 pub use outgoing::{NewQueue, Outgoing, Throttle, new_queue};
 pub use own_characters::OwnCharacters;
 pub use pieces::{Piece, PiecePass, PieceReceiver, PieceSender, Queue};
+pub use plain_keys::PlainKeys;
 pub use prompt::{Edit, Prompt, PromptLine, Sequence};
+pub use returns::ReturnKey;
 pub use screen::Screen;
 pub use sending::{Sending, Sent};
 pub use sizes::Sizes;
 pub use terminal::Terminal;
+pub use times::stamp;
 pub use trace::Trace;
 pub use write_log::WriteLog;
 
 mod attended;
 mod bell;
+mod client_files;
 mod connection;
 mod console;
 mod deeds;
@@ -59,15 +65,20 @@ mod keys;
 pub mod laws;
 mod link;
 mod logged;
+mod noted;
 mod outgoing;
 mod own_characters;
 mod pieces;
+mod plain_keys;
 mod presence;
 mod prompt;
+mod returns;
 mod screen;
+mod screen_log;
 mod sending;
 mod sizes;
 mod terminal;
+mod times;
 mod trace;
 mod trace_lines;
 mod write_log;

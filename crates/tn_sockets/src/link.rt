@@ -1,10 +1,13 @@
 //! What the parts of a client's connection know of each other.
 
+use crate::screen_log::ScreenLog;
+use std::alloc::Global;
 use std::fs::File;
+use std::mem;
 use std::net::{Shutdown, TcpStream};
-use std::os::fd::AsRawFd;
 use std::sync::atomic::{AtomicBool, AtomicUsize, Ordering};
-use std::sync::{OnceLock, Wait};
+use std::sync::{Mutex, OnceLock, Wait};
+use std::time::Clock;
 
 /// How often what is sent may have to wait once the user has left, and once nothing more comes. Each time
 /// takes as long as a write waits.
@@ -37,8 +40,10 @@ pub struct Link {
     held: AtomicUsize,
     came: AtomicUsize,
     went: AtomicUsize,
-    /// What gets what the screen gets, and whether it lacks something.
-    log: OnceLock<File>,
+    /// What gets what the screen gets, whether the time stands before each line, and whether one of all logs
+    /// lacks something.
+    log: Mutex<Option<ScreenLog>>,
+    log_has_times: AtomicBool,
     log_lacks: AtomicBool,
 }
 
@@ -59,27 +64,43 @@ impl Link {
             held: AtomicUsize::new(0),
             came: AtomicUsize::new(0),
             went: AtomicUsize::new(0),
-            log: OnceLock::new(),
+            log: Mutex::new(None),
+            log_has_times: AtomicBool::new(false),
             log_lacks: AtomicBool::new(false),
         }
     }
 
-    /// Has what the screen gets appended to this file, unless one gets it already.
+    /// Has what the screen gets appended to this file, in place of one that got it before.
     pub fn log_to<R: Wait>(&self, rt: &R, file: File) {
-        let _ = self.log.set(rt, file);
+        let mut log = self.log.lock(rt);
+        *log = Some(ScreenLog::new(file));
     }
 
-    /// Whether the file has all that the screen got since.
+    /// Has the time put before each line of a log.
+    pub fn time_log(&self) {
+        self.log_has_times.store(true, Ordering::SeqCst);
+    }
+
+    /// Ends the log. Whether there was one.
+    pub(crate) fn end_log<R: Wait>(&self, rt: &R) -> bool {
+        let mut log = self.log.lock(rt);
+        mem::replace(&mut *log, None).is_some()
+    }
+
+    /// Whether each file has all that the screen got while it was the log.
     pub fn is_log_whole(&self) -> bool {
         !self.log_lacks.load(Ordering::SeqCst)
     }
 
     /// The screen got these bytes.
-    pub(crate) fn log(&self, bytes: &[u8]) {
-        if let Some(file) = self.log.get() {
-            if !append_all(file.as_raw_fd(), bytes) {
-                self.log_lacks.store(true, Ordering::SeqCst);
-            }
+    pub(crate) fn log<R: Clock + Wait>(&self, rt: &R, alloc: Global, bytes: &[u8]) {
+        let mut log = self.log.lock(rt);
+        let Some(log) = &mut *log else {
+            return;
+        };
+        let has_times = self.log_has_times.load(Ordering::SeqCst);
+        if !log.append(rt, alloc, has_times, bytes) {
+            self.log_lacks.store(true, Ordering::SeqCst);
         }
     }
 
@@ -216,22 +237,4 @@ impl Link {
     pub(crate) fn echoes_there(&self) -> bool {
         self.echoes_there.load(Ordering::SeqCst)
     }
-}
-
-// Writes all of this to a descriptor, in as many writes as it takes. Whether it was written.
-fn append_all(fd: i32, bytes: &[u8]) -> bool {
-    let mut done = 0usize;
-    for _ in 0..bytes.len() {
-        let Some(rest) = bytes.get(done..) else {
-            return true;
-        };
-        if rest.is_empty() {
-            return true;
-        }
-        let Ok(count) = usize::try_from(libc::write(fd, rest)) else {
-            return false;
-        };
-        done = done.saturating_add(count);
-    }
-    done >= bytes.len()
 }

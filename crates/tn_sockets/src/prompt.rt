@@ -1,10 +1,11 @@
 //! The line that a user types to the client itself, behind the escape character.
 
-ghost use Rattle.std.specs.Prelude.{◌≡◌, []};
+ghost use Rattle.std.specs.Prelude.{◌≡◌, [], false};
 ghost use Rattle.tn_sockets.specs.Prompting.{after_edit, after_escape, closed, edit_by, edit_of, opened};
-ghost use Rattle.tn_sockets.specs.Prompting.{plain_edit, with_added, without_last};
+ghost use Rattle.tn_sockets.specs.Prompting.{last_return, plain_edit, with_added, without_last};
 
 use crate::own_characters::OwnCharacters;
+use crate::returns::ReturnKey;
 use arrayvec::ArrayVec;
 use std::marker::Model;
 
@@ -102,6 +103,8 @@ pub struct Prompt {
     /// The line; of one that ended, what it was.
     pub line: PromptLine,
     pub sequence: Sequence,
+    /// What RETURN is to send by the last line that asked for that.
+    pub returns: Option<ReturnKey>,
 }
 
 impl Prompt {
@@ -113,12 +116,13 @@ impl Prompt {
             is_open: false,
             line: PromptLine::new(),
             sequence: Sequence::Nothing,
+            returns: None,
         }
     }
 
     /// A line begins.
     pub(crate) fn open(&mut self)
-        ensures { self.new ≡ opened }
+        ensures { self.new ≡ opened self.old }
     {
         self.line.clear();
         self.is_open = true;
@@ -139,12 +143,24 @@ impl Prompt {
     {
         self.sequence = Sequence::Nothing;
         match edit {
-            Edit::Enter | Edit::Leave => self.is_open = false,
+            Edit::Enter => self.enter(),
+            Edit::Leave => self.is_open = false,
             Edit::Erase => self.line.erase(),
             Edit::Kill => self.line.clear(),
             Edit::Add => self.line.add(byte),
             Edit::Skip(sequence) => self.sequence = sequence,
             Edit::Refuse => {},
+        }
+    }
+
+    // Ends the line.
+    fn enter(&mut self)
+        ensures { self.new
+            ≡ record self.old { is_open = false; returns = last_return self.old.line self.old.returns } }
+    {
+        self.is_open = false;
+        if let Some(asked) = ReturnKey::asked(self.line.as_slice()) {
+            self.returns = Some(asked);
         }
     }
 

@@ -4,19 +4,22 @@ use crate::link::Link;
 use std::alloc::Global;
 use std::io;
 use std::io::{ErrorKind, Write};
-use std::sync::Arc;
+use std::sync::{Arc, Wait};
+use std::time::Clock;
 
 /// A screen. Once it takes no more, the connection is of no use, and is ended: else the session would wait
 /// for the other end to close. What it gets, the log of the connection gets.
 #[derive(Drop)]
-pub struct Screen<S> {
+pub struct Screen<H, S> {
+    pub rt: H,
+    pub alloc: Global,
     /// What is written to.
     pub writer: S,
     /// The connection.
     pub link: Arc<Link, Global>,
 }
 
-impl<S: Write> Write for Screen<S> {
+impl<H: Clock + Wait, S: Write> Write for Screen<H, S> {
     ghost contents = { λ screen. S.Write.contents screen.writer };
 
     fn write(&mut self, buf: &[u8]) -> io::Result<usize> {
@@ -29,7 +32,7 @@ impl<S: Write> Write for Screen<S> {
             self.link.darken();
         }
         if let Ok(count) = &wrote {
-            self.link.log(&buf[..*count]);
+            self.link.log(&self.rt, self.alloc, &buf[..*count]);
         }
         wrote
     }

@@ -4,14 +4,14 @@
 ghost use Rattle.std.specs.Prelude.{◌≡◌, IsTrue, IsFalse, OnOk, OnErr};
 ghost use Rattle.tn_sockets.specs.Traces.{HoldsNothing, Passes};
 
-use crate::trace_lines::{Side, write_timed};
+use crate::trace_lines::{Side, data_lines, write_timed};
 use std::alloc::{AllocError, Global};
 use std::fs::File;
 use std::io;
 use std::io::Write;
 use std::sync::{Arc, Mutex, Wait};
 use std::time::{Clock, Duration, Instant};
-use tn_decode::Prefix;
+use tn_decode::{Lines, Prefix};
 
 /// Which way bytes pass.
 #[derive(Clone, Copy)]
@@ -55,6 +55,29 @@ impl<W: Write> Sides<W> {
     }
 }
 
+// The same without Telnet, whose bytes are data.
+#[derive(Drop)]
+struct PlainSides {
+    alloc: Global,
+    came: Lines,
+    went: Lines,
+    file: File,
+    failed: bool,
+}
+
+impl PlainSides {
+    fn pass(&mut self, time: Duration, direction: Direction, piece: &[u8]) -> io::Result<()> {
+        self.failed = true;
+        let text = match direction {
+            Direction::Came => data_lines(&mut self.came, piece)?,
+            Direction::Went => data_lines(&mut self.went, piece)?,
+        };
+        write_timed(self.alloc, time, &text, &mut self.file)?;
+        self.failed = false;
+        Ok(())
+    }
+}
+
 /// Notes what passes, if a trace is wanted, and when: what is read or written at once has one time. Where
 /// there is no clock, each time is that of the beginning.
 #[derive(Drop)]
@@ -62,6 +85,7 @@ pub struct Trace<H> {
     rt: H,
     begin: Option<Instant>,
     sides: Option<Arc<Mutex<Sides<File>>, Global>>,
+    plain: Option<Arc<Mutex<PlainSides>, Global>>,
 }
 
 impl<H: Clock + Copy + Wait> Trace<H> {
@@ -69,8 +93,12 @@ impl<H: Clock + Copy + Wait> Trace<H> {
     pub fn new(rt: H, alloc: Global, file: Option<File>) -> Result<Trace<H>, AllocError> {
         let begin = Instant::now(&rt).ok();
         let Some(file) = file else {
-            let sides = None;
-            return Ok(Trace { rt, begin, sides });
+            return Ok(Trace {
+                rt,
+                begin,
+                sides: None,
+                plain: None,
+            });
         };
         let sides = Sides {
             alloc,
@@ -80,8 +108,32 @@ impl<H: Clock + Copy + Wait> Trace<H> {
             failed: false,
         };
         let sides = Arc::new(alloc, Mutex::new(sides))?;
-        let sides = Some(sides);
-        Ok(Trace { rt, begin, sides })
+        Ok(Trace {
+            rt,
+            begin,
+            sides: Some(sides),
+            plain: None,
+        })
+    }
+
+    /// A trace of what passes without Telnet, into this file, or none.
+    pub fn without_telnet(
+        rt: H,
+        alloc: Global,
+        file: Option<File>,
+    ) -> Result<Trace<H>, AllocError> {
+        let mut trace = Trace::new(rt, alloc, None)?;
+        if let Some(file) = file {
+            let plain = PlainSides {
+                alloc,
+                came: Lines::new(alloc, Prefix::Came),
+                went: Lines::new(alloc, Prefix::Gone),
+                file,
+                failed: false,
+            };
+            trace.plain = Some(Arc::new(alloc, Mutex::new(plain))?);
+        }
+        Ok(trace)
     }
 
     /// The same trace, for one more part of the connection.
@@ -90,8 +142,16 @@ impl<H: Clock + Copy + Wait> Trace<H> {
             Some(sides) => Some(Arc::try_clone(sides)?),
             None => None,
         };
-        let (rt, begin) = (self.rt, self.begin);
-        Ok(Trace { rt, begin, sides })
+        let plain = match &self.plain {
+            Some(plain) => Some(Arc::try_clone(plain)?),
+            None => None,
+        };
+        Ok(Trace {
+            rt: self.rt,
+            begin: self.begin,
+            sides,
+            plain,
+        })
     }
 
     // How long after the beginning it is.
@@ -102,7 +162,19 @@ impl<H: Clock + Copy + Wait> Trace<H> {
         }
     }
 
+    // Notes what passes without Telnet.
+    fn note_data(&self, direction: Direction, bytes: &[u8]) {
+        let Some(plain) = &self.plain else {
+            return;
+        };
+        let mut plain = plain.lock(&self.rt);
+        if !plain.failed {
+            let _ = plain.pass(self.time(), direction, bytes);
+        }
+    }
+
     pub(crate) fn note(&self, direction: Direction, bytes: &[u8]) {
+        self.note_data(direction, bytes);
         let Some(sides) = &self.sides else {
             return;
         };
@@ -116,6 +188,13 @@ impl<H: Clock + Copy + Wait> Trace<H> {
     pub fn is_whole(&self) -> bool {
         match &self.sides {
             Some(sides) => !sides.lock(&self.rt).failed,
+            None => self.has_all_data(),
+        }
+    }
+
+    fn has_all_data(&self) -> bool {
+        match &self.plain {
+            Some(plain) => !plain.lock(&self.rt).failed,
             None => true,
         }
     }

@@ -12,7 +12,7 @@ use std::io;
 use std::io::Write;
 use std::time::Duration;
 use tn_decode::{Lines, Prefix};
-use tn_nvt::Decoder;
+use tn_nvt::{Decoder, Item, Sink};
 
 /// One direction of a connection, as it is read. No line waits in it.
 #[derive(Drop)]
@@ -46,6 +46,17 @@ impl Side {
         self.lines.end_data()?;
         Ok(self.lines.take_text())
     }
+}
+
+/// The lines of a piece of what passes without Telnet: all of its bytes are data.
+pub(crate) fn data_lines(lines: &mut Lines, piece: &[u8]) -> Result<Vec<u8>, AllocError> {
+    for byte in piece {
+        if lines.item(Item::Byte(*byte)).is_err() {
+            return Err(AllocError);
+        }
+    }
+    lines.end_data()?;
+    Ok(lines.take_text())
 }
 
 /// Writes a text at this time: each line of it is behind the time.
@@ -92,8 +103,13 @@ fn timed(alloc: Global, stamp: &[u8], text: &[u8]) -> Result<Vec<u8>, AllocError
     Ok(lines)
 }
 
-// Appends a byte, behind the stamp where a line begins with it. Returns whether another line begins then.
-fn push_timed(begins: bool, byte: u8, stamp: &[u8], lines: &mut Vec<u8>) -> Result<bool, AllocError>
+/// Appends a byte, behind the stamp where a line begins with it. Returns whether another line begins then.
+pub(crate) fn push_timed(
+    begins: bool,
+    byte: u8,
+    stamp: &[u8],
+    lines: &mut Vec<u8>,
+) -> Result<bool, AllocError>
     ensures pushed { OnOk result (lines.new.items
         ≡ lines.old.items ++ (stamp_where begins stamp.now ++ byte ∷ [])) }
     ensures begins { IfOk result (λ begins. begins ≡ (byte == 10)) }

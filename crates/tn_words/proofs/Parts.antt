@@ -68,6 +68,8 @@ connect_numbers_of asked = record {
   wait = asked.wait;
   patience = asked.patience;
   timeout = asked.dialing.seconds;
+  log_times = asked.log_times;
+  text = asked.text;
   quiet = asked.quiet;
 }
 
@@ -80,5 +82,7 @@ connect_numbers_asked rows asked asks = record {
   wait = asks.wait;
   patience = asks.patience;
   timeout = asks.timeout;
+  log_times = asks.log_times;
+  text = asks.text;
   quiet = asks.quiet;
 }

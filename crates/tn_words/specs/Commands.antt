@@ -113,6 +113,8 @@ connect = with_rules (codes "connect") (
     ∷ text_rule (codes "return")
     ∷ text_rule (codes "trace")
     ∷ text_rule (codes "log")
+    ∷ flag_rule (codes "log-times")
+    ∷ flag_rule (codes "text")
     ∷ wait_rule
     ∷ patience_rule
     ∷ with_default (whole_rule (codes "timeout") 0 86400) (codes "0")

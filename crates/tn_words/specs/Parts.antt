@@ -35,4 +35,6 @@ pub record AsksConnectNumbers (rows : List Row) (asked : ConnectNumbers) : Type 
   pub wait : HasNumber rows (codes "wait") 0 86400 asked.wait
   pub patience : HasNumber rows (codes "patience") 0 86400 asked.patience
   pub timeout : HasNumber rows (codes "timeout") 0 86400 asked.timeout
+  pub log_times : HasFlag rows (codes "log-times") asked.log_times
+  pub text : HasFlag rows (codes "text") asked.text
   pub quiet : HasFlag rows (codes "quiet") asked.quiet

@@ -230,8 +230,7 @@ pub record AsksPlace (rows : List Row) (host : Text) (port : Port) : Type 0 wher
 -- an option is given that is of use to a client of Telnet alone
 abbrev pub has_telnet_option : List Row → Bool
 has_telnet_option rows =
-    is_given (codes "escape") rows || is_given (codes "return") rows || is_given (codes "trace") rows
-    || is_given (codes "width") rows || is_given (codes "height") rows
+    is_given (codes "return") rows || is_given (codes "width") rows || is_given (codes "height") rows
 
 -- the line end that `--plain`, `--lf` and `--cr` choose, or none of it; no other choice of them is accepted,
 -- and with `--plain` no option for Telnet
@@ -305,6 +304,8 @@ pub record AsksConnect (rows : List Row) (asked : ConnectWords) : Type 0 where
   pub returns : return_in rows ≡ Some asked.returns
   pub trace : option_map string_bytes asked.trace ≡ first_of (codes "trace") rows
   pub log : option_map string_bytes asked.log ≡ first_of (codes "log") rows
+  pub log_times : HasFlag rows (codes "log-times") asked.log_times
+  pub text : HasFlag rows (codes "text") asked.text
   pub wait : HasNumber rows (codes "wait") 0 86400 asked.wait
   pub patience : HasNumber rows (codes "patience") 0 86400 asked.patience
   pub timeout : HasNumber rows (codes "timeout") 0 86400 asked.dialing.seconds

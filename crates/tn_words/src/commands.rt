@@ -176,6 +176,10 @@ pub(crate) const TRACE: &str = "trace";
 
 pub(crate) const LOG: &str = "log";
 
+pub(crate) const LOG_TIMES: &str = "log-times";
+
+pub(crate) const TEXT: &str = "text";
+
 pub(crate) const LOCALLY: &str = "local";
 
 pub(crate) const VERBOSE: &str = "verbose";
@@ -395,6 +399,14 @@ const CONNECT_CHOICES: &[Choice] = &[
         "Writes to this file what goes over the connection; what it had is kept in FILE~",
     ),
     Choice::Text(LOG, "FILE", "Appends to this file what the screen gets"),
+    Choice::Flag(
+        LOG_TIMES,
+        "Puts the time, in UTC, before each line of a log",
+    ),
+    Choice::Flag(
+        TEXT,
+        "From a pipe: takes CR LF as one RETURN, and LF as RETURN",
+    ),
     Choice::Wait,
     Choice::Patience,
     Choice::Default(
@@ -641,7 +653,8 @@ fn connect_command<C: Grow>(alloc: Global) -> Result<C, AllocError>
          once, and sets it back at the end. With `tn serve` at the other end, the line `exit` ends the \
          session, and so does ^D on an empty line.\n\n\
          There ^] begins a line to the client itself, which RETURN ends: quit, close or q; again; status or s; suspend or z; \
-         send brk, send ip and send ayt, or b, i and a; help or ?. An empty line goes back, and ^] again sends ^].",
+         log FILE and log off; send brk, send ip and send ayt, or b, i and a, but with --plain; help or ?. An empty \
+         line goes back, and ^] again sends ^].",
         "Example, where `tn serve --port 2323` runs in another terminal:\n  \
          printf 'hello\\rexit\\r' | tn connect --port 2323",
     );

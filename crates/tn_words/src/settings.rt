@@ -294,6 +294,10 @@ pub struct ConnectWords {
     pub trace: Option<String>,
     /// The file that gets what the screen gets.
     pub log: Option<String>,
+    /// Whether the time stands before each line of a log.
+    pub log_times: bool,
+    /// Whether the keys from a pipe are lines of a text, each of which RETURN ends.
+    pub text: bool,
     /// How many seconds after the end of its input the server is told that no more comes, from 0 to 86,400.
     pub wait: u32,
     /// For how many seconds nothing may come after that, from 0 to 86,400; at 0 it may for ever.

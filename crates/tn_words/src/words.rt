@@ -17,9 +17,9 @@ ghost use Rattle.tn_words.specs.Words.{service_line_end_in, usual_line};
 
 use crate::commands::{
     BANNER, CONNECT, COUNT, CR, CRLF, DECODE, DIAL, DRAIN, ESCAPE, FOREVER, HEIGHT, HOST, IDLE,
-    KEYS, LF, LIMIT, LINE, LINE_CUT, LOCAL, LOCALLY, LOG, LONGEST, METRICS, MOST_PATH, NOTES,
-    PATIENCE, PER_HOST, PLAIN, PROXIED, QUIET, REPLAY, RETURN, SERVE, SIGNALS, TICKS, TIMEOUT, TO,
-    TRACE, UNTIL, VERBOSE, VERSION_LINE, WAIT, WIDTH, WORLD, Whole, tn_command,
+    KEYS, LF, LIMIT, LINE, LINE_CUT, LOCAL, LOCALLY, LOG, LOG_TIMES, LONGEST, METRICS, MOST_PATH,
+    NOTES, PATIENCE, PER_HOST, PLAIN, PROXIED, QUIET, REPLAY, RETURN, SERVE, SIGNALS, TEXT, TICKS,
+    TIMEOUT, TO, TRACE, UNTIL, VERBOSE, VERSION_LINE, WAIT, WIDTH, WORLD, Whole, tn_command,
 };
 use crate::dialing::{family_in, source_of};
 use crate::places::place_of;
@@ -101,8 +101,7 @@ pub(crate) enum Lack<'a> {
 
 const NO_LINE_END: &str = "'--lf' and '--cr' exclude each other, and need '--plain'";
 
-const NO_TELNET: &str =
-    "'--plain' excludes '--escape', '--return', '--trace', '--width' and '--height'";
+const NO_TELNET: &str = "'--plain' excludes '--return', '--width' and '--height'";
 
 const NO_ESCAPE: &str =
     "'--escape <C>': it is neither `none` nor a caret and one of A to Z, [, \\, ], ^ and _";
@@ -503,6 +502,8 @@ fn connecting(alloc: Global, words: &ArgMatches<'_>) -> Result<ConnectWords, Wor
         returns,
         trace,
         log,
+        log_times: numbers.log_times,
+        text: numbers.text,
         wait: numbers.wait,
         patience: numbers.patience,
         dialing: Dialing {
@@ -515,7 +516,7 @@ fn connecting(alloc: Global, words: &ArgMatches<'_>) -> Result<ConnectWords, Wor
     })
 }
 
-/// The numbers of how to connect, and its flag.
+/// The numbers of how to connect, and its flags.
 #[derive(Clone, Copy)]
 struct ConnectNumbers {
     width: Option<u16>,
@@ -524,10 +525,12 @@ struct ConnectNumbers {
     wait: u32,
     patience: u32,
     timeout: u32,
+    log_times: bool,
+    text: bool,
     quiet: bool,
 }
 
-// The numbers and the flag; `None` where a number is missing or out of its range.
+// The numbers and the flags; `None` where a number is missing or out of its range.
 fn connect_numbers(words: &ArgMatches<'_>) -> Option<ConnectNumbers>
     ensures asked { IfSome result (AsksConnectNumbers (rows_of (found_of words.now))) }
     ensures none { result ≡ None → (asked : ConnectNumbers) →
@@ -540,6 +543,8 @@ fn connect_numbers(words: &ArgMatches<'_>) -> Option<ConnectNumbers>
         wait: number(words, WAIT)?,
         patience: number(words, PATIENCE)?,
         timeout: number(words, TIMEOUT)?,
+        log_times: words.get_flag(LOG_TIMES),
+        text: words.get_flag(TEXT),
         quiet: words.get_flag(QUIET),
     })
 }
@@ -623,12 +628,10 @@ fn chosen_line_end(plain: bool, lf: bool, cr: bool, telnet: bool) -> Option<Opti
 fn has_telnet_option(words: &ArgMatches<'_>) -> bool
     ensures { result ≡ has_telnet_option (rows_of (found_of words.now)) }
 {
-    let escape = is_given(words, ESCAPE);
     let returns = is_given(words, RETURN);
-    let trace = is_given(words, TRACE);
     let width = is_given(words, WIDTH.name);
     let height = is_given(words, HEIGHT.name);
-    escape || returns || trace || width || height
+    returns || width || height
 }
 
 // What is wrong where the words choose no line end.

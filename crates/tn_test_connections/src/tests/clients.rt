@@ -55,6 +55,7 @@ where
         origin: KeySource::Reader,
         escape: None,
         returns: ReturnKey::CrNul,
+        text: false,
         wait: 0,
         patience: 0,
         dialing: Dialing::within(0),
@@ -88,6 +89,8 @@ where
 {
     let link = link(alloc)?;
     let mut screen = Screen {
+        rt,
+        alloc,
         writer: Dead,
         link: Arc::try_clone(&link)?,
     };

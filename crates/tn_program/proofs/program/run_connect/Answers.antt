@@ -1,4 +1,4 @@
-use Rattle.std.proofs.Common.{IfOk, List, ℕ, inl, inr, refl, subst}
+use Rattle.std.proofs.Common.{Bool, IfOk, List, ℕ, inl, inr, refl, subst}
 use Rattle.tn_connect.specs.Clients.{ConnectsBy, RunsClient, connection_of, foreseen, window_of}
 use Rattle.tn_connect.specs.declared.settings.KeySource.{KeySource}
 use Rattle.tn_network.specs.Asked.{ReachesBy}
@@ -39,14 +39,19 @@ returns-clause-comes g c = (
     telnet = c.requires;
     port = c.in-Some.port;
     is_port = c.in-Some.ensures.port;
-    ran = subst (λ (w : Window). IfOk c.connect.result (λ r. RunsClient w (foreseen c.args.streams.origin (g.R.Read.remaining c.args.streams.reader))
+    ran = subst (λ (w : Window). IfOk c.connect.result (λ r. RunsClient w (foreseen c.args.streams.origin c.args.asked.text (g.R.Read.remaining c.args.streams.reader))
         (g.W.Write.contents c.args.writer.now) (g.W.Write.contents c.connect.new.screen) r)) c.connecting_of-connecting.ensures.window
         (subst (λ (k : KnownTyping). IfOk c.connect.result (λ r. RunsClient (window_of c.connecting_of-connecting.result) k
         (g.W.Write.contents c.args.writer.now) (g.W.Write.contents c.connect.new.screen) r))
-        (foreseen_as c.args.asked.characters c.args.streams.origin (g.R.Read.remaining c.args.streams.reader))
+        (foreseen_as c.args.asked.characters c.args.streams.origin c.args.asked.text (g.R.Read.remaining c.args.streams.reader))
         (subst (λ (o : KeySource). IfOk c.connect.result (λ r. RunsClient (window_of c.connecting_of-connecting.result)
-        (foreseen o (g.R.Read.remaining c.args.streams.reader)) (g.W.Write.contents c.args.writer.now) (g.W.Write.contents c.connect.new.screen) r))
-        c.connecting_of-connecting.ensures.origin c.connect.ensures.ran));
+        (foreseen o c.args.asked.text (g.R.Read.remaining c.args.streams.reader)) (g.W.Write.contents c.args.writer.now)
+        (g.W.Write.contents c.connect.new.screen) r))
+        c.connecting_of-connecting.ensures.origin
+        (subst (λ (b : Bool). IfOk c.connect.result (λ r. RunsClient (window_of c.connecting_of-connecting.result)
+        (foreseen c.connecting_of-connecting.result.origin b (g.R.Read.remaining c.args.streams.reader)) (g.W.Write.contents c.args.writer.now)
+        (g.W.Write.contents c.connect.new.screen) r))
+        c.connecting_of-connecting.ensures.text c.connect.ensures.ran)));
     whole = c.connect.ensures.whole;
     reached = inl (subst (λ (host : List ℕ). ConnectsBy connection_of
         (ReachesBy (suits c.args.asked.dialing) (g.H.Network.finds c.args.rt host c.in-Some.port) (g.H.Network.dials c.args.rt)) c.connect.result)

@@ -21,6 +21,9 @@ returns-in_default-clause-comes g c = (
   },
 )
 
+pub returns-in_default-open_trace-clause-comes : goal.returns-in_default-open_trace-clause-comes
+returns-in_default-open_trace-clause-comes g c = (c.args.asked.now, refl, inl c.in_default-open_trace.ensures, refl)
+
 pub returns-in_default-open_log-clause-comes : goal.returns-in_default-open_log-clause-comes
 returns-in_default-open_log-clause-comes g c = (c.args.asked.now, refl, inr c.in_default-open_log.ensures, refl)
 

@@ -27,9 +27,19 @@ returns-clause-asked c = record {
   wait = c.in_ok-number.ensures.some;
   patience = c.in_ok-number-2.ensures.some;
   timeout = c.in_ok-number-3.ensures.some;
+  log_times = record {
+    given = λ is. c.get_flag.ensures.value (one_text-rows (found_of c.args.words.now) (codes "log-times") ∙ is);
+    not_given = λ is. c.get_flag.ensures.other (one_text-rows (found_of c.args.words.now) (codes "log-times") ∙ is);
+    unknown = λ is. c.get_flag.ensures.none (one_text-rows (found_of c.args.words.now) (codes "log-times") ∙ is);
+  };
+  text = record {
+    given = λ is. c.get_flag-2.ensures.value (one_text-rows (found_of c.args.words.now) (codes "text") ∙ is);
+    not_given = λ is. c.get_flag-2.ensures.other (one_text-rows (found_of c.args.words.now) (codes "text") ∙ is);
+    unknown = λ is. c.get_flag-2.ensures.none (one_text-rows (found_of c.args.words.now) (codes "text") ∙ is);
+  };
   quiet = record {
-    given = λ is. c.get_flag.ensures.value (one_text-rows (found_of c.args.words.now) (codes "quiet") ∙ is);
-    not_given = λ is. c.get_flag.ensures.other (one_text-rows (found_of c.args.words.now) (codes "quiet") ∙ is);
-    unknown = λ is. c.get_flag.ensures.none (one_text-rows (found_of c.args.words.now) (codes "quiet") ∙ is);
+    given = λ is. c.get_flag-3.ensures.value (one_text-rows (found_of c.args.words.now) (codes "quiet") ∙ is);
+    not_given = λ is. c.get_flag-3.ensures.other (one_text-rows (found_of c.args.words.now) (codes "quiet") ∙ is);
+    unknown = λ is. c.get_flag-3.ensures.none (one_text-rows (found_of c.args.words.now) (codes "quiet") ∙ is);
   };
 }

@@ -1,5 +1,5 @@
 use Rattle.std.proofs.Common.{refl, true}
-use Rattle.tn_lines_client.proofs.Ending.{by_bytes, by_keys, by_room, writes_none}
+use Rattle.tn_lines_client.proofs.Ending.{by_asking, by_bytes, by_keys, by_room, writes_none}
 use Rattle.tn_lines_client.proofs.Going.{waited}
 use Rattle.tn_lines_client.proofs.talk.Talk.turn.Goals as goal
 
@@ -20,6 +20,9 @@ pub returns-in-End-clause-goes_on : goal.returns-in-End-clause-goes_on
 returns-in-End-clause-goes_on g c = λ kind at first had.
     c.finish.ensures.goes_on _ _ _ _ kind at first (waited kind at first _ _ _ _ _ _ c.args.self.now c.next.ensures had)
 
+pub returns-in-Leave-clause-goes_on : goal.returns-in-Leave-clause-goes_on
+returns-in-Leave-clause-goes_on g c = λ kind at first had. waited kind at first _ _ _ _ _ _ c.args.self.now c.next.ensures had
+
 pub returns-in_ok-take_keys-in-Keys-clause-ends : goal.returns-in_ok-take_keys-in-Keys-clause-ends
 returns-in_ok-take_keys-in-Keys-clause-ends g c =
     let over = c.leave-over.ensures in by_keys _ _ _ _ _ _ c.leave-over.result over.only over.leaves over.writes
@@ -35,3 +38,6 @@ returns-in-Room-clause-ends g c =
 
 pub returns-in-End-clause-ends : goal.returns-in-End-clause-ends
 returns-in-End-clause-ends g c = let done = c.finish.ensures in by_room _ _ _ _ _ _ true _ refl done.lines (writes_none _ _ done.told)
+
+pub returns-in-Leave-clause-ends : goal.returns-in-Leave-clause-ends
+returns-in-Leave-clause-ends g c = by_asking _ _ _ _ _ _ refl refl

@@ -1,8 +1,8 @@
 use Rattle.std.proofs.Common.{rules, ◌≡◌, ◌+◌, ◌-◌, ◌%◌, drop, take, arith}
 use Rattle.httpdate.specs.Calendar.{days_from_civil}
-use Rattle.tn_serve.specs.Times.{hyphenated}
-use Rattle.tn_serve.proofs.times.time_text.Goals as goal
-use Rattle.tn_serve.proofs.Dating.{in_order, ordered}
+use Rattle.tn_sockets.specs.Times.{hyphenated}
+use Rattle.tn_sockets.proofs.times.time_text.Goals as goal
+use Rattle.tn_sockets.proofs.Dating.{in_order, ordered}
 
 pub returns : goal.returns
 returns c =

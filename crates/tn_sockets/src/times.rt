@@ -1,8 +1,8 @@
-//! The time that a note begins with.
+//! The time that a line of notes or of a log begins with.
 
 ghost use Rattle.std.specs.Duration.{as_nanos};
 ghost use Rattle.std.specs.Prelude.{◌≡◌, IfOk, bytes_eq};
-ghost use Rattle.tn_serve.specs.Times.{IsStamp, IsTimeText, hyphenated, instant_text, last_digit};
+ghost use Rattle.tn_sockets.specs.Times.{IsStamp, IsTimeText, hyphenated, instant_text, last_digit};
 
 use httpdate::HttpDate;
 use std::alloc::{AllocError, Global};
@@ -10,7 +10,7 @@ use std::time::{Clock, Duration, SystemTime};
 
 /// The time and a space: in UTC, to the millisecond, as `2026-11-26T20:11:07.123Z`. It is empty where the
 /// machine has no clock.
-pub(crate) fn stamp<C: Clock>(clock: &C, alloc: Global) -> Result<Vec<u8>, AllocError>
+pub fn stamp<C: Clock>(clock: &C, alloc: Global) -> Result<Vec<u8>, AllocError>
     ensures { IfOk result (λ text. IsStamp text.items) }
 {
     let Ok(now) = SystemTime::now(clock) else {

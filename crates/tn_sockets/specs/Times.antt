@@ -1,4 +1,4 @@
--- The time that a note begins with (RFC 3339, 5.6): in UTC, to the millisecond.
+-- The time that a line of notes or of a log begins with (RFC 3339, 5.6): in UTC, to the millisecond.
 use Rattle.std.specs.Prelude.{◌≡◌, ℕ, ◌+◌, ◌/◌, ◌%◌, ◌<◌, ◌≤◌, ◌⊎◌, List, [], ◌∷◌, ◌++◌, codes, bytes_eq, if◌then◌else◌}
 use Rattle.httpdate.specs.declared.parts.Parts.{Parts}
 use Rattle.httpdate.specs.declared.date.HttpDate.{HttpDate}

@@ -1,8 +1,8 @@
 use Rattle.std.proofs.Common.{arith, ap, refl, ◌∙◌}
 use Rattle.std.proofs.lemmas.Result.{IfOk-weaker}
 use Rattle.std.specs.Duration.{as_nanos}
-use Rattle.tn_serve.specs.Times.{IsTimeText, instant_text}
-use Rattle.tn_serve.proofs.times.since_1970.Goals as goal
+use Rattle.tn_sockets.specs.Times.{IsTimeText, instant_text}
+use Rattle.tn_sockets.proofs.times.since_1970.Goals as goal
 
 pub returns-in-Ok : goal.returns-in-Ok
 returns-in-Ok c =
