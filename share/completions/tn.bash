@@ -1,5 +1,10 @@
 # shellcheck shell=bash
 # Completions of tn for bash: written by tools/completions -w from the program's help.
+_tn_hosts() {
+    local folder=${XDG_CONFIG_HOME-}
+    if [[ $folder != /* ]]; then folder=${HOME-}/.config; fi
+    sed -n 's/^[[:space:]]*\["\{0,1\}\([^]"[:space:].]*\)"\{0,1\}\].*/\1/p' "$folder/tn/hosts" 2>/dev/null
+}
 _tn() {
     local word=${COMP_WORDS[COMP_CWORD]} before=${COMP_WORDS[COMP_CWORD - 1]} words
     COMPREPLY=()
@@ -33,7 +38,7 @@ _tn() {
             serve)
                 words='--host -p --port --listen-fd --stdin --limit --per-host --count --forever --until --ticks --line --idle --longest --drain --proxy --local --verbose --notes --metrics --banner --to --dial --crlf --cr --line-cut --signals -h --help' ;;
             connect)
-                if [[ $word != -* ]]; then mapfile -t COMPREPLY < <(compgen -A hostname -A service -- "$word"); return; fi
+                if [[ $word != -* ]]; then mapfile -t COMPREPLY < <(compgen -A hostname -A service -W "$(_tn_hosts)" -- "$word"); return; fi
                 words='-p --port --width --height --line --escape --keys --return --trace --log --log-times --text -q -w --timeout --again -4 --ipv4 -6 --ipv6 --bind --quiet --plain --lf --cr -h --help' ;;
             help)
                 words='local replay decode world serve connect help' ;;

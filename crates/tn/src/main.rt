@@ -20,6 +20,7 @@ use std::os::fd::AsRawFd;
 use std::process::ExitCode;
 use std::sync::Arc;
 use std::{env, io, str};
+use tn_hosts::start_with;
 use tn_program::{
     KeySource, Link, OWN_LENGTH, Outlet, OwnCharacters, Screen, Streams, own_characters, run_words,
 };
@@ -140,6 +141,23 @@ fn is_session(words: &io::Result<Vec<String>>) -> bool {
     }
 }
 
+// The words that these stand for by the user's file of hosts, or the status to end with. At a terminal the
+// launcher has asked for them.
+fn expanded(
+    rt: &HostRuntime,
+    alloc: Global,
+    words: io::Result<Vec<String>>,
+) -> Result<io::Result<Vec<String>>, u8> {
+    match words {
+        Ok(words) => {
+            let is_expanded = is_set(rt, TERMINAL);
+            let words = start_with(rt, alloc, words, is_expanded, &mut rt.stdout())?;
+            Ok(Ok(words))
+        },
+        Err(error) => Ok(Err(error)),
+    }
+}
+
 fn main(rt: HostRuntime) -> ExitCode {
     let _first = in_place_of_closed(&rt);
     let _second = in_place_of_closed(&rt);
@@ -148,6 +166,10 @@ fn main(rt: HostRuntime) -> ExitCode {
     let words = match env::args(&rt) {
         Ok(words) => words.collect(alloc).map_err(io::Error::from),
         Err(error) => Err(error),
+    };
+    let words = match expanded(&rt, alloc, words) {
+        Ok(words) => words,
+        Err(status) => return ExitCode::from(status),
     };
     let Ok((link, linked)) = links(alloc) else {
         let _ = eprintln!(rt; "tn: memory");

@@ -64,7 +64,8 @@ RunsAsked machine (Connect connecting) origin bytes old new = (port : ℕ) × Is
     × ConnectsBy talked_over (ReachesBy (suits connecting.dialing)
     (machine.network.finds (string_bytes connecting.host) port) machine.network.dials) (talked report)))
 
--- the run that the words ask for, or some text where they ask for help, or the version
+-- the run that the words ask for, or some text where they ask for help, or the version; a host of the user's own
+-- file was replaced in them by what it stands for
 abbrev pub DoesAsAsked : Machine → List (List ℕ) → KeySource → Option (List ℕ) → Option (List ℕ)
     → Option (List ℕ) → Type 0
 DoesAsAsked machine words origin bytes old new =

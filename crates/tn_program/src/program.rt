@@ -31,7 +31,7 @@ use tn_streams::Drain;
 use tn_words::{Asked, ConnectWords, LineEnd, ServeWords, VERSION_LINE, WordsFault, read_words};
 
 /// Runs what the words of the command line ask for, where they could be read. The program's name is the
-/// first of them. Returns the status to end with: 0 where that was done, and else the status of its fault
+/// first of them; a host of the user's own file is no longer among them, but what it stands for (`tn_hosts`). Returns the status to end with: 0 where that was done, and else the status of its fault
 /// (`EndsWith`). A fault is told in one line on `errors`, and behind it what is wrong with words, or why;
 /// what cannot be written is dropped. Of a streams at standard input nothing is known beforehand.
 pub fn run_words<

@@ -223,7 +223,7 @@ pub const VERSION_LINE: &str = "tn 1.2.0\n";
 
 /// An option of a subcommand, or a place for a word without a name before it.
 #[derive(Clone, Copy)]
-enum Choice {
+pub(crate) enum Choice {
     /// An option without a value: its name and its help text.
     Flag(&'static str, &'static str),
     /// One that has a letter too: its name, the letter and its help text.
@@ -359,7 +359,7 @@ const SERVE_CHOICES: &[Choice] = &[
 ];
 
 /// The places and the options of `tn connect`.
-const CONNECT_CHOICES: &[Choice] = &[
+pub(crate) const CONNECT_CHOICES: &[Choice] = &[
     Choice::HostPlace,
     Choice::PortPlace,
     Choice::Port,
@@ -818,8 +818,8 @@ fn host_place<'a>(alloc: Global) -> Arg<'a>
     ensures local { result.global ≡ false }
 {
     Arg::new(alloc, HOST).value_name("HOST").help(
-        "The host to connect to, a name or an address, or HOST:PORT or [ADDRESS]:PORT; without it this \
-         machine",
+        "The host to connect to, a name or an address, HOST:PORT or [ADDRESS]:PORT, or a name that \
+         ~/.config/tn/hosts has; without it this machine",
     )
 }
 

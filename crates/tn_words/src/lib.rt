@@ -8,6 +8,7 @@
 #![tactic(auto)]
 
 pub use commands::VERSION_LINE;
+pub use flags::is_connect_flag;
 pub use settings::{
     Address, Characters, ConnectWords, Escape, Port, ReturnBytes, ServeWords, Socket, USUAL_HEIGHT,
     USUAL_WIDTH,
@@ -18,6 +19,7 @@ pub use words::{Asked, WordsFault, read_words};
 
 mod commands;
 mod dialing;
+mod flags;
 pub mod laws;
 mod places;
 mod settings;
