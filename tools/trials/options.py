@@ -118,22 +118,19 @@ def a_silent_client_is_let_go_after(world, is_let_go, *words):
     serving.end()
 
 
-@case(each={"its own job": (2, b"hello\r\n", "--count", "2"), "a service": (1, b"got hello\r\n", "--to")})
-def a_banner_is_shown_after_the_opening(world, count, answer, *words):
+@case
+def a_banner_is_shown_before_what_a_service_says(world):
     path = world.path("issue.net")
     with open(path, "wb") as file:
         file.write(b"Welcome\nto \xff tn\r\nalone\rend\n")
-    if "--to" in words:
-        words += (f"127.0.0.1:{Service(world, answering).port}",)
-    serving = Serving(world, "--banner", path, *words)
+    service = Service(world, answering)
+    serving = Serving(world, "--banner", path, "--to", f"127.0.0.1:{service.port}")
     os.remove(path)
-    for _ in range(count):
-        peer = Peer(world, serving.port)
-        peer.send(b"hello\r\n")
-        peer.read_until(answer)
-        shown = OPENING + b"Welcome\r\nto \xff\xff tn\r\nalone\r\0end\r\n"
-        expect_same(shown, peer.got[:len(shown)], "what is shown first")
-        peer.leave()
+    peer = Peer(world, serving.port)
+    peer.send(b"hello\r\n")
+    peer.read_until(b"got hello\r\n")
+    expect_in_order(peer.got, OPENING, b"Welcome\r\nto \xff\xff tn\r\nalone\r\0end\r\n", b"got hello\r\n")
+    peer.leave()
     serving.end()
 
 

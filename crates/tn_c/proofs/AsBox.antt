@@ -5,11 +5,10 @@ use mathlib.Core.List.{List, []}
 use seplogic.Ra.Ura.{Ura}
 use types.Logic.{Logic}
 use types.Kit.{Item, Goal, Seq}
-use Rattle.std.specs.Prelude.{◌≡◌, Option, None, Some}
+use Rattle.std.specs.{Prelude.{◌≡◌, Option, None, Some}, contracts.impls.GlobalAllocator.TheImpl.{ghosts, dict}}
 use denote.Signature.{Slot, plain}
 use Rattle.std.proofs.BoxSteps.Form.{Bx}
 use Rattle.std.specs.contracts.alloc.Global as Heap
-use Rattle.std.specs.contracts.impls.GlobalAllocator.TheImpl.{ghosts, dict}
 use Rattle.std.proofs.alloc.Global.TheLaws as heap
 use Rattle.tn_c.specs.contracts.held.Held as State
 use Rattle.tn_c.proofs.held.Held.TheLaws as inner

@@ -1,14 +1,9 @@
 -- A call of what is held, which was of the call's kind.
 use Rattle.std.proofs.Common.{◌≡◌, ℕ, Option, Some, sym, ap, ◌∙◌, subst}
-use Rattle.tn_c_parts.specs.Codes.{code_number}
-use Rattle.tn_c_parts.specs.Items.{ReadStream}
-use Rattle.tn_c_parts.specs.declared.client.HeldClient.{HeldClient}
-use Rattle.tn_c_parts.specs.declared.codes.Code.{Code}
-use Rattle.tn_c_parts.specs.declared.line.HeldLine.{HeldLine}
+use Rattle.tn_c_parts.specs.{Codes.code_number, Items.ReadStream, declared.{client.HeldClient.HeldClient, codes.Code.Code, line.HeldLine.HeldLine}}
 use Rattle.tn_c_parts.specs.declared.server.HeldServer.{HeldServer}
-use Rattle.tn_c.specs.declared.held.Held.{Held}
+use Rattle.tn_c.specs.{declared.held.Held.Held, Holding.{CallsLine, CallsDecoder, CallsServer, CallsClient}}
 use Rattle.tn_c.specs.declared.held.Held.TheVariants as held
-use Rattle.tn_c.specs.Holding.{CallsLine, CallsDecoder, CallsServer, CallsClient}
 
 pub line_called : {unwritten : Type 0} {R : Code → HeldLine → HeldLine → Type 0} {old new : Option Held} {number : ℕ} {boxed lent : Held} (answer : Code)
     (before after : HeldLine) → old ≡ Some boxed → lent ≡ boxed → lent ≡ held.Line before → new ≡ Some (held.Line after) → number ≡ code_number answer

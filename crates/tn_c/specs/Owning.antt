@@ -2,10 +2,7 @@
 use base.Fml.{Fml, feq}
 use base.Stored.{Coded}
 use denote.RawPtr.{Ptr, null_ptr}
-use Rattle.std.specs.Prelude.{Option, None, Some}
-use Rattle.std.specs.Coded.{coded_option}
-use Rattle.std.specs.Box.Ownership.{box_owns}
-use Rattle.std.specs.Global.{Global}
+use Rattle.std.specs.{Prelude.{Option, None, Some}, Coded.coded_option, Box.Ownership.box_owns, Global.Global}
 use Rattle.std.specs.contracts.impls.GlobalAllocator.TheImpl.{ghosts}
 use Rattle.tn_c.specs.contracts.held.Held.{the_row}
 

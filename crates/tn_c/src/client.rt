@@ -2,12 +2,10 @@
 
 ghost use Rattle.std.specs.Prelude.{◌≡◌, None, length};
 ghost use Rattle.tn_discipline.specs.Limits.{is_limit};
-ghost use Rattle.tn_c_parts.specs.Calling.{Looks, Does, OfFunction, GivesChar};
+ghost use Rattle.tn_c_parts.specs.{Calling.{Looks, Does, OfFunction, GivesChar}, Readings.char_given};
 ghost use Rattle.tn_c_parts.specs.ClientCalls.{IsOpened, KeyCall, FeedCall, ResizeCall, ProposeCall};
-ghost use Rattle.tn_c_parts.specs.ClientCalls.{NewLineCall};
-ghost use Rattle.tn_c_parts.specs.ClientCalls.{SendNumberCall, ReadCall, ScreenCall, GivesMode, GivesHalf};
-ghost use Rattle.tn_c_parts.specs.ClientCalls.{GivesAhead, GivesCounts, GivesOption, IsClientChar};
-ghost use Rattle.tn_c_parts.specs.Readings.{char_given};
+ghost use Rattle.tn_c_parts.specs.ClientCalls.{NewLineCall, SendNumberCall, ReadCall, ScreenCall, GivesMode};
+ghost use Rattle.tn_c_parts.specs.ClientCalls.{GivesHalf, GivesAhead, GivesCounts, GivesOption, IsClientChar};
 ghost use Rattle.tn_c.specs.Holding.{HoldsClient, CallsClient, Starts, NoPointer};
 
 use crate::calls::call_held;

@@ -1,10 +1,8 @@
 //! The calls of a decoder: a stream to items.
 
 ghost use Rattle.std.specs.Prelude.{◌≡◌, true, None};
-ghost use Rattle.tn_c_parts.specs.Bytes.{Gives};
-ghost use Rattle.tn_c_parts.specs.Calling.{Looks, Does};
+ghost use Rattle.tn_c_parts.specs.{Bytes.Gives, Calling.{Looks, Does}, Items.parameters_of};
 ghost use Rattle.tn_c_parts.specs.DecoderCalls.{IsFresh, FeedCall, TakeCall};
-ghost use Rattle.tn_c_parts.specs.Items.{parameters_of};
 ghost use Rattle.tn_c.specs.Holding.{HoldsDecoder, CallsDecoder, Starts, NoPointer};
 
 use crate::calls::call_held;

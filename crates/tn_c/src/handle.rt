@@ -1,10 +1,8 @@
 //! The handle that C has.
 
 ghost use Rattle.std.specs.Prelude.{◌≡◌, ◌≢◌, ◌↔◌, ◌⊎◌, true, IsTrue, Option, None, Some, MatchOption};
-ghost use Rattle.tn_c.specs.Owning.{handle_owns, held_coded};
-ghost use Rattle.tn_c.specs.declared.held.Held.{Held};
-ghost use Rattle.tn_c_parts.specs.Codes.{code_number};
-ghost use Rattle.tn_c_parts.specs.declared.codes.Code.TheVariants.{Done, Memory};
+ghost use Rattle.tn_c.specs.{Owning.{handle_owns, held_coded}, declared.held.Held.Held};
+ghost use Rattle.tn_c_parts.specs.{Codes.code_number, declared.codes.Code.TheVariants.{Done, Memory}};
 
 use crate::held::Held;
 use crate::unboxed::Unboxed;

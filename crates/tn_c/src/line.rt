@@ -2,14 +2,10 @@
 
 ghost use Rattle.std.specs.Prelude.{◌≡◌, None};
 ghost use Rattle.tn_discipline.specs.Limits.{is_limit};
-ghost use Rattle.tn_c_parts.specs.Bytes.{Gives};
-ghost use Rattle.tn_c_parts.specs.Calling.{Looks, LooksBy, Does, OfFunction, GivesChar};
-ghost use Rattle.tn_c_parts.specs.Echoes.{GivesEcho};
-ghost use Rattle.tn_c_parts.specs.Entries.{text_of};
+ghost use Rattle.tn_c_parts.specs.{Bytes.Gives, Calling.{Looks, LooksBy, Does, OfFunction, GivesChar}};
+ghost use Rattle.tn_c_parts.specs.{Echoes.GivesEcho, Entries.text_of, LineCalls.IsLineChar};
 ghost use Rattle.tn_c_parts.specs.LineCalls.{IsEmpty, KeyCall, HalfGiven, SetFlagsCall, SetCharCall};
-ghost use Rattle.tn_c_parts.specs.LineCalls.{IsLineChar};
-ghost use Rattle.tn_c_parts.specs.Readings.{char_given};
-ghost use Rattle.tn_c_parts.specs.Terminals.{flags_given};
+ghost use Rattle.tn_c_parts.specs.{Readings.char_given, Terminals.flags_given};
 ghost use Rattle.tn_c.specs.Holding.{HoldsLine, CallsLine, Starts, NoPointer};
 
 use crate::calls::call_held;

@@ -1,23 +1,17 @@
 //! The calls of a server end.
 
 ghost use Rattle.std.specs.Prelude.{◌≡◌, None, length, slice_get};
-ghost use Rattle.tn_discipline.specs.Limits.{is_limit};
-ghost use Rattle.tn_discipline.specs.Characters.{standard_characters};
+ghost use Rattle.tn_discipline.specs.{Limits.is_limit, Characters.standard_characters};
 ghost use Rattle.tn_option.specs.Options.{state_of};
 ghost use Rattle.tn_pty.specs.Terminal.{first_signal};
-ghost use Rattle.tn_server.specs.Calls.{LeadsTo, call_fault};
-ghost use Rattle.tn_server.specs.Events.{History, echo_set};
-ghost use Rattle.tn_server.specs.Lines.{half, waiting};
-ghost use Rattle.tn_server.specs.Screen.{size};
-ghost use Rattle.tn_server.specs.Terms.{mode, asked_mask, options};
-ghost use Rattle.tn_c_parts.specs.Bytes.{Gives};
-ghost use Rattle.tn_c_parts.specs.Calling.{Looks, Does, OfFunction, GivesChar};
-ghost use Rattle.tn_c_parts.specs.Entries.{kind_number, signal_number, text_of};
+ghost use Rattle.tn_server.specs.{Calls.{LeadsTo, call_fault}, Events.{History, echo_set}, Screen.size};
+ghost use Rattle.tn_server.specs.{Lines.{half, waiting}, Terms.{mode, asked_mask, options}};
+ghost use Rattle.tn_c_parts.specs.{Bytes.Gives, Calling.{Looks, Does, OfFunction, GivesChar}};
+ghost use Rattle.tn_c_parts.specs.{Entries.{kind_number, signal_number, text_of}, Terminals.flags_given};
 ghost use Rattle.tn_c_parts.specs.Readings.{char_given, editing_given, side_given, state_number};
 ghost use Rattle.tn_c_parts.specs.ServerCalls.{IsOpened, Acts, FeedCall, TakeCall, ForgetCall, WriteCall};
 ghost use Rattle.tn_c_parts.specs.ServerCalls.{PullCall, WishCall, SetCharCall, SetMaskCall, SetOctetsCall};
 ghost use Rattle.tn_c_parts.specs.ServerCalls.{ReadCall, IsServerChar};
-ghost use Rattle.tn_c_parts.specs.Terminals.{flags_given};
 ghost use Rattle.tn_c.specs.Holding.{HoldsServer, CallsServer, Starts, NoPointer};
 
 use crate::calls::call_held;

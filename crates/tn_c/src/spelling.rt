@@ -1,8 +1,7 @@
 //! The calls that spell items, which need no handle.
 
 ghost use Rattle.tn_nvt.specs.declared.items.Item.TheVariants as item;
-ghost use Rattle.tn_c_parts.specs.Codes.{Answers};
-ghost use Rattle.tn_c_parts.specs.Spelled.{Spells, SpellsCommand, SpellsWord, SpellsSub};
+ghost use Rattle.tn_c_parts.specs.{Codes.Answers, Spelled.{Spells, SpellsCommand, SpellsWord, SpellsSub}};
 
 use std::alloc::Global;
 use tn_c_parts::{spell_byte, spell_command, spell_newline, spell_sub, spell_word};

@@ -2,9 +2,7 @@
 use Rattle.std.proofs.Common.{◌≡◌, ◌≢◌, ◌⊎◌, inl, inr, ℕ, Bool, true, false, Option, Some, None, Result, Ok, Err, OnOk, OnErr, IsErrOf, List, refl, sym, ap}
 use Rattle.std.proofs.Common.{subst, ◌∙◌, if◌then◌else◌}
 use Rattle.std.specs.Prelude.{◌↔◌, ◌++◌, [], option_map}
-use Rattle.tn_codes.specs.Codes.{func_code}
-use Rattle.tn_codes.specs.declared.codes.Func.{Func}
-use Rattle.tn_codes.specs.declared.masks.Mask.{Mask}
+use Rattle.tn_codes.specs.{Codes.func_code, declared.{codes.Func.Func, masks.Mask.Mask}}
 use Rattle.tn_discipline.specs.declared.characters.CharFault.{CharFault}
 use Rattle.tn_discipline.specs.declared.characters.CharFault.TheVariants as char
 use Rattle.tn_pty.specs.declared.pty.PtyFault.{PtyFault}
@@ -13,24 +11,14 @@ use Rattle.tn_server.specs.declared.faults.ServerFault.{ServerFault}
 use Rattle.tn_server.specs.declared.faults.ServerFault.TheVariants as fault
 use Rattle.tn_client.specs.Answering as answers
 use Rattle.tn_client.specs.Calls as client
-use Rattle.tn_client.specs.Calls.{call_fault}
-use Rattle.tn_client.specs.Events.{Event}
-use Rattle.tn_client.specs.Steps.{end_after, says}
-use Rattle.tn_client.specs.declared.commands.UserCommand.{UserCommand}
+use Rattle.tn_client.specs.{Calls.call_fault, Events.Event, Steps.{end_after, says}, declared.commands.UserCommand.UserCommand}
 use Rattle.tn_client.specs.declared.faults.ClientFault.{ClientFault}
 use Rattle.tn_client.specs.declared.faults.ClientFault.TheVariants as client_fault
-use Rattle.tn_nvt.specs.Spelling.{spelling, spells}
-use Rattle.tn_nvt.specs.declared.items.Item.{Item}
-use Rattle.tn_c_parts.specs.Bytes.{Gives}
-use Rattle.tn_c_parts.specs.Calling.{OfFunction}
-use Rattle.tn_c_parts.specs.ClientCalls.{Acts}
-use Rattle.tn_c_parts.specs.ServerCalls.{SetMaskCall}
-use Rattle.tn_c_parts.specs.declared.client.HeldClient.{HeldClient}
-use Rattle.tn_c_parts.specs.declared.codes.Code.{Code}
-use Rattle.tn_c_parts.specs.declared.codes.Code.TheVariants as code
-use Rattle.tn_c_parts.specs.declared.server.HeldServer.{HeldServer}
-use Rattle.tn_c_parts.specs.Spelled.{Room, Spells}
+use Rattle.tn_nvt.specs.{Spelling.{spelling, spells}, declared.items.Item.Item}
+use Rattle.tn_c_parts.specs.{Bytes.Gives, Calling.OfFunction, ClientCalls.Acts, ServerCalls.SetMaskCall, declared.client.HeldClient.HeldClient}
+use Rattle.tn_c_parts.specs.{declared.{codes.Code.Code, server.HeldServer.HeldServer}, Spelled.{Room, Spells}}
 use Rattle.tn_c_parts.specs.Faults.{server_code, server_refusal, client_code, client_answer, client_refusal}
+use Rattle.tn_c_parts.specs.declared.codes.Code.TheVariants as code
 
 pub server_told : (cause : Option ServerFault) (f g : ServerFault) → f ≡ g → server.IsFault cause f → server_code g ≡ server_refusal cause
 server_told None f g e h = ap server_code (sym e ∙ h)

@@ -1,7 +1,6 @@
 -- What any call says of what is held: R code before after, of its code and of what was held before and after.
 use Rattle.std.specs.Prelude.{◌≡◌, ◌≢◌, ◌↔◌, ℕ}
-use Rattle.tn_codes.specs.Codes.{func_code}
-use Rattle.tn_codes.specs.declared.codes.Func.{Func}
+use Rattle.tn_codes.specs.{Codes.func_code, declared.codes.Func.Func}
 use Rattle.tn_c_parts.specs.declared.codes.Code.{Code}
 use Rattle.tn_c_parts.specs.declared.codes.Code.TheVariants as code
 

@@ -4,22 +4,18 @@ use Rattle.std.specs.Prelude.{Option, None}
 use Rattle.tn_codes.specs.declared.codes.Func.{Func}
 use Rattle.tn_discipline.specs.Characters.{slot}
 use Rattle.tn_option.specs.Options.{state_of}
-use Rattle.tn_client.specs.Answering.{Feeds, StopsWithin}
-use Rattle.tn_client.specs.Calls.{End, LeadsTo, call_fault, propose_fault}
-use Rattle.tn_client.specs.Steps.{shows_key, LacksMemoryFor, LacksMemoryToEnter, end_after, says, LacksRoomFor}
+use Rattle.tn_client.specs.{Answering.{Feeds, StopsWithin}, Calls.{End, LeadsTo, call_fault, propose_fault}}
+use Rattle.tn_client.specs.Steps.{shows_key, LacksMemoryFor, LacksMemoryToEnter, end_after, says}
+use Rattle.tn_client.specs.{Steps.LacksRoomFor, Lines.{ahead, count_under, held_bytes}}
+use Rattle.tn_client.specs.Events.{History, Event, begun, typed, entered, resized, proposed, sent}
+use Rattle.tn_client.specs.{Terms.{chars, mode, options}, declared.commands.UserCommand.UserCommand}
+use Rattle.tn_client.specs.declared.faults.ClientFault.{ClientFault}
 use Rattle.tn_nvt.specs.Spelling.{lf, spells}
 use Rattle.tn_nvt.specs.Feeding as nvt
-use Rattle.tn_client.specs.Events.{History, Event, begun, typed, entered, resized, proposed, sent}
-use Rattle.tn_client.specs.Lines.{ahead, count_under, held_bytes}
-use Rattle.tn_client.specs.Terms.{chars, mode, options}
-use Rattle.tn_client.specs.declared.commands.UserCommand.{UserCommand}
-use Rattle.tn_client.specs.declared.faults.ClientFault.{ClientFault}
-use Rattle.tn_c_parts.specs.Bytes.{Copies, Gives}
-use Rattle.tn_c_parts.specs.Faults.{client_refusal}
+use Rattle.tn_c_parts.specs.{Bytes.{Copies, Gives}, Faults.client_refusal, declared.codes.Code.Code}
 use Rattle.tn_c_parts.specs.Readings.{char_number, command_number, side_given, state_number}
-use Rattle.tn_c_parts.specs.declared.codes.Code.{Code}
-use Rattle.tn_c_parts.specs.declared.codes.Code.TheVariants as code
 use Rattle.tn_c_parts.specs.declared.client.HeldClient.{HeldClient}
+use Rattle.tn_c_parts.specs.declared.codes.Code.TheVariants as code
 
 -- All that is held is as it was.
 pub record Untouched (old new : HeldClient) : Type 0 where

@@ -1,10 +1,9 @@
 -- What each call of a held decoder does.
 use Rattle.std.specs.Prelude.{◌≡◌, ◌≢◌, ◌↔◌, ◌⊎◌, ℕ, List, [], ◌∷◌, None, MatchOption}
 use Rattle.tn_nvt.specs.Feeding.{LeadsTo, failed, Feeds, StopsWithin, IsLetGo}
-use Rattle.tn_c_parts.specs.Items.{ReadStream, item_seen}
-use Rattle.tn_c_parts.specs.declared.codes.Code.{Code}
-use Rattle.tn_c_parts.specs.declared.codes.Code.TheVariants as code
+use Rattle.tn_c_parts.specs.{Items.{ReadStream, item_seen}, declared.codes.Code.Code}
 use Rattle.tn_c_parts.specs.declared.decoder.ItemSeen.{ItemSeen}
+use Rattle.tn_c_parts.specs.declared.codes.Code.TheVariants as code
 
 pub record FeedCall (piece : List ℕ) (answer : Code) (before after : ReadStream) : Type 0 where
   pub codes : (answer ≡ code.Done) ⊎ ((answer ≡ code.Memory) ⊎ (answer ≡ code.Failed))

@@ -1,10 +1,7 @@
 -- What a terminal shows of a key, as bytes for a screen that moves to the next line by CR LF.
 use Rattle.std.specs.Prelude.{◌≡◌, ◌⊎◌, ℕ, Option, Some, None, List, [], ◌∷◌, ◌++◌}
-use Rattle.tn_discipline.specs.declared.echo.Symbol.{Symbol}
-use Rattle.tn_discipline.specs.declared.echo.Symbol.TheVariants.{Byte, Newline}
-use Rattle.tn_c_parts.specs.Bytes.{Gives}
-use Rattle.tn_c_parts.specs.Spelled.{Room, IsLeft}
-use Rattle.tn_c_parts.specs.declared.codes.Code.{Code}
+use Rattle.tn_discipline.specs.declared.echo.Symbol.{Symbol, TheVariants.{Byte, Newline}}
+use Rattle.tn_c_parts.specs.{Bytes.Gives, Spelled.{Room, IsLeft}, declared.codes.Code.Code}
 use Rattle.tn_c_parts.specs.declared.codes.Code.TheVariants as code
 
 abbrev pub symbol_bytes : Option Symbol → List ℕ

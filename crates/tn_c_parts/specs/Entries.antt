@@ -1,10 +1,8 @@
 -- The numbers of entries, and of what keys do.
 use Rattle.std.specs.Prelude.{ℕ, Option, Some, None, List, [], length, replicate}
-use Rattle.tn_discipline.specs.declared.reads.Sig.{Sig}
-use Rattle.tn_discipline.specs.declared.reads.Sig.TheVariants.{Int, Quit, Tstp}
-use Rattle.tn_discipline.specs.declared.reads.Entry.{Entry}
-use Rattle.tn_discipline.specs.declared.reads.Entry.TheVariants as entry
+use Rattle.tn_discipline.specs.declared.reads.{Sig.{Sig, TheVariants.{Int, Quit, Tstp}}, Entry.Entry}
 use Rattle.tn_discipline.specs.declared.half_line.Effect.{Effect}
+use Rattle.tn_discipline.specs.declared.reads.Entry.TheVariants as entry
 use Rattle.tn_discipline.specs.declared.half_line.Effect.TheVariants as effect
 
 abbrev pub sig_number : Sig → ℕ

@@ -1,8 +1,7 @@
 -- What C sees of an item, and a decoder with the items that wait.
 use Rattle.std.specs.Prelude.{ℕ, Option, Some, None, List, [], length}
 use Rattle.tn_codes.specs.Codes.{command_code, verb_code}
-use Rattle.tn_nvt.specs.Feeding.{DecoderState}
-use Rattle.tn_nvt.specs.declared.items.Item.{Item}
+use Rattle.tn_nvt.specs.{Feeding.DecoderState, declared.items.Item.Item}
 use Rattle.tn_nvt.specs.declared.items.Item.TheVariants.{Byte, Newline, Cmd, Neg, Sub}
 use Rattle.tn_c_parts.specs.declared.decoder.ItemSeen.{ItemSeen}
 

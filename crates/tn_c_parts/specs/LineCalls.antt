@@ -1,20 +1,13 @@
 -- What each call of a held line does.
 use Rattle.std.specs.Prelude.{◌≡◌, ◌≢◌, ◌⊎◌, ◌<◌, ℕ, List, [], ◌∷◌, Option, None}
 use Rattle.tn_codes.specs.declared.codes.Func.{Func}
-use Rattle.tn_discipline.specs.Advancing.{Advances, DropsExactly}
+use Rattle.tn_discipline.specs.{Advancing.{Advances, DropsExactly}, declared.termios.Flags.Flags}
 use Rattle.tn_discipline.specs.Characters.{AreAllowed, standard_characters, slot, with_slot, char_fault}
-use Rattle.tn_discipline.specs.Echo.{echo_at, no_echo}
+use Rattle.tn_discipline.specs.{Echo.{echo_at, no_echo}, HalfLine.GivesText, Keys.{role_of_key, roles_of}}
 use Rattle.tn_discipline.specs.HalfLine.{empty_line, line_length, line_after, effect_of, effect_entries}
-use Rattle.tn_discipline.specs.HalfLine.{GivesText}
-use Rattle.tn_discipline.specs.Keys.{role_of_key, roles_of}
-use Rattle.tn_discipline.specs.declared.termios.Flags.{Flags}
-use Rattle.tn_c_parts.specs.Bytes.{Gives}
-use Rattle.tn_c_parts.specs.Entries.{effect_number, entry_given}
-use Rattle.tn_c_parts.specs.Faults.{char_answer}
-use Rattle.tn_c_parts.specs.Readings.{char_number}
-use Rattle.tn_c_parts.specs.declared.codes.Code.{Code}
+use Rattle.tn_c_parts.specs.{Bytes.Gives, Entries.{effect_number, entry_given}, Faults.char_answer}
+use Rattle.tn_c_parts.specs.{Readings.char_number, declared.{codes.Code.Code, line.HeldLine.HeldLine}}
 use Rattle.tn_c_parts.specs.declared.codes.Code.TheVariants as code
-use Rattle.tn_c_parts.specs.declared.line.HeldLine.{HeldLine}
 
 pub record KeyCall (key old_effect new_effect : ℕ) (answer : Code) (before after : HeldLine) : Type 0 where
   pub codes : (answer ≡ code.Done) ⊎ (answer ≡ code.Memory)

@@ -1,14 +1,10 @@
 -- The numbers of what an end tells of itself.
 use Rattle.std.specs.Prelude.{ℕ, Bool, true, false, Option, Some, None, nat_lt, if◌then◌else◌}
-use Rattle.tn_client.specs.Replies.{command_sent}
-use Rattle.tn_client.specs.declared.commands.UserCommand.{UserCommand}
+use Rattle.tn_client.specs.{Replies.command_sent, declared.commands.UserCommand.UserCommand}
 use Rattle.tn_codes.specs.Codes.{command_code}
-use Rattle.tn_option.specs.declared.q_method.Side.{Side}
-use Rattle.tn_option.specs.declared.q_method.Side.TheVariants.{Us, Them}
-use Rattle.tn_option.specs.declared.q_method.QState.{QState}
+use Rattle.tn_option.specs.declared.q_method.{Side.{Side, TheVariants.{Us, Them}}, QState.QState}
 use Rattle.tn_option.specs.declared.q_method.QState.TheVariants as state
-use Rattle.tn_server.specs.declared.wishes.Editing.{Editing}
-use Rattle.tn_server.specs.declared.wishes.Editing.TheVariants.{Local, Remote}
+use Rattle.tn_server.specs.declared.wishes.Editing.{Editing, TheVariants.{Local, Remote}}
 
 -- the side of an option that C gives: ours, or theirs
 abbrev pub side_given : Bool → Side

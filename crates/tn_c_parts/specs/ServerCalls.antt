@@ -1,32 +1,20 @@
 -- What each call of a held server end does.
-use Rattle.std.specs.Prelude.{◌≡◌, ◌≢◌, ◌↔◌, ◌⊎◌, ◌*◌, ◌<◌, ◌≤◌, ℕ, Bool, IsTrue, IsFalse, List, [], ◌∷◌, ◌++◌}
-use Rattle.std.specs.Prelude.{length}
-use Rattle.std.specs.Prelude.{min, drop, Option, Some, None, MatchOption}
-use Rattle.tn_codes.specs.Masks.{filled_octets}
-use Rattle.tn_codes.specs.declared.codes.Func.{Func}
-use Rattle.tn_codes.specs.declared.masks.Mask.{Mask}
-use Rattle.tn_discipline.specs.Characters.{slot}
-use Rattle.tn_discipline.specs.Canon.{Canon}
+use Rattle.std.specs.Prelude.{◌≡◌, ◌≢◌, ◌↔◌, ◌⊎◌, ◌*◌, ◌<◌, ◌≤◌, ℕ, Bool, IsTrue, IsFalse, List, [], ◌∷◌}
+use Rattle.std.specs.Prelude.{◌++◌, length, min, drop, Option, Some, None, MatchOption}
+use Rattle.tn_codes.specs.{Masks.filled_octets, declared.{codes.Func.Func, masks.Mask.Mask}}
+use Rattle.tn_discipline.specs.{Characters.slot, Canon.Canon}
 use Rattle.tn_nvt.specs.Feeding as nvt
-use Rattle.tn_nvt.specs.Spelling.{spells}
-use Rattle.tn_nvt.specs.Room.{LacksRoom}
+use Rattle.tn_nvt.specs.{Spelling.spells, Room.LacksRoom}
 use Rattle.tn_pty.specs.Terminal.{fitting_count}
-use Rattle.tn_server.specs.Answering.{Feeds, StopsWithin}
+use Rattle.tn_server.specs.{Answering.{Feeds, StopsWithin}, Replies.opening, Steps.LacksRoomFor, Terms.chars}
 use Rattle.tn_server.specs.Calls.{End, LeadsTo, call_fault, char_fault_at, mask_fault}
 use Rattle.tn_server.specs.Events.{History, Event, begun, took, pulled, wished, char_set, mask_set}
-use Rattle.tn_server.specs.Replies.{opening}
 use Rattle.tn_server.specs.Steps.{end_after, end_after_write, end_after_pull, says, sends_mode_now}
-use Rattle.tn_server.specs.Steps.{LacksRoomFor}
-use Rattle.tn_server.specs.Terms.{chars}
-use Rattle.tn_server.specs.declared.faults.ServerFault.{ServerFault}
-use Rattle.tn_server.specs.declared.wishes.Editing.{Editing}
-use Rattle.tn_c_parts.specs.Bytes.{Copies}
-use Rattle.tn_c_parts.specs.Entries.{kind_number, wiped_entry}
-use Rattle.tn_c_parts.specs.Readings.{char_number}
-use Rattle.tn_c_parts.specs.Faults.{server_code, server_refusal}
-use Rattle.tn_c_parts.specs.declared.codes.Code.{Code}
-use Rattle.tn_c_parts.specs.declared.codes.Code.TheVariants as code
+use Rattle.tn_server.specs.declared.{faults.ServerFault.ServerFault, wishes.Editing.Editing}
+use Rattle.tn_c_parts.specs.{Bytes.Copies, Entries.{kind_number, wiped_entry}, Readings.char_number}
+use Rattle.tn_c_parts.specs.{Faults.{server_code, server_refusal}, declared.codes.Code.Code}
 use Rattle.tn_c_parts.specs.declared.server.HeldServer.{HeldServer}
+use Rattle.tn_c_parts.specs.declared.codes.Code.TheVariants as code
 
 -- All that is held is as it was.
 pub record Untouched (old new : HeldServer) : Type 0 where

@@ -1,13 +1,9 @@
 -- What is spelled to a caller's buffer.
 use Rattle.std.specs.Prelude.{◌≡◌, ◌≢◌, ◌↔◌, ◌⊎◌, ◌<◌, ◌≤◌, ℕ, List, length}
-use Rattle.tn_codes.specs.Codes.{command_code, verb_code}
-use Rattle.tn_codes.specs.declared.codes.Command.{Command}
-use Rattle.tn_codes.specs.declared.codes.Verb.{Verb}
-use Rattle.tn_nvt.specs.Spelling.{spelling, max_parameters}
-use Rattle.tn_nvt.specs.declared.items.Item.{Item}
+use Rattle.tn_codes.specs.{Codes.{command_code, verb_code}, declared.codes.{Command.Command, Verb.Verb}}
+use Rattle.tn_nvt.specs.{Spelling.{spelling, max_parameters}, declared.items.Item.Item}
 use Rattle.tn_nvt.specs.declared.items.Item.TheVariants.{Cmd, Neg, Sub}
-use Rattle.tn_c_parts.specs.Bytes.{Gives}
-use Rattle.tn_c_parts.specs.declared.codes.Code.{Code}
+use Rattle.tn_c_parts.specs.{Bytes.Gives, declared.codes.Code.Code}
 use Rattle.tn_c_parts.specs.declared.codes.Code.TheVariants as code
 
 -- A buffer and a count, before and after a call.

@@ -2,12 +2,10 @@
 
 ghost use Rattle.std.specs.Prelude.{◌≡◌, ◌≢◌, IfOk, IfErr};
 ghost use Rattle.tn_client.specs.declared.faults.ClientFault.TheVariants as fault;
-ghost use Rattle.tn_c_parts.specs.Calling.{OfFunction, GivesChar};
+ghost use Rattle.tn_c_parts.specs.{Calling.{OfFunction, GivesChar}, Faults.client_answer};
 ghost use Rattle.tn_c_parts.specs.ClientCalls.{KeyCall, FeedCall, ResizeCall, ProposeCall, SendCall};
-ghost use Rattle.tn_c_parts.specs.ClientCalls.{NewLineCall};
-ghost use Rattle.tn_c_parts.specs.ClientCalls.{SendNumberCall, ReadCall, ScreenCall, GivesHalf, GivesCounts};
-ghost use Rattle.tn_c_parts.specs.ClientCalls.{GivesOption, IsClientChar, IsOpened};
-ghost use Rattle.tn_c_parts.specs.Faults.{client_answer};
+ghost use Rattle.tn_c_parts.specs.ClientCalls.{NewLineCall, SendNumberCall, ReadCall, ScreenCall, GivesHalf};
+ghost use Rattle.tn_c_parts.specs.ClientCalls.{GivesCounts, GivesOption, IsClientChar, IsOpened};
 ghost use Rattle.tn_c_parts.specs.Readings.{char_given};
 ghost use Rattle.tn_c_parts.specs.declared.codes.Code.TheVariants as code;
 

@@ -1,8 +1,7 @@
 //! What a call answers, and the numbers that C sees.
 
 ghost use Rattle.std.specs.Prelude.{◌≡◌};
-ghost use Rattle.tn_c_parts.specs.Codes.{code_number};
-ghost use Rattle.tn_c_parts.specs.declared.codes.Code.{Code};
+ghost use Rattle.tn_c_parts.specs.{Codes.code_number, declared.codes.Code.Code};
 
 macro_rules! number_of {
     ($code:expr, $($name:ident = $number:literal),*) => {

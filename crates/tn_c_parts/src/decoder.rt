@@ -1,8 +1,7 @@
 //! A decoder, and the items that wait to be taken.
 
 ghost use Rattle.std.specs.Prelude.{◌≡◌};
-ghost use Rattle.tn_c_parts.specs.Bytes.{Gives};
-ghost use Rattle.tn_c_parts.specs.DecoderCalls.{FeedCall, TakeCall, IsFresh};
+ghost use Rattle.tn_c_parts.specs.{Bytes.Gives, DecoderCalls.{FeedCall, TakeCall, IsFresh}};
 ghost use Rattle.tn_c_parts.specs.Items.{item_seen, parameters_of};
 
 use crate::bytes::give;

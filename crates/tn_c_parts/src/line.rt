@@ -1,13 +1,9 @@
 //! A line that is typed, and the entry that its last key gave.
 
 ghost use Rattle.std.specs.Prelude.{◌≡◌, ◌≢◌, IfOk};
-ghost use Rattle.tn_c_parts.specs.Bytes.{Gives};
-ghost use Rattle.tn_c_parts.specs.Calling.{OfFunction, GivesChar};
-ghost use Rattle.tn_c_parts.specs.Echoes.{GivesEcho};
-ghost use Rattle.tn_c_parts.specs.Entries.{text_of};
+ghost use Rattle.tn_c_parts.specs.{Bytes.Gives, Calling.{OfFunction, GivesChar}, Echoes.GivesEcho};
+ghost use Rattle.tn_c_parts.specs.{Entries.text_of, LineCalls.IsEmpty, Readings.char_given};
 ghost use Rattle.tn_c_parts.specs.LineCalls.{KeyCall, HalfGiven, SetFlagsCall, SetCharCall, IsLineChar};
-ghost use Rattle.tn_c_parts.specs.LineCalls.{IsEmpty};
-ghost use Rattle.tn_c_parts.specs.Readings.{char_given};
 ghost use Rattle.tn_c_parts.specs.declared.codes.Code.TheVariants as code;
 
 use crate::bytes::give;

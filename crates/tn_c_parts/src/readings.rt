@@ -2,8 +2,7 @@
 
 ghost use Rattle.std.specs.Prelude.{◌≡◌, ◌≢◌, ◌↔◌, ◌⊎◌, Some};
 ghost use Rattle.tn_client.specs.declared.commands.UserCommand.{UserCommand};
-ghost use Rattle.tn_codes.specs.Codes.{func_code};
-ghost use Rattle.tn_codes.specs.declared.codes.Func.{Func};
+ghost use Rattle.tn_codes.specs.{Codes.func_code, declared.codes.Func.Func};
 ghost use Rattle.tn_discipline.specs.Characters.{AreAllowed, slot};
 ghost use Rattle.tn_c_parts.specs.Readings.{char_number, char_given, command_number, editing_given};
 ghost use Rattle.tn_c_parts.specs.Readings.{side_given, state_number};

@@ -3,19 +3,14 @@
 ghost use Rattle.std.specs.Prelude.{◌≡◌, ◌≢◌, IfOk, IfErr, slice_get};
 ghost use Rattle.tn_option.specs.Options.{state_of};
 ghost use Rattle.tn_pty.specs.Terminal.{first_signal};
-ghost use Rattle.tn_server.specs.Calls.{LeadsTo, call_fault};
-ghost use Rattle.tn_server.specs.Events.{History, echo_set};
-ghost use Rattle.tn_server.specs.Lines.{half, waiting};
-ghost use Rattle.tn_server.specs.Screen.{size};
-ghost use Rattle.tn_server.specs.Terms.{options};
+ghost use Rattle.tn_server.specs.{Calls.{LeadsTo, call_fault}, Events.{History, echo_set}, Screen.size};
+ghost use Rattle.tn_server.specs.{Lines.{half, waiting}, Terms.options};
 ghost use Rattle.tn_server.specs.declared.faults.ServerFault.TheVariants as fault;
-ghost use Rattle.tn_c_parts.specs.Bytes.{Gives};
-ghost use Rattle.tn_c_parts.specs.Calling.{OfFunction, GivesChar};
-ghost use Rattle.tn_c_parts.specs.Entries.{kind_number, signal_number, text_of};
+ghost use Rattle.tn_c_parts.specs.{Bytes.Gives, Entries.{kind_number, signal_number, text_of}};
+ghost use Rattle.tn_c_parts.specs.{Calling.{OfFunction, GivesChar}, ServerCalls.{IsServerChar, IsOpened}};
 ghost use Rattle.tn_c_parts.specs.Readings.{char_given, editing_given, side_given, state_number};
-ghost use Rattle.tn_c_parts.specs.ServerCalls.{Acts, WishCall, SetCharCall, SetMaskCall, SetOctetsCall};
 ghost use Rattle.tn_c_parts.specs.ServerCalls.{FeedCall, TakeCall, ForgetCall, WriteCall, PullCall, ReadCall};
-ghost use Rattle.tn_c_parts.specs.ServerCalls.{IsServerChar, IsOpened};
+ghost use Rattle.tn_c_parts.specs.ServerCalls.{Acts, WishCall, SetCharCall, SetMaskCall, SetOctetsCall};
 ghost use Rattle.tn_c_parts.specs.declared.codes.Code.TheVariants as code;
 
 use crate::bytes::{give, move_front};

@@ -1,28 +1,15 @@
 -- What is printed of a stream that is handed on piece by piece to a printer of lines.
 use Rattle.std.proofs.Common.{◌≡◌, ℕ, List, [], ◌++◌, map, length, take, drop, Option, Some, None, Result, Ok, Err, OnErr, refl, sym, ap, ◌∙◌, subst}
-use Rattle.std.proofs.Common.{append-nil, append_assoc, arith}
-use Rattle.std.proofs.lemmas.List.{take_all, take_at, take-append-drop}
+use Rattle.std.proofs.{Common.{append-nil, append_assoc, arith}, lemmas.List.{take_all, take_at, take-append-drop}}
 use Rattle.std.specs.Io.KnownBytes.{Appends, Consumes, IsAtEnd}
-use Rattle.tn_nvt.specs.declared.items.Item.{Item}
-use Rattle.tn_nvt.specs.Feeding.{DecoderState}
+use Rattle.tn_nvt.specs.{declared.items.Item.{Item, TheVariants.Byte}, Feeding.DecoderState, Sinks.{FeedsTo, all_of, calls_of}}
 use Rattle.tn_nvt.specs.Feeding as nvt
-use Rattle.tn_nvt.specs.Sinks.{FeedsTo, all_of, calls_of}
-use Rattle.tn_nvt.specs.declared.items.Item.TheVariants.{Byte}
 use Rattle.tn_decode.proofs.lemmas.Taking.{takes_nothing, takes_both, taken_by_all, taken_whole}
-use Rattle.tn_decode.specs.Lines.{decoded}
-use Rattle.tn_decode.specs.Printing.{Printing, Takes, EndsData, prefix_text}
-use Rattle.tn_decode.specs.declared.printer.Prefix.{Prefix}
-use Rattle.tn_decode.specs.declared.printer.Prefix.TheVariants.{Empty}
-use Rattle.tn_cli.proofs.Inputs.{consumes_both, consumes_none}
-use Rattle.tn_cli.proofs.Outputs.{whole_input}
-use Rattle.tn_cli.specs.Decode.{IsDecodeOf, Decodes, DecodesRead, DecodesSome, HasPrinted, Decoded, PrintsPiece, PrintsLast, StopsPiece}
-use Rattle.tn_cli.specs.Decode.{WritesLast, WritesPiece, nothing_printed}
-use Rattle.tn_cli.specs.Ends.{EndsDecode}
-use Rattle.tn_cli.specs.Streams.{AppendsPrefix, IsPrintFault}
-use Rattle.tn_cli.specs.Unprinted.{LeavesUnprinted, Watches, WatchesOn}
-use Rattle.tn_cli.specs.declared.decode.Decoding.{Decoding}
-use Rattle.tn_cli.specs.declared.unprinted.Unprinted.{Unprinted}
-use Rattle.tn_cli.specs.declared.fault.CliFault.{CliFault}
+use Rattle.tn_decode.specs.{Lines.decoded, Printing.{Printing, Takes, EndsData, prefix_text}, declared.printer.Prefix.{Prefix, TheVariants.Empty}}
+use Rattle.tn_cli.proofs.{Inputs.{consumes_both, consumes_none}, Outputs.whole_input}
+use Rattle.tn_cli.specs.Decode.{IsDecodeOf, Decodes, DecodesRead, DecodesSome, HasPrinted, Decoded, PrintsPiece, PrintsLast, StopsPiece, WritesLast}
+use Rattle.tn_cli.specs.{Decode.{WritesPiece, nothing_printed}, Ends.EndsDecode, Streams.{AppendsPrefix, IsPrintFault}, declared.decode.Decoding.Decoding}
+use Rattle.tn_cli.specs.{Unprinted.{LeavesUnprinted, Watches, WatchesOn}, declared.{unprinted.Unprinted.Unprinted, fault.CliFault.CliFault}}
 use Rattle.tn_cli.specs.declared.fault.CliFault.TheVariants as fault
 
 -- WRITERS

@@ -1,7 +1,6 @@
 -- Bytes in hexadecimal, one after another.
 use Rattle.std.proofs.Common.{◌≡◌, ◌<◌, ℕ, ◌+◌, ◌/◌, ◌%◌, List, [], ◌∷◌, ◌++◌, codes, Result, Ok, Err, IsOk, is_ok, if◌then◌else◌, length, take, get_or}
-use Rattle.std.proofs.Common.{slice_index, refl, sym, ap, ◌∙◌, append-nil, append_assoc}
-use Rattle.std.proofs.lemmas.List.{take_more}
+use Rattle.std.proofs.{Common.{slice_index, refl, sym, ap, ◌∙◌, append-nil, append_assoc}, lemmas.List.take_more}
 use Rattle.hex.specs.Hex.{encode_with}
 
 encode-append : (t xs ys : List ℕ) → encode_with t (xs ++ ys) ≡ encode_with t xs ++ encode_with t ys

@@ -1,13 +1,9 @@
 -- How a script ends that was read whole.
 use Rattle.std.proofs.Common.{◌≡◌, ℕ, ◌≤◌, List, length, Option, Some, Result, Ok, Err, refl, sym, subst}
-use Rattle.std.specs.Bool.{⊤}
-use Rattle.std.specs.Io.KnownBytes.{Consumes, IsAtEnd}
+use Rattle.std.specs.{Bool.⊤, Io.KnownBytes.{Consumes, IsAtEnd}}
 use Rattle.tn_cli.proofs.Outputs.{whole_input}
-use Rattle.tn_cli.specs.Ends.{EndsWorld}
-use Rattle.tn_cli.specs.Playing.{AppendsText, EndsWith, PlaysScript, PlaysScriptPrefix, StopsAtBadLine, StopsAtRefusedLine}
-use Rattle.tn_cli.specs.Scripts.{lines_of}
-use Rattle.tn_cli.specs.Streams.{max_input}
-use Rattle.tn_cli.specs.declared.fault.CliFault.{CliFault}
+use Rattle.tn_cli.specs.{Ends.EndsWorld, Playing.{AppendsText, EndsWith, PlaysScript, PlaysScriptPrefix, StopsAtBadLine, StopsAtRefusedLine}, Scripts.lines_of}
+use Rattle.tn_cli.specs.{Streams.max_input, declared.fault.CliFault.CliFault}
 use Rattle.tn_cli.specs.declared.fault.CliFault.TheVariants as fault
 
 -- well: all that it prints was written

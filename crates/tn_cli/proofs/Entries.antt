@@ -1,20 +1,13 @@
 -- Entries that are written as they come.
 use Rattle.std.proofs.Common.{◌≡◌, ℕ, ◌+◌, ◌-◌, ◌≤◌, Bool, Option, Some, None, List, [], ◌++◌, length, take, drop, inl, inr, sym, ap, ◌∙◌, subst, arith}
-use Rattle.std.proofs.Common.{append-nil, append_assoc}
-use Rattle.std.proofs.Math.Seq.{take-add, take-append_seam}
-use Rattle.std.proofs.lemmas.List.{take_all, take-append-drop, length-drop}
+use Rattle.std.proofs.{Common.{append-nil, append_assoc}, Math.Seq.{take-add, take-append_seam}, lemmas.List.{take_all, take-append-drop, length-drop}}
 use Rattle.std.proofs.lemmas.Grind.{flat_map-append}
 use Rattle.std.specs.Io.KnownBytes.{Appends}
-use Rattle.tn_discipline.specs.Entries.{entries_of, half_of}
-use Rattle.tn_discipline.specs.Keys.{roles_of}
-use Rattle.tn_discipline.specs.Steps.{gain_all}
-use Rattle.tn_discipline.specs.declared.keys.Role.{Role}
+use Rattle.tn_discipline.specs.{Entries.{entries_of, half_of}, Keys.roles_of, Steps.gain_all, declared.keys.Role.Role}
 use Rattle.tn_discipline.proofs.lemmas.Histories as histories
 use Rattle.tn_discipline.proofs.lemmas.KeyRoles.{roles_of-append}
 use Rattle.tn_streams.specs.Telling.{Calls, HasMade, HasFailed, AccountsFor}
-use Rattle.tn_cli.specs.Printed.{printed, printed_entry}
-use Rattle.tn_cli.specs.Streams.{AppendsPrefix}
-use Rattle.tn_cli.specs.Typing.{LeadsTo, Types, PrintsKeys, PrintsKeysPrefix, local_output, standard}
+use Rattle.tn_cli.specs.{Printed.{printed, printed_entry}, Streams.AppendsPrefix, Typing.{LeadsTo, Types, PrintsKeys, PrintsKeysPrefix, local_output, standard}}
 use Rattle.tn_cli.specs.declared.typing.Typing.{Typing}
 
 -- more keys print what they print behind what the others do

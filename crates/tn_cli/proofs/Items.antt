@@ -2,14 +2,9 @@
 use Rattle.std.proofs.Common.{◌≡◌, ℕ, Some, None, List, [], ◌∷◌, ◌++◌, map, refl, sym, ap, ◌∙◌, append-nil, append_assoc}
 use Rattle.std.proofs.lemmas.List.Elements.{filter_map-append}
 use Rattle.tn_nvt.proofs.lemmas.Folding.{taken_all}
-use Rattle.tn_nvt.specs.declared.items.Item.{Item}
-use Rattle.tn_nvt.specs.declared.items.Item.TheVariants.{Byte}
-use Rattle.tn_nvt.specs.Sinks.{FeedsTo, all_of, calls_of}
-use Rattle.tn_nvt.specs.Feeding.{DecoderState}
+use Rattle.tn_nvt.specs.{declared.items.Item.{Item, TheVariants.Byte}, Sinks.{FeedsTo, all_of, calls_of}, Feeding.DecoderState}
 use Rattle.tn_nvt.specs.Feeding as nvt
-use Rattle.tn_cli.specs.Replay.{key_of, keys_of, GathersItems, GathersSome, AreKeysOf}
-use Rattle.tn_cli.specs.Typing.{Types}
-use Rattle.tn_cli.specs.declared.replay.Gathered.{Gathered}
+use Rattle.tn_cli.specs.{Replay.{key_of, keys_of, GathersItems, GathersSome, AreKeysOf}, Typing.Types, declared.replay.Gathered.Gathered}
 use Rattle.tn_cli.specs.declared.typing.Typing.{Typing}
 
 pub types_nothing : (typing : Typing) → Types [] typing typing

@@ -1,32 +1,17 @@
 -- More keys that are typed at one line.
 use Rattle.std.proofs.Common.{◌≡◌, ◌<◌, ℕ, ◌+◌, ◌-◌, true, false, Result, Ok, Err, OnOk, OnErr, All, List, [], ◌∷◌, ◌++◌, length, take, drop, get_or, refl, sym}
-use Rattle.std.proofs.Common.{ap, ◌∙◌}
-use Rattle.std.proofs.Common.{subst, arith, append-nil, append_assoc}
-use Rattle.std.proofs.Math.Seq.{take-add}
-use Rattle.std.proofs.lemmas.List.{take_all, take_more, length-drop}
+use Rattle.std.proofs.{Common.{ap, ◌∙◌, subst, arith, append-nil, append_assoc}, Math.Seq.take-add, lemmas.List.{take_all, take_more, length-drop}}
 use Rattle.std.proofs.lemmas.Grind.{flat_map-append}
-use Rattle.tn_discipline.specs.Canon.{typed_entries}
-use Rattle.tn_discipline.specs.Entries.{entries_of, line_of}
-use Rattle.tn_discipline.specs.Editing.{closing_byte, IsClosing, with_byte}
-use Rattle.tn_discipline.specs.Keys.{roles_of, role_of_key, roles_from, gives_entry}
-use Rattle.tn_discipline.specs.Advancing.{Advances}
-use Rattle.tn_discipline.specs.Runs.{line_after_all, ordinary_roles}
-use Rattle.tn_discipline.specs.RolesTable.{IsPlain}
-use Rattle.tn_discipline.specs.declared.termios.Settings.{Settings}
-use Rattle.tn_discipline.specs.HalfLine.{HalfLine, empty_line, effect_of, line_after, effect_entries, GivesText}
-use Rattle.tn_discipline.specs.declared.half_line.Effect.{Effect}
+use Rattle.tn_discipline.specs.{Canon.typed_entries, Entries.{entries_of, line_of}, Editing.{closing_byte, IsClosing, with_byte}, Advancing.Advances}
+use Rattle.tn_discipline.specs.{Keys.{roles_of, role_of_key, roles_from, gives_entry}, Runs.{line_after_all, ordinary_roles}, RolesTable.IsPlain}
+use Rattle.tn_discipline.specs.{declared.termios.Settings.Settings, HalfLine.{HalfLine, empty_line, effect_of, line_after, effect_entries, GivesText}}
+use Rattle.tn_discipline.specs.declared.{half_line.Effect.Effect, reads.{Entry.Entry, Sig.Sig}, keys.Role.Role}
 use Rattle.tn_discipline.specs.declared.half_line.Effect.TheVariants as effect
-use Rattle.tn_discipline.specs.declared.reads.Entry.{Entry}
 use Rattle.tn_discipline.specs.declared.reads.Entry.TheVariants as entry
-use Rattle.tn_discipline.specs.declared.reads.Sig.{Sig}
-use Rattle.tn_discipline.specs.declared.keys.Role.{Role}
 use Rattle.tn_discipline.specs.declared.keys.Role.TheVariants as role
-use Rattle.tn_discipline.proofs.lemmas.Editing.{closing_effect, closing_leaves, plain_each, plain_quiet, quiet_advance, quiet_gain}
+use Rattle.tn_discipline.proofs.lemmas.{Editing.{closing_effect, closing_leaves, plain_each, plain_quiet, quiet_advance, quiet_gain}, Lines.advances}
 use Rattle.tn_discipline.proofs.lemmas.KeyRoles.{roles_of-append, roles_of-one}
-use Rattle.tn_discipline.proofs.lemmas.Lines.{advances}
-use Rattle.tn_cli.specs.Printed.{printed, printed_entry}
-use Rattle.tn_cli.specs.Typing.{Types, standard}
-use Rattle.tn_cli.specs.declared.typing.Typing.{Typing}
+use Rattle.tn_cli.specs.{Printed.{printed, printed_entry}, Typing.{Types, standard}, declared.typing.Typing.Typing}
 use Rattle.tn_cli.proofs.Items.{types_both}
 
 pub typed_more : (old new : Typing) (more : List ℕ) (gain : List Entry) → new.roles ≡ old.roles

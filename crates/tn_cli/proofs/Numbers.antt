@@ -1,10 +1,7 @@
 -- A number that is read digit by digit.
 use Rattle.std.proofs.Common.{◌≡◌, ◌≤◌, ◌<◌, ◌+◌, ◌-◌, ◌*◌, ◌&&◌, nat_le, ℕ, List, [], ◌∷◌, true, false, Some, None, if◌then◌else◌, length, drop, get_or, refl}
-use Rattle.std.proofs.Common.{ap, ◌∙◌, arith, drop-cons, suc}
-use Rattle.std.proofs.lemmas.Bool.Decides.{nat_tests}
-use Rattle.std.specs.Char.{is_ascii_digit, digit_value}
-use Rattle.std.specs.Str.{all_ascii_digits}
-use Rattle.std.specs.Str.Parse.{digits_value, digits_value_after}
+use Rattle.std.proofs.{Common.{ap, ◌∙◌, arith, drop-cons, suc}, lemmas.Bool.Decides.nat_tests}
+use Rattle.std.specs.{Char.{is_ascii_digit, digit_value}, Str.{all_ascii_digits, Parse.{digits_value, digits_value_after}}}
 use Rattle.tn_cli.specs.Scripts.{number_within}
 
 pub number_is_beyond : (most : ℕ) (word : List ℕ) → most < digits_value 10 word → number_within most word ≡ None

@@ -1,8 +1,7 @@
 -- A text that was made of a whole input, and written.
 use Rattle.std.proofs.Common.{◌≡◌, ℕ, List, [], ◌++◌, Option, Some, None, IfSome, sym, ap, ◌∙◌, subst, append-nil}
 use Rattle.std.specs.Io.KnownBytes.{Consumes, IsAtEnd, Appends}
-use Rattle.tn_cli.specs.Playing.{AppendsPrint, AppendsText, AppendsPrefixOfText, EndsWith, PrintsSome}
-use Rattle.tn_cli.specs.declared.fault.CliFault.{CliFault}
+use Rattle.tn_cli.specs.{Playing.{AppendsPrint, AppendsText, AppendsPrefixOfText, EndsWith, PrintsSome}, declared.fault.CliFault.CliFault}
 use Rattle.tn_cli.specs.Streams.{AppendsPrefix}
 
 -- what was read up to the end is all that the reader had

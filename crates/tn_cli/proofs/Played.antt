@@ -2,11 +2,8 @@
 use Rattle.std.proofs.Common.{◌≡◌, ◌⊎◌, inl, inr, ℕ, zero, suc, ◌+◌, ◌*◌, ◌<◌, ◌≤◌, List, [], ◌∷◌, ◌++◌, length, take, drop, get_or, refl, sym, ap, ◌∙◌, subst}
 use Rattle.std.proofs.Common.{subst₂, Some, append_assoc, append-nil, arith, take-append-drop, drop-cons, length-take, map, Bor}
 use Rattle.std.proofs.lemmas.List.{take_more, map-append, take-map, get_or-map, length-map}
-use Rattle.tn_world.specs.Headline.{NothingInFlight}
+use Rattle.tn_world.specs.{Headline.NothingInFlight, Settling.RunsRounds, Worlds.World, declared.faults.Cause.Cause}
 use Rattle.tn_world.specs.Settling as world_settling
-use Rattle.tn_world.specs.Settling.{RunsRounds}
-use Rattle.tn_world.specs.Worlds.{World}
-use Rattle.tn_world.specs.declared.faults.Cause.{Cause}
 use Rattle.tn_cli.specs.Playing.{RefusesToSettle, RunsLine, RunsLines, LeadsTo, StopsWithin, EndsWith, IsBad, RefusesLine, AppendsPrint, Prints}
 use Rattle.tn_cli.specs.declared.fault.CliFault.TheVariants as fault
 

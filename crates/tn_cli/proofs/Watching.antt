@@ -1,24 +1,15 @@
 -- Each byte from each stand of a watch completes the segments that the definition has.
 use Rattle.std.proofs.Common.{◌≡◌, ◌≢◌, ℕ, ◌+◌, ◌<◌, ◌≤◌, ◌⊎◌, inl, inr, List, [], ◌∷◌, ◌++◌, length, refl, sym, ◌∙◌, ap, subst, arith, append_assoc}
-use Rattle.std.proofs.Common.{append-nil}
+use Rattle.std.proofs.{Common.append-nil, lemmas.Bool.{ne_eqb, Decides.eqb_tells}}
 use Rattle.std.specs.Prelude.{min, flat_map}
-use Rattle.std.proofs.lemmas.Bool.{ne_eqb}
-use Rattle.std.proofs.lemmas.Bool.Decides.{eqb_tells}
-use Rattle.tn_codes.specs.Codes.{command_code, verb_code}
-use Rattle.tn_codes.specs.declared.codes.Command.{Command}
+use Rattle.tn_codes.specs.{Codes.{command_code, verb_code}, declared.codes.{Command.Command, Verb.Verb}}
 use Rattle.tn_codes.specs.declared.codes.Command.TheVariants as command
-use Rattle.tn_codes.specs.declared.codes.Verb.{Verb}
 use Rattle.tn_codes.specs.declared.codes.Verb.TheVariants as verb
-use Rattle.tn_nvt.specs.declared.items.Item.TheVariants.{Byte, Newline, Cmd, Neg, Sub}
-use Rattle.tn_nvt.specs.Spelling.{doubled_byte, doubled_bytes, subnegotiation, spelling}
+use Rattle.tn_nvt.specs.{declared.items.Item.TheVariants.{Byte, Newline, Cmd, Neg, Sub}, Spelling.{doubled_byte, doubled_bytes, subnegotiation, spelling}}
 use Rattle.tn_nvt.specs.Stream.{Segment, spelled, lone_cr, escaped, unread, cut, IsSegment, IsPartial, text, look_ahead, gives, Splits}
-use Rattle.tn_cli.specs.Unprinted.{IsCount, IsLeft, Leads, LeavesUnprinted, StandsAt, Watches, WatchesOn, counted, dropped_escape}
-use Rattle.tn_cli.specs.Unprinted.{dropped_subnegotiation, none, total}
-use Rattle.tn_cli.specs.declared.unprinted.Dropped.{Dropped}
-use Rattle.tn_cli.specs.declared.unprinted.Stand.{Stand}
+use Rattle.tn_cli.specs.Unprinted.{IsCount, IsLeft, Leads, LeavesUnprinted, StandsAt, Watches, WatchesOn, counted, dropped_escape, dropped_subnegotiation, none}
+use Rattle.tn_cli.specs.{Unprinted.total, declared.unprinted.{Dropped.Dropped, Stand.Stand, Unprinted.Unprinted, Watch.Watch}}
 use Rattle.tn_cli.specs.declared.unprinted.Stand.TheVariants.{Between, AfterCr, AfterIac, AfterVerb, Inside, InsideIac}
-use Rattle.tn_cli.specs.declared.unprinted.Unprinted.{Unprinted}
-use Rattle.tn_cli.specs.declared.unprinted.Watch.{Watch}
 
 -- LISTS
 

@@ -1,7 +1,6 @@
 -- One write more of an output that is written in parts.
 use Rattle.std.proofs.Common.{◌≡◌, ℕ, ◌+◌, ◌-◌, List, length, length-drop, arith, ◌++◌, Option, Some, None, take, drop, ap, ◌∙◌, sym, append_assoc}
-use Rattle.std.proofs.Math.Seq.{take-add}
-use Rattle.std.proofs.lemmas.List.{take_all}
+use Rattle.std.proofs.{Math.Seq.take-add, lemmas.List.take_all}
 use Rattle.std.specs.Io.KnownBytes.{Appends}
 
 pub wrote_more : (old mid new : Option (List ℕ)) (output : List ℕ) (n m : ℕ) → Appends old mid (take n output) → Appends mid new (take m (drop n output))

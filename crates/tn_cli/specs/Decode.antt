@@ -1,15 +1,9 @@
 -- What `tn decode` prints of one direction of a stream.
-use Rattle.std.specs.Prelude.{◌≡◌, ℕ, Option, List, [], ◌++◌}
-use Rattle.std.specs.Io.KnownBytes.{Appends, Consumes}
-use Rattle.tn_nvt.specs.declared.items.Item.{Item}
-use Rattle.tn_nvt.specs.Feeding.{LeadsTo}
-use Rattle.tn_nvt.specs.Stream.{Reading}
-use Rattle.tn_decode.specs.Lines.{decoded}
-use Rattle.tn_decode.specs.Printing.{Printing, Takes}
+use Rattle.std.specs.{Prelude.{◌≡◌, ℕ, Option, List, [], ◌++◌}, Io.KnownBytes.{Appends, Consumes}}
+use Rattle.tn_nvt.specs.{declared.items.Item.Item, Feeding.LeadsTo, Stream.Reading}
+use Rattle.tn_decode.specs.{Lines.decoded, Printing.{Printing, Takes}}
 use Rattle.tn_decode.specs.declared.printer.Prefix.TheVariants.{Empty}
-use Rattle.tn_cli.specs.Streams.{AppendsPrefix}
-use Rattle.tn_cli.specs.Unprinted.{Watches}
-use Rattle.tn_cli.specs.declared.decode.Decoding.{Decoding}
+use Rattle.tn_cli.specs.{Streams.AppendsPrefix, Unprinted.Watches, declared.decode.Decoding.Decoding}
 
 -- the output is what is printed of the items of the stream's one reading
 pub record IsDecodeOf (stream output : List ℕ) : Type 0 where

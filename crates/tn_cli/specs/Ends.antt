@@ -1,17 +1,12 @@
 -- How a run of a subcommand ends: its outcome, its input, its output, and the calls that failed.
 use Rattle.std.specs.Prelude.{◌≡◌, ◌≢◌, ⊤, ℕ, ◌<◌, ◌≤◌, List, length, Option, IfSome, Result, Err, IfOk, OnOk}
 use Rattle.std.specs.Prelude.{OnErr, IfErr, IsErrOf}
-use Rattle.tn_cli.specs.Decode.{Decodes, DecodesRead, DecodesSome}
+use Rattle.tn_cli.specs.{Decode.{Decodes, DecodesRead, DecodesSome}, declared.unprinted.Unprinted.Unprinted}
 use Rattle.tn_cli.specs.Playing.{AppendsText, PlaysScript, PlaysScriptPrefix, StopsAtBadLine}
-use Rattle.tn_cli.specs.Playing.{StopsAtRefusedLine}
-use Rattle.tn_cli.specs.Replay.{Replays, ReplaysPrefix}
-use Rattle.tn_cli.specs.Scripts.{lines_of}
-use Rattle.tn_cli.specs.Streams.{max_input, max_pieces, max_reads, max_writes}
-use Rattle.tn_cli.specs.Typing.{PrintsKeys, PrintsKeysPrefix}
-use Rattle.tn_cli.specs.Unprinted.{LeavesUnprinted}
-use Rattle.tn_cli.specs.declared.fault.CliFault.{CliFault}
+use Rattle.tn_cli.specs.{Playing.StopsAtRefusedLine, Streams.{max_input, max_pieces, max_reads, max_writes}}
+use Rattle.tn_cli.specs.{Replay.{Replays, ReplaysPrefix}, Scripts.lines_of, Unprinted.LeavesUnprinted}
+use Rattle.tn_cli.specs.{Typing.{PrintsKeys, PrintsKeysPrefix}, declared.fault.CliFault.CliFault}
 use Rattle.tn_cli.specs.declared.fault.CliFault.TheVariants as fault
-use Rattle.tn_cli.specs.declared.unprinted.Unprinted.{Unprinted}
 use Rattle.tn_streams.specs.Telling.{Calls, HasFailed, SomeFailed}
 
 -- What every run promises, where its reader tells the bytes that it will give. `Prints` relates such an

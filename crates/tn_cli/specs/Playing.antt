@@ -1,25 +1,17 @@
 -- What a world's script does and prints.
 use Rattle.std.specs.Prelude.{◌≡◌, ◌≢◌, ◌⊎◌, ℕ, ◌+◌, ◌≤◌, Option, Some, None, option_to_list, List, [], ◌∷◌}
-use Rattle.std.specs.Prelude.{◌++◌, map, length, codes}
-use Rattle.std.specs.Io.KnownBytes.{Appends}
+use Rattle.std.specs.{Prelude.{◌++◌, map, length, codes}, Io.KnownBytes.Appends}
 use Rattle.hex.specs.Hex.{encode_lower}
 use Rattle.tn_discipline.specs.declared.reads.Entry.{Entry}
-use Rattle.tn_world.specs.Headline.{NothingInFlight, IsSettled}
-use Rattle.tn_world.specs.Opened.{IsOpened, with_new_lists}
-use Rattle.tn_world.specs.Settling.{RunsRounds, RefusesRound}
-use Rattle.tn_world.specs.Worlds.{World, Runs}
+use Rattle.tn_world.specs.{Headline.{NothingInFlight, IsSettled}, Opened.{IsOpened, with_new_lists}}
+use Rattle.tn_world.specs.{Settling.{RunsRounds, RefusesRound}, Worlds.{World, Runs}}
+use Rattle.tn_world.specs.declared.{events.Event.Event, faults.Cause.Cause}
 use Rattle.tn_world.specs.Worlds as world_words
-use Rattle.tn_world.specs.declared.events.Event.{Event}
 use Rattle.tn_world.specs.declared.events.Event.TheVariants as event
-use Rattle.tn_world.specs.declared.faults.Cause.{Cause}
-use Rattle.tn_cli.specs.Printed.{printed_entry}
-use Rattle.tn_cli.specs.Scripts.{command_of, lines_of}
-use Rattle.tn_cli.specs.Streams.{AppendsPrefix}
-use Rattle.tn_cli.specs.Typing.{standard}
-use Rattle.tn_cli.specs.declared.fault.CliFault.{CliFault}
-use Rattle.tn_cli.specs.declared.fault.CliFault.TheVariants as fault
-use Rattle.tn_cli.specs.declared.scripts.Command.{Command}
+use Rattle.tn_cli.specs.{Printed.printed_entry, Scripts.{command_of, lines_of}, Streams.AppendsPrefix}
+use Rattle.tn_cli.specs.{Typing.standard, declared.{fault.CliFault.CliFault, scripts.Command.Command}}
 use Rattle.tn_cli.specs.declared.scripts.Command.TheVariants.{Keys, Happen, Settle, Take, Mark, Flight, Shown}
+use Rattle.tn_cli.specs.declared.fault.CliFault.TheVariants as fault
 
 -- bytes in lower hexadecimal, or a dash where there are none
 abbrev pub printed_bytes : List ℕ → List ℕ

@@ -1,10 +1,7 @@
 -- Entries as lines of text.
-use Rattle.std.specs.Prelude.{ℕ, List, ◌++◌, codes}
-use Rattle.std.specs.List.{flat_map}
+use Rattle.std.specs.{Prelude.{ℕ, List, ◌++◌, codes}, List.flat_map}
 use Rattle.hex.specs.Hex.{encode_lower}
-use Rattle.tn_discipline.specs.declared.reads.Entry.{Entry}
-use Rattle.tn_discipline.specs.declared.reads.Entry.TheVariants.{Text, Eof, Signal}
-use Rattle.tn_discipline.specs.declared.reads.Sig.{Sig}
+use Rattle.tn_discipline.specs.declared.reads.{Entry.{Entry, TheVariants.{Text, Eof, Signal}}, Sig.Sig}
 use Rattle.tn_discipline.specs.declared.reads.Sig.TheVariants.{Int, Quit, Tstp}
 
 abbrev pub signal_line : Sig → List ℕ

@@ -1,13 +1,9 @@
 -- What `tn replay` prints of a client's stream.
-use Rattle.std.specs.Prelude.{◌≡◌, ℕ, Option, Some, None, List, ◌++◌}
-use Rattle.std.specs.List.{filter_map}
+use Rattle.std.specs.{Prelude.{◌≡◌, ℕ, Option, Some, None, List, ◌++◌}, List.filter_map}
 use Rattle.std.specs.Io.KnownBytes.{Appends}
-use Rattle.tn_nvt.specs.declared.items.Item.{Item}
-use Rattle.tn_nvt.specs.declared.items.Item.TheVariants.{Byte, Newline, Cmd, Neg, Sub}
+use Rattle.tn_nvt.specs.declared.items.Item.{Item, TheVariants.{Byte, Newline, Cmd, Neg, Sub}}
 use Rattle.tn_nvt.specs.Stream.{Reading}
-use Rattle.tn_cli.specs.Streams.{AppendsPrefix}
-use Rattle.tn_cli.specs.Typing.{local_output}
-use Rattle.tn_cli.specs.declared.replay.Gathered.{Gathered}
+use Rattle.tn_cli.specs.{Streams.AppendsPrefix, Typing.local_output, declared.replay.Gathered.Gathered}
 
 -- a data byte is a key, and a new line the key of a line feed; all else is skipped
 abbrev pub key_of : Item → Option ℕ

@@ -1,14 +1,10 @@
 -- The lines of a world's script, and what each asks for.
 use Rattle.std.specs.Prelude.{ℕ, ◌==◌, ◌&&◌, ◌||◌, nat_le, Bool, true, false, if◌then◌else◌, Option, Some}
 use Rattle.std.specs.Prelude.{None, option_and_then, List, [], ◌∷◌, length, codes, bytes_eq}
-use Rattle.std.specs.List.{slice_split, list_all}
-use Rattle.std.specs.Option.{option_or}
-use Rattle.std.specs.Result.{result_ok}
-use Rattle.std.specs.Str.{all_ascii_digits}
+use Rattle.std.specs.{List.{slice_split, list_all}, Option.option_or, Result.result_ok, Str.all_ascii_digits}
 use Rattle.std.specs.Str.Parse.{digits_value}
 use Rattle.hex.specs.Hex.{decode_of}
-use Rattle.tn_codes.specs.Masks.{filled_octets}
-use Rattle.tn_codes.specs.declared.codes.Func.{Func}
+use Rattle.tn_codes.specs.{Masks.filled_octets, declared.codes.Func.Func}
 use Rattle.tn_codes.specs.declared.codes.Func.TheVariants as func
 use Rattle.tn_client.specs.declared.commands.UserCommand.TheVariants as user
 use Rattle.tn_server.specs.declared.wishes.Editing.TheVariants.{Remote, Local}

@@ -1,14 +1,9 @@
 -- What `tn local` prints of keys.
-use Rattle.std.specs.Prelude.{◌≡◌, ℕ, Option, List, ◌++◌}
-use Rattle.std.specs.Io.KnownBytes.{Appends}
-use Rattle.tn_discipline.specs.Canon.{Canon, typed_entries}
-use Rattle.tn_discipline.specs.Characters.{standard_characters}
-use Rattle.tn_discipline.specs.Keys.{roles_of, standard_flags}
+use Rattle.std.specs.{Prelude.{◌≡◌, ℕ, Option, List, ◌++◌}, Io.KnownBytes.Appends}
+use Rattle.tn_discipline.specs.{Canon.{Canon, typed_entries}, Characters.standard_characters}
+use Rattle.tn_discipline.specs.{Keys.{roles_of, standard_flags}, Limits.standard_limit}
 use Rattle.tn_discipline.specs.Advancing as discipline
-use Rattle.tn_discipline.specs.Limits.{standard_limit}
-use Rattle.tn_cli.specs.Printed.{printed}
-use Rattle.tn_cli.specs.Streams.{AppendsPrefix}
-use Rattle.tn_cli.specs.declared.typing.Typing.{Typing}
+use Rattle.tn_cli.specs.{Printed.printed, Streams.AppendsPrefix, declared.typing.Typing.Typing}
 
 -- a terminal with standard settings and lines of the standard limit
 abbrev pub standard : Canon

@@ -1,18 +1,12 @@
 -- What a stream has that is no item: what is dropped of it, and what is left unread at its end.
 use Rattle.std.specs.Prelude.{◌≡◌, ℕ, ◌+◌, ◌<◌, ◌≤◌, min, List, [], ◌∷◌, ◌++◌, length}
-use Rattle.tn_codes.specs.Codes.{verb_code}
-use Rattle.tn_codes.specs.declared.codes.Verb.{Verb}
-use Rattle.tn_nvt.specs.declared.items.Item.{Item}
-use Rattle.tn_nvt.specs.Spelling.{cr, iac, sb, doubled_bytes}
+use Rattle.tn_codes.specs.{Codes.verb_code, declared.codes.Verb.Verb}
+use Rattle.tn_nvt.specs.{declared.items.Item.Item, Spelling.{cr, iac, sb, doubled_bytes}}
 use Rattle.tn_nvt.specs.Stream.{Segment, spelled, lone_cr, escaped, unread, cut, Splits, Reading}
-use Rattle.tn_cli.specs.declared.unprinted.Dropped.{Dropped}
-use Rattle.tn_cli.specs.declared.unprinted.Left.{Left}
-use Rattle.tn_cli.specs.declared.unprinted.Left.TheVariants as left
-use Rattle.tn_cli.specs.declared.unprinted.Stand.{Stand}
+use Rattle.tn_cli.specs.declared.unprinted.{Dropped.Dropped, Left.Left, Stand.{Stand, TheVariants.InsideIac}}
 use Rattle.tn_cli.specs.declared.unprinted.Stand.TheVariants.{Between, AfterCr, AfterIac, AfterVerb, Inside}
-use Rattle.tn_cli.specs.declared.unprinted.Stand.TheVariants.{InsideIac}
-use Rattle.tn_cli.specs.declared.unprinted.Unprinted.{Unprinted}
-use Rattle.tn_cli.specs.declared.unprinted.Watch.{Watch}
+use Rattle.tn_cli.specs.declared.unprinted.{Unprinted.Unprinted, Watch.Watch}
+use Rattle.tn_cli.specs.declared.unprinted.Left.TheVariants as left
 
 -- IAC and a byte that is no command is dropped
 abbrev pub dropped_escape : Segment → ℕ

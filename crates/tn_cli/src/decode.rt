@@ -3,8 +3,7 @@
 ghost use Rattle.std.specs.Prelude.{◌≡◌, [], true, IsTrue, false, IsFalse, IfOk, IfErr, OnOk, OnErr, IsErrOf};
 ghost use Rattle.std.specs.Io.KnownBytes.{IsAtEnd};
 ghost use Rattle.tn_cli.specs.Decode.{Decoded, DecodesSome, HasPrinted, PrintsLast, PrintsPiece, StopsPiece};
-ghost use Rattle.tn_cli.specs.Decode.{WritesLast, WritesPiece};
-ghost use Rattle.tn_cli.specs.Ends.{EndsDecode, EndsDecodeByCalls};
+ghost use Rattle.tn_cli.specs.{Decode.{WritesLast, WritesPiece}, Ends.{EndsDecode, EndsDecodeByCalls}};
 ghost use Rattle.tn_cli.specs.Streams.{IsPrintFault, max_pieces, max_writes};
 ghost use Rattle.tn_streams.specs.Telling.{AccountsFor, HasFailed};
 

@@ -1,8 +1,7 @@
 //! `tn local`: reads keys, and prints entries.
 
 ghost use Rattle.std.specs.Prelude.{◌≡◌, ◌≤◌, [], vec_len, vec_capacity, IfErr, OnOk, OnErr};
-ghost use Rattle.tn_cli.specs.Ends.{EndsByCalls, EndsLocal};
-ghost use Rattle.tn_cli.specs.Streams.{max_writes};
+ghost use Rattle.tn_cli.specs.{Ends.{EndsByCalls, EndsLocal}, Streams.max_writes};
 ghost use Rattle.tn_cli.specs.Typing.{LeadsTo, PrintsKeys, PrintsKeysPrefix, max_printed};
 ghost use Rattle.tn_streams.specs.Telling.{HasFailed};
 

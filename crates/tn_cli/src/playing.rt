@@ -2,8 +2,7 @@
 
 ghost use Rattle.std.specs.Prelude.{◌≡◌, ◌≢◌, ◌++◌, [], ◌∷◌, ◌↔◌, IfOk, OnOk, OnErr, IfErr, IsErrOf, Err};
 ghost use Rattle.std.specs.Prelude.{map, IsTrue};
-ghost use Rattle.tn_world.specs.Headline.{NothingInFlight};
-ghost use Rattle.tn_world.specs.Worlds.{Runs};
+ghost use Rattle.tn_world.specs.{Headline.NothingInFlight, Worlds.Runs};
 ghost use Rattle.tn_world.specs.declared.events.Event.TheVariants as event;
 ghost use Rattle.tn_cli.specs.Playing as play;
 ghost use Rattle.tn_cli.specs.declared.playing.Stop.TheVariants.{Bad, Refused, Memory};

@@ -3,8 +3,7 @@
 ghost use Rattle.std.specs.Prelude.{◌≡◌, ◌+◌, ◌*◌, ◌/◌, ◌%◌, ◌<◌, ◌≤◌, ◌++◌, [], ◌∷◌, OnOk, codes, length};
 ghost use Rattle.std.specs.Prelude.{slice_index, vec_len, vec_capacity};
 ghost use Rattle.hex.specs.Hex.{encode_lower, lower_digits};
-ghost use Rattle.tn_discipline.specs.declared.reads.Entry.TheVariants.{Text, Signal};
-ghost use Rattle.tn_discipline.specs.Editing.{with_byte};
+ghost use Rattle.tn_discipline.specs.{declared.reads.Entry.TheVariants.{Text, Signal}, Editing.with_byte};
 ghost use Rattle.tn_discipline.specs.Entries.{line_of};
 ghost use Rattle.tn_cli.specs.Printed.{printed_entry, signal_line};
 

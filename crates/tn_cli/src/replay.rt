@@ -1,8 +1,7 @@
 //! `tn replay`: reads a client's byte stream, and prints entries.
 
 ghost use Rattle.std.specs.Prelude.{◌≡◌, IfOk};
-ghost use Rattle.tn_cli.specs.Ends.{EndsByCalls, EndsReplay};
-ghost use Rattle.tn_cli.specs.Replay.{AreKeysOf, key_of};
+ghost use Rattle.tn_cli.specs.{Ends.{EndsByCalls, EndsReplay}, Replay.{AreKeysOf, key_of}};
 
 use crate::fault::CliFault;
 use crate::local::write_entries;

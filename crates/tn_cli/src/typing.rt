@@ -2,12 +2,9 @@
 
 ghost use Rattle.std.specs.Prelude.{◌≡◌, ◌+◌, ◌<◌, ◌≤◌, ℕ, List, [], ◌∷◌, ◌++◌, IsTrue, length, take, IfOk};
 ghost use Rattle.std.specs.Prelude.{vec_len, vec_capacity};
-ghost use Rattle.tn_discipline.specs.Editing.{closing_byte, with_byte};
-ghost use Rattle.tn_discipline.specs.Entries.{line_of};
-ghost use Rattle.tn_discipline.specs.HalfLine.{empty_line};
-ghost use Rattle.tn_discipline.specs.Keys.{gives_entry, role_of_key};
-ghost use Rattle.tn_cli.specs.Printed.{printed_entry};
-ghost use Rattle.tn_cli.specs.Typing.{LeadsTo, Types, max_entry, max_printed};
+ghost use Rattle.tn_discipline.specs.{Editing.{closing_byte, with_byte}, Entries.line_of};
+ghost use Rattle.tn_discipline.specs.{HalfLine.empty_line, Keys.{gives_entry, role_of_key}};
+ghost use Rattle.tn_cli.specs.{Printed.printed_entry, Typing.{LeadsTo, Types, max_entry, max_printed}};
 
 use crate::printed::{put_line, put_signal};
 use std::alloc::{AllocError, Global};

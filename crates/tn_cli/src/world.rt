@@ -1,10 +1,8 @@
 //! `tn world`: reads a script, and prints what its commands give.
 
 ghost use Rattle.std.specs.Prelude.{IfOk, map};
-ghost use Rattle.tn_cli.specs.Ends.{EndsByCalls, EndsWorld};
+ghost use Rattle.tn_cli.specs.{Ends.{EndsByCalls, EndsWorld}, Scripts.lines_of, Typing.standard};
 ghost use Rattle.tn_cli.specs.Playing as play;
-ghost use Rattle.tn_cli.specs.Scripts.{lines_of};
-ghost use Rattle.tn_cli.specs.Typing.{standard};
 ghost use Rattle.tn_world.specs.Opened.{IsOpened};
 
 use crate::fault::CliFault;

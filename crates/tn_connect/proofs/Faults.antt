@@ -1,8 +1,6 @@
 -- What an error of the network is told as is no fault of a session.
 use Rattle.std.specs.declared.io.Error.{Error}
-use Rattle.tn_connect.specs.Faults.{IsOfNetwork, IsToldAs}
-use Rattle.tn_connect.specs.declared.fault.ConnectFault.{ConnectFault}
-use Rattle.tn_connect.specs.declared.fault.ConnectFault.TheVariants.{Network, Session, Memory}
+use Rattle.tn_connect.specs.{Faults.{IsOfNetwork, IsToldAs}, declared.fault.ConnectFault.{ConnectFault, TheVariants.{Network, Session, Memory}}}
 
 pub of_network : (error : Error) (fault : ConnectFault) → IsToldAs error fault → IsOfNetwork fault
 of_network error Network told = _

@@ -1,17 +1,12 @@
 -- What a client's session put into its queue, which held nothing.
 use Rattle.std.proofs.Common.{◌≡◌, ℕ, List, [], Option, Some, None, Result, Ok, Err, IfOk, subst, sym}
 use Rattle.crossbeam_channel.specs.Claims.{view}
-use Rattle.tn_connect.specs.Clients.{RunsClient, RunsWriting}
-use Rattle.tn_connect.specs.declared.connected.Connected.{Connected}
+use Rattle.tn_connect.specs.{Clients.{RunsClient, RunsWriting}, declared.connected.Connected.Connected}
 use Rattle.tn_machines.specs.declared.faults.SessionFault.{SessionFault}
 use Rattle.tn_queue.specs.Queue.{putter}
-use Rattle.tn_session.specs.Client.{RunningClient}
-use Rattle.tn_session.specs.Facts.{Window, client_result}
-use Rattle.tn_session.specs.declared.parties.ClientPorts.{ClientPorts}
-use Rattle.tn_session.specs.declared.parties.Report.{Report}
+use Rattle.tn_session.specs.{Client.RunningClient, Facts.{Window, client_result}, declared.parties.{ClientPorts.ClientPorts, Report.Report}}
 use Rattle.tn_sockets.specs.Queue.{PieceHand, PiecePass, put_bytes}
-use Rattle.tn_streams.specs.Beside.{no_words}
-use Rattle.tn_streams.specs.Known.{KnownReader, KnownTyping, KnownWriting}
+use Rattle.tn_streams.specs.{Beside.no_words, Known.{KnownReader, KnownTyping, KnownWriting}}
 
 abbrev pub writing : Option (List ℕ) → Option (List ℕ) → KnownWriting
 writing old new = record { before = record { bytes = old; calls = None }; after = record { bytes = new; calls = None } }

@@ -1,10 +1,7 @@
 -- A session ran over the connection that was asked for.
 use Rattle.std.proofs.Common.{◌≡◌, ap, sym, ◌∙◌, subst, Result, Ok, Err, IfOk, IfErr}
-use Rattle.std.specs.declared.io.Error.{Error}
-use Rattle.std.specs.declared.net.tcp.TcpStream.{TcpStream}
-use Rattle.tn_connect.specs.Clients.{NeedsConnection}
-use Rattle.tn_connect.specs.Faults.{IsToldAs}
-use Rattle.tn_connect.specs.declared.fault.ConnectFault.{ConnectFault}
+use Rattle.std.specs.declared.{io.Error.Error, net.tcp.TcpStream.TcpStream}
+use Rattle.tn_connect.specs.{Clients.NeedsConnection, Faults.IsToldAs, declared.fault.ConnectFault.ConnectFault}
 
 pub ran_over : {A : Type 0} (over : A → TcpStream) (result : Result A ConnectFault) (reached : Result TcpStream Error) (stream : TcpStream)
     → reached ≡ Ok stream → IfOk result (λ ran. over ran ≡ stream) → NeedsConnection over result reached

@@ -1,6 +1,5 @@
 -- Which keys the bytes of a text are that are taken one by one.
-use Rattle.std.proofs.Common.{◌≡◌, ◌<◌, ◌+◌, ◌==◌, ℕ, Bool, List, [], ◌∷◌, ◌++◌, length, drop, refl, sym, ap, ◌∙◌, append_assoc}
-use Rattle.std.proofs.Math.ListN.{get_or}
+use Rattle.std.proofs.{Common.{◌≡◌, ◌<◌, ◌+◌, ◌==◌, ℕ, Bool, List, [], ◌∷◌, ◌++◌, length, drop, refl, sym, ap, ◌∙◌, append_assoc}, Math.ListN.get_or}
 use Rattle.std.proofs.lemmas.List.{drop_more}
 use Rattle.tn_connect.specs.Texts.{key_of_text, keys_of_text}
 

@@ -1,33 +1,23 @@
 -- Which session a client runs over a connection.
 use Rattle.std.specs.Prelude.{◌≡◌, ℕ, Bool, true, false, Option, Some, None, List, [], Result, Ok, Err, IfErr}
-use Rattle.std.specs.declared.io.Error.{Error}
-use Rattle.std.specs.declared.net.tcp.TcpStream.{TcpStream}
+use Rattle.std.specs.declared.{io.Error.Error, net.tcp.TcpStream.TcpStream}
 use Rattle.crossbeam_channel.specs.Claims.{view}
-use Rattle.tn_connect.specs.Faults.{IsToldAs}
-use Rattle.tn_connect.specs.declared.connected.Connected.{Connected}
-use Rattle.tn_connect.specs.declared.fault.ConnectFault.{ConnectFault}
-use Rattle.tn_connect.specs.declared.settings.Connecting.{Connecting}
-use Rattle.tn_connect.specs.declared.settings.KeySource.{KeySource}
-use Rattle.tn_connect.specs.declared.settings.KeySource.TheVariants.{Reader, Input, Terminal}
-use Rattle.tn_connect.specs.Texts.{with_text}
-use Rattle.tn_sockets.specs.Typing.{of_bytes}
-use Rattle.tn_sockets.specs.declared.escaping.Keyboard.{Keyboard}
+use Rattle.tn_connect.specs.{Faults.IsToldAs, declared.connected.Connected.Connected, Texts.with_text}
+use Rattle.tn_connect.specs.declared.{fault.ConnectFault.ConnectFault, settings.Connecting.Connecting}
+use Rattle.tn_connect.specs.declared.settings.KeySource.{KeySource, TheVariants.{Reader, Input, Terminal}}
+use Rattle.tn_sockets.specs.{Typing.of_bytes, declared.escaping.Keyboard.Keyboard, Queue.put_bytes}
 use Rattle.tn_sockets.specs.declared.returns.ReturnKey.{ReturnKey}
-use Rattle.tn_session.specs.Client.{RunningClient}
-use Rattle.tn_session.specs.Facts.{Window, client_result}
-use Rattle.tn_session.specs.declared.parties.ClientPorts.{ClientPorts}
-use Rattle.tn_session.specs.declared.parties.Report.{Report}
-use Rattle.tn_sockets.specs.Queue.{put_bytes}
-use Rattle.tn_streams.specs.Beside.{no_words}
-use Rattle.tn_streams.specs.Known.{KnownTyping}
+use Rattle.tn_session.specs.{Client.RunningClient, Facts.{Window, client_result}}
+use Rattle.tn_session.specs.declared.parties.{ClientPorts.ClientPorts, Report.Report}
+use Rattle.tn_streams.specs.{Beside.no_words, Known.KnownTyping}
 
 abbrev pub window_of : Connecting → Window
 window_of connecting =
     record { width = connecting.width; height = connecting.height; limit = connecting.line_limit }
 
 -- What is known beforehand of the keys of a reader with these bytes, which may be a text: the keys that they
--- are, and that no size of a window is told and nothing asked for; or nothing where they are waited for, but that only at a terminal anything
--- is asked for.
+-- are, and that no size of a window is told and nothing asked for; or nothing if they are waited for, but that
+-- only at a terminal anything is asked for.
 abbrev pub foreseen : KeySource → Bool → Option (List ℕ) → KnownTyping
 foreseen Reader text bytes =
     record {

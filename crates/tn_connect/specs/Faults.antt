@@ -1,10 +1,7 @@
 -- Which faults come from where.
-use Rattle.std.specs.Prelude.{◌≡◌, ◌≢◌}
-use Rattle.std.specs.IoError.{error_kind}
-use Rattle.std.specs.declared.io.Error.{Error}
+use Rattle.std.specs.{Prelude.{◌≡◌, ◌≢◌}, IoError.error_kind, declared.io.Error.Error}
 use Rattle.std.specs.declared.io.ErrorKind.TheVariants.{OutOfMemory}
-use Rattle.tn_connect.specs.declared.fault.ConnectFault.{ConnectFault}
-use Rattle.tn_connect.specs.declared.fault.ConnectFault.TheVariants.{Network, Session, Memory}
+use Rattle.tn_connect.specs.declared.fault.ConnectFault.{ConnectFault, TheVariants.{Network, Session, Memory}}
 
 -- an error of the network is told as this: out of memory as that
 abbrev pub IsToldAs : Error → ConnectFault → Type 0

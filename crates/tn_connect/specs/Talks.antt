@@ -1,27 +1,15 @@
 -- Which talk a client has with a service that takes lines.
-use Rattle.std.specs.Prelude.{◌≡◌, ◌≢◌, ℕ, Bool, true, false, Option, Some, IfSome, List, []}
-use Rattle.std.specs.Prelude.{length, option_map}
-use Rattle.std.specs.declared.net.tcp.TcpStream.{TcpStream}
-use Rattle.tn_connect.specs.declared.settings.KeySource.{KeySource}
-use Rattle.tn_connect.specs.declared.settings.KeySource.TheVariants.{Reader, Input, Terminal}
-use Rattle.tn_connect.specs.declared.settings.Plain.{Plain}
-use Rattle.tn_connect.specs.Warnings.{count_in}
-use Rattle.tn_connect.specs.declared.talks.TalkReport.{TalkReport}
-use Rattle.tn_discipline.specs.Characters.{standard_characters}
-use Rattle.tn_discipline.specs.Keys.{standard_flags}
+use Rattle.std.specs.Prelude.{◌≡◌, ◌≢◌, ℕ, Bool, true, false, Option, Some, IfSome, List, [], length}
+use Rattle.std.specs.{Prelude.option_map, declared.net.tcp.TcpStream.TcpStream}
+use Rattle.tn_connect.specs.declared.settings.KeySource.{KeySource, TheVariants.{Reader, Input, Terminal}}
+use Rattle.tn_connect.specs.{declared.{settings.Plain.Plain, talks.TalkReport.TalkReport}, Warnings.count_in}
+use Rattle.tn_discipline.specs.{Characters.standard_characters, Keys.standard_flags}
 use Rattle.tn_discipline.specs.declared.termios.Settings.{Settings}
-use Rattle.tn_sockets.specs.PlainKeys.{keys_typed}
-use Rattle.tn_sockets.specs.Prompting.{closed}
-use Rattle.tn_sockets.specs.Typing.{of_bytes}
-use Rattle.tn_sockets.specs.declared.escaping.Keyboard.{Keyboard}
-use Rattle.tn_sockets.specs.declared.returns.ReturnKey.TheVariants.{CrNul}
+use Rattle.tn_sockets.specs.{PlainKeys.keys_typed, Prompting.closed, Typing.of_bytes, Logs.logged}
+use Rattle.tn_sockets.specs.declared.{escaping.Keyboard.Keyboard, returns.ReturnKey.TheVariants.CrNul}
 use Rattle.tn_lines.specs.Kinds.{Kind, typed, read, has_left_by}
-use Rattle.tn_lines_client.specs.Ending.{is_left}
-use Rattle.tn_lines_client.specs.Logs.{bytes_in}
-use Rattle.tn_lines_client.specs.Openings.{negotiates, warnings_if}
-use Rattle.tn_lines_client.specs.Talking.{Talked, streams}
-use Rattle.tn_lines_client.specs.declared.talk.Over.TheVariants.{Closed, Broken}
-use Rattle.tn_sockets.specs.Logs.{logged}
+use Rattle.tn_lines_client.specs.{Ending.is_left, Logs.bytes_in, Openings.{negotiates, warnings_if}}
+use Rattle.tn_lines_client.specs.{Talking.{Talked, streams}, declared.talk.Over.TheVariants.{Closed, Broken}}
 
 abbrev pub standard_settings : Settings
 standard_settings = record { flags = standard_flags; chars = standard_characters }

@@ -1,7 +1,6 @@
 -- What a user is told.
 use Rattle.std.specs.Prelude.{ℕ, Bool, List, codes}
-use Rattle.tn_streams.specs.Writing.{Tells, Writes}
-use Rattle.tn_streams.specs.Known.{KnownWriting}
+use Rattle.tn_streams.specs.{Writing.{Tells, Writes}, Known.KnownWriting}
 
 -- the service speaks Telnet
 abbrev pub speaks_telnet : List ℕ

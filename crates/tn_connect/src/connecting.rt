@@ -2,19 +2,14 @@
 
 ghost use Rattle.std.specs.Prelude.{◌≡◌, ◌≢◌, [], Err, IfErr, IfOk, IsOk, Ok, OnErr, Some, false, IsFalse};
 ghost use Rattle.std.specs.Prelude.{IsTrue};
-ghost use Rattle.crossbeam_channel.specs.Claims.{view};
-ghost use Rattle.crossbeam_channel.specs.Ends.{sends_on};
+ghost use Rattle.crossbeam_channel.specs.{Claims.view, Ends.sends_on};
 ghost use Rattle.tn_connect.specs.Clients.{ConnectsBy, RunsClient, RunsWriting, connection_of, foreseen};
-ghost use Rattle.tn_connect.specs.Clients.{keyboard_of, text_by, window_of};
-ghost use Rattle.tn_connect.specs.Faults.{IsOfNetwork};
+ghost use Rattle.tn_connect.specs.{Clients.{keyboard_of, text_by, window_of}, Faults.IsOfNetwork};
 ghost use Rattle.tn_connect.specs.Sent.{TookWhatWasWritten};
 ghost use Rattle.tn_machines.specs.Ending.{EndsWhole};
-ghost use Rattle.tn_network.specs.Asked.{ReachesBy};
-ghost use Rattle.tn_network.specs.Dialing.{suits};
+ghost use Rattle.tn_network.specs.{Asked.ReachesBy, Dialing.suits};
 ghost use Rattle.tn_queue.specs.Queue.{putter};
-ghost use Rattle.tn_sockets.specs.Ends.{IsNew};
-ghost use Rattle.tn_sockets.specs.Logs.{logged};
-ghost use Rattle.tn_sockets.specs.Queue.{IsNamed, IsSent, put_bytes};
+ghost use Rattle.tn_sockets.specs.{Ends.IsNew, Logs.logged, Queue.{IsNamed, IsSent, put_bytes}};
 ghost use Rattle.tn_sockets.specs.declared.sending.Sent.TheVariants.{Whole};
 ghost use Rattle.tn_streams.specs.Known.{known_typing};
 

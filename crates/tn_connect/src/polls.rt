@@ -1,8 +1,7 @@
 //! Waiting for keys, for what a service says, and for room.
 
 ghost use Rattle.std.specs.Prelude.{◌≡◌, Some, true};
-ghost use Rattle.tn_connect.specs.Told.{TellsLine, speaks_telnet};
-ghost use Rattle.tn_connect.specs.Warnings.{count_in};
+ghost use Rattle.tn_connect.specs.{Told.{TellsLine, speaks_telnet}, Warnings.count_in};
 ghost use Rattle.tn_lines_client.specs.Openings.{warned_on};
 ghost use Rattle.tn_streams.specs.Known.{known_writing};
 

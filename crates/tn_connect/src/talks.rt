@@ -1,13 +1,11 @@
 //! `tn connect --plain`: a talk with a service that takes lines and negotiates nothing.
 
 ghost use Rattle.std.specs.Prelude.{◌≡◌, ◌≢◌, [], IfOk, Ok};
-ghost use Rattle.tn_connect.specs.Clients.{ConnectsBy};
-ghost use Rattle.tn_connect.specs.Talks.{HeardToTheEnd, HoldsTalk, HoldsTyped, RunsTalk};
-ghost use Rattle.tn_connect.specs.Talks.{is_terminal, kind_of, plain_keyboard, talked_over};
+ghost use Rattle.tn_connect.specs.{Clients.ConnectsBy, Talks.{kind_of, plain_keyboard, talked_over}};
+ghost use Rattle.tn_connect.specs.Talks.{HeardToTheEnd, HoldsTalk, HoldsTyped, RunsTalk, is_terminal};
 ghost use Rattle.tn_connect.specs.Warnings.{count_in};
 ghost use Rattle.tn_lines.specs.Kinds.{LeadsTo};
-ghost use Rattle.tn_network.specs.Asked.{ReachesBy};
-ghost use Rattle.tn_network.specs.Dialing.{suits};
+ghost use Rattle.tn_network.specs.{Asked.ReachesBy, Dialing.suits};
 
 use crate::causes::{note, note_log, note_unsent};
 use crate::fault::ConnectFault;
@@ -130,8 +128,9 @@ fn is_terminal(origin: KeySource) -> bool
 
 /// Connects to a host, an address or a name, and talks to the service there by lines, with these keys and
 /// this screen, until the service has closed or the user has left. At a terminal lines are edited as at one
-/// of its own, and the user speaks to the client itself behind the escape character; those of any other input
-/// go as they are. That the service speaks Telnet is told as soon as it shows. Of a fault the causes are noted.
+/// of its own, and the user speaks to the client itself after the escape character; those of any other input
+/// go as they are. That the service speaks Telnet is reported as soon as it shows. Of a fault the causes are
+/// noted.
 pub fn connect_plain<H: Host + Network, K: Read + Drop, S: Write, E: Drain>(
     rt: H,
     alloc: Global,

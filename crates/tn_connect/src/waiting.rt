@@ -1,8 +1,6 @@
 //! Keys whose end is told late, so that a server that hangs up at it has time to answer.
 
-ghost use Rattle.std.specs.Prelude.{◌≡◌, None};
-ghost use Rattle.std.specs.Io.{ReadsAtMost};
-ghost use Rattle.std.specs.Io.KnownBytes.{ReadConsumes};
+ghost use Rattle.std.specs.{Prelude.{◌≡◌, None}, Io.{ReadsAtMost, KnownBytes.ReadConsumes}};
 ghost use Rattle.tn_streams.specs.Beside.{TellsNext};
 
 use std::alloc::Global;

@@ -1,13 +1,8 @@
 -- A line that waits first is the one that is taken, written and sent.
 use Rattle.std.proofs.Common.{◌≡◌, ℕ, List, [], ◌∷◌, sym, ap, ◌∙◌, subst, length, min}
-use Rattle.tn_discipline.specs.declared.reads.Entry.{Entry}
-use Rattle.tn_discipline.specs.declared.reads.Entry.TheVariants.{Text, Eof, Signal}
-use Rattle.tn_server.specs.Calls.{End, LeadsTo}
-use Rattle.tn_server.specs.Steps.{end_after}
+use Rattle.tn_discipline.specs.declared.{reads.Entry.{Entry, TheVariants.{Text, Eof, Signal}}, echo.Symbol.Symbol}
+use Rattle.tn_server.specs.{Calls.{End, LeadsTo}, Steps.end_after, Events.{History, next, took, wrote, pulled}, Screen.queue}
 use Rattle.tn_server.proofs.lemmas.Leading.{stands}
-use Rattle.tn_discipline.specs.declared.echo.Symbol.{Symbol}
-use Rattle.tn_server.specs.Events.{History, next, took, wrote, pulled}
-use Rattle.tn_server.specs.Screen.{queue}
 use Rattle.tn_example_echo.specs.Said.{echoed}
 
 abbrev text_at_front : List Entry → List ℕ

@@ -1,14 +1,9 @@
 -- What is said at one call after another.
 use Rattle.std.proofs.Common.{◌≡◌, ℕ, List, ◌++◌, sym, ap, ◌∙◌, subst, append_assoc}
-use Rattle.tn_nvt.specs.Spelling.{spells}
-use Rattle.tn_nvt.specs.declared.items.Item.{Item}
+use Rattle.tn_nvt.specs.{Spelling.spells, declared.items.Item.Item}
 use Rattle.tn_nvt.proofs.lemmas.Reading.{spells-append}
-use Rattle.tn_server.specs.Answering.{Feeds}
-use Rattle.tn_server.specs.Calls.{End, LeadsTo}
-use Rattle.tn_server.specs.Steps.{end_after, says, says_items}
+use Rattle.tn_server.specs.{Answering.Feeds, Calls.{End, LeadsTo}, Steps.{end_after, says, says_items}, Events.{Event, next, gets}, Replies.items_said}
 use Rattle.tn_server.proofs.lemmas.Leading.{stands, says_as, stands_fed, says_all}
-use Rattle.tn_server.specs.Events.{Event, next, gets}
-use Rattle.tn_server.specs.Replies.{items_said}
 use Rattle.tn_example_echo.specs.Said.{SaysMore}
 
 pub says_event : (old new : End) (e : Event) (before after : List ℕ) → new ≡ end_after old e

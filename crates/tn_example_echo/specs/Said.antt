@@ -1,14 +1,9 @@
 -- What an end says, by the definitions of what is said in a history.
 use Rattle.std.specs.Prelude.{◌≡◌, ℕ, List, ◌∷◌, ◌++◌, length, min}
-use Rattle.tn_nvt.specs.Spelling.{spells}
-use Rattle.tn_nvt.specs.declared.items.Item.{Item}
-use Rattle.tn_server.specs.Calls.{End, LeadsTo}
-use Rattle.tn_discipline.specs.declared.reads.Entry.{Entry}
-use Rattle.tn_discipline.specs.declared.reads.Entry.TheVariants.{Text}
-use Rattle.tn_server.specs.Events.{History, next, took, wrote, pulled}
-use Rattle.tn_server.specs.Lines.{waiting}
-use Rattle.tn_server.specs.Screen.{queue}
-use Rattle.tn_server.specs.Replies.{items_said}
+use Rattle.tn_nvt.specs.{Spelling.spells, declared.items.Item.Item}
+use Rattle.tn_server.specs.{Calls.{End, LeadsTo}, Events.{History, next, took, wrote, pulled}, Lines.waiting}
+use Rattle.tn_server.specs.{Screen.queue, Replies.items_said}
+use Rattle.tn_discipline.specs.declared.reads.Entry.{Entry, TheVariants.Text}
 
 -- a history leads to this end in which so much more was said
 pub record Later (h : History) (said : List Item) (end : End) : Type 0 where

@@ -1,9 +1,7 @@
 -- What the job says, and how many lines it has counted.
 use Rattle.std.specs.Prelude.{ℕ, ◌+◌, ◌-◌, ◌^◌, ◌++◌, codes, decimal, min}
-use Rattle.tn_discipline.specs.declared.reads.Entry.{Entry}
-use Rattle.tn_discipline.specs.declared.reads.Entry.TheVariants.{Text, Eof, Signal}
-use Rattle.tn_jobs.specs.declared.reactions.Reaction.{Reaction}
-use Rattle.tn_jobs.specs.declared.verdicts.After.{After}
+use Rattle.tn_discipline.specs.declared.reads.Entry.{Entry, TheVariants.{Text, Eof, Signal}}
+use Rattle.tn_jobs.specs.declared.{reactions.Reaction.Reaction, verdicts.After.After}
 use Rattle.tn_jobs.specs.declared.verdicts.After.TheVariants.{Stay, Done}
 
 abbrev pub told : ℕ → After → Reaction

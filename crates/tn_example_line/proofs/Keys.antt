@@ -1,15 +1,8 @@
 -- One key more of keys that are typed at one line.
 use Rattle.std.proofs.Common.{◌≡◌, ℕ, List, [], ◌∷◌, ◌++◌, refl, sym, ap, ◌∙◌, subst, arith}
-use Rattle.tn_discipline.specs.Entries.{entries_of}
-use Rattle.tn_discipline.specs.Characters.{standard_characters}
-use Rattle.tn_discipline.specs.Keys.{roles_of, standard_flags}
-use Rattle.tn_discipline.specs.Advancing.{Advances}
-use Rattle.tn_discipline.specs.HalfLine.{HalfLine, effect_entries}
-use Rattle.tn_discipline.specs.declared.half_line.Effect.{Effect}
+use Rattle.tn_discipline.specs.{Entries.entries_of, Characters.standard_characters, Keys.{roles_of, standard_flags}, Advancing.Advances, HalfLine.HalfLine}
+use Rattle.tn_discipline.specs.{HalfLine.effect_entries, declared.{half_line.Effect.Effect, reads.Entry.Entry, keys.Role.Role, termios.Settings.Settings}}
 use Rattle.tn_discipline.specs.declared.half_line.Effect.TheVariants as effect
-use Rattle.tn_discipline.specs.declared.reads.Entry.{Entry}
-use Rattle.tn_discipline.specs.declared.keys.Role.{Role}
-use Rattle.tn_discipline.specs.declared.termios.Settings.{Settings}
 use Rattle.tn_discipline.proofs.lemmas.KeyRoles.{roles_of-append}
 use Rattle.tn_example_line.specs.Typed.{standard, TypesKey}
 

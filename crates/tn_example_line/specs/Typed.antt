@@ -1,14 +1,9 @@
 -- Keys that were typed at one line, and what is shown of the entries that they gave.
 use Rattle.std.specs.Prelude.{◌≡◌, ℕ, List, [], ◌∷◌, ◌++◌, codes}
-use Rattle.tn_discipline.specs.Advancing.{LeadsTo}
-use Rattle.tn_discipline.specs.Canon.{Canon, typed_entries}
-use Rattle.tn_discipline.specs.Characters.{standard_characters}
-use Rattle.tn_discipline.specs.HalfLine.{HalfLine}
-use Rattle.tn_discipline.specs.Keys.{roles_of, standard_flags}
-use Rattle.tn_discipline.specs.Limits.{standard_limit}
-use Rattle.tn_discipline.specs.declared.reads.Entry.{Entry}
-use Rattle.tn_discipline.specs.declared.reads.Entry.TheVariants.{Text, Eof, Signal}
-use Rattle.tn_discipline.specs.declared.reads.Sig.TheVariants.{Int, Quit, Tstp}
+use Rattle.tn_discipline.specs.{Advancing.LeadsTo, Canon.{Canon, typed_entries}, HalfLine.HalfLine}
+use Rattle.tn_discipline.specs.{Characters.standard_characters, Keys.{roles_of, standard_flags}}
+use Rattle.tn_discipline.specs.{Limits.standard_limit, declared.reads.Sig.TheVariants.{Int, Quit, Tstp}}
+use Rattle.tn_discipline.specs.declared.reads.Entry.{Entry, TheVariants.{Text, Eof, Signal}}
 
 -- a terminal with standard settings and lines of the standard limit
 abbrev pub standard : Canon

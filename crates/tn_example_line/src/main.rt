@@ -4,8 +4,7 @@
 //! `printf 'helo\177lo\r'` piped into it prints `hello`: the user typed `helo`, ERASE, `lo`, return.
 #![tactic(auto)]
 
-ghost use Rattle.std.specs.Prelude.{◌≡◌, IfOk, OnOk};
-ghost use Rattle.std.specs.Io.KnownBytes.{Appends};
+ghost use Rattle.std.specs.{Prelude.{◌≡◌, IfOk, OnOk}, Io.KnownBytes.Appends};
 ghost use Rattle.tn_discipline.specs.Canon.{typed_entries};
 ghost use Rattle.tn_example_line.specs.Typed.{standard, shown, TypesKey};
 

@@ -28,8 +28,8 @@ impl From<AllocError> for HostsFault {
     }
 }
 
-/// Gives the words that these words of a command line, the program's name first, stand for: those of `connect`
-/// with a HOST that the user's file has. `None` if they stand for themselves.
+/// Gives the words that these words of a command line, the program's name first, stand for: those of
+/// `connect` with a HOST that the user's file has. `None` if they stand for themselves.
 ///
 /// # Errors
 ///

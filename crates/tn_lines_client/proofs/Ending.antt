@@ -1,19 +1,10 @@
 -- How a talk ends.
-use Rattle.std.proofs.Common.{◌≡◌, ◌≢◌, ◌⊎◌, ◌+◌, ◌<◌, ℕ, Bool, true, false, IsTrue, List, [], Option, Some, None, IfSome, not, Ok, Err, refl, sym, ap, ◌∙◌, subst, arith, inl, inr}
-use Rattle.std.proofs.Common.{⊎_elim}
-use Rattle.std.specs.IoError.{error_kind}
-use Rattle.std.specs.Io.KnownBytes.{IsAtEnd}
-use Rattle.std.specs.declared.io.Error.{Error}
-use Rattle.std.specs.declared.io.ErrorKind.{ErrorKind}
-use Rattle.std.specs.declared.io.ErrorKind.TheVariants.{Interrupted, WouldBlock}
-use Rattle.tn_lines.specs.Kinds.{Kind, typed, read, LeadsTo, has_left_by}
-use Rattle.tn_lines.specs.declared.any_lines.AnyLines.{AnyLines}
-use Rattle.tn_lines.specs.declared.any_lines.AnyLines.TheVariants.{Typed, Read}
-use Rattle.tn_lines_client.specs.Ending.{ClosesAt, Ends, LeavesBy, ReadsFail, WritesFail, broken_unless, has_broken, has_left, is_left}
-use Rattle.tn_lines_client.specs.declared.talk.Over.{Over}
-use Rattle.tn_lines_client.specs.declared.talk.Over.TheVariants.{Closed, Broken, Left, Asked}
-use Rattle.tn_streams.specs.Foretelling.{Failures, ForetellsCall}
-use Rattle.tn_streams.specs.Telling.{Calls, TellsCall}
+use Rattle.std.proofs.Common.{◌≡◌, ◌⊎◌, ℕ, Bool, true, false, List, [], Option, Some, None, IfSome, not, refl, sym, ap, ◌∙◌, subst, arith, inl, inr, ⊎_elim}
+use Rattle.std.specs.{Io.KnownBytes.IsAtEnd}
+use Rattle.tn_lines.specs.{Kinds.{Kind, typed, read, LeadsTo, has_left_by}, declared.any_lines.AnyLines.{AnyLines, TheVariants.{Typed, Read}}}
+use Rattle.tn_lines_client.specs.Ending.{ClosesAt, Ends, LeavesBy, ReadsFail, WritesFail, broken_unless, has_broken, has_left}
+use Rattle.tn_lines_client.specs.declared.talk.Over.{Over, TheVariants.{Closed, Broken, Left, Asked}}
+use Rattle.tn_streams.specs.{Foretelling.Failures, Telling.Calls}
 
 -- READS
 

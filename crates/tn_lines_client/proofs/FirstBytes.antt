@@ -1,8 +1,7 @@
 -- The first two bytes of a service come in pieces.
 use Rattle.std.proofs.Common.{◌≡◌, ◌≤◌, ◌<◌, ℕ, Bool, true, false, not, ◌&&◌, List, [], ◌∷◌, ◌++◌, length, get_or, refl, sym, ap, ◌∙◌, subst, append-nil, arith}
 use Rattle.std.proofs.Common.{Option, Some, None, option_map, ◌+◌}
-use Rattle.tn_lines_client.specs.Openings.{Hears, Listens, Rises, is_option, negotiates, opening_of, warned_on, warnings_if}
-use Rattle.tn_lines_client.specs.declared.opening.Opening.{Opening}
+use Rattle.tn_lines_client.specs.{Openings.{Hears, Listens, Rises, is_option, negotiates, opening_of, warned_on, warnings_if}, declared.opening.Opening.Opening}
 use Rattle.tn_lines_client.specs.declared.opening.Opening.TheVariants.{Nothing, First, Both}
 
 abbrev count : Opening → ℕ

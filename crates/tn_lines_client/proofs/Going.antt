@@ -2,14 +2,10 @@
 use Rattle.std.proofs.Common.{◌≡◌, ◌≤◌, ℕ, Bool, List, [], ◌∷◌, ◌++◌, Option, refl, sym, ap, ◌∙◌, subst, append_assoc, append-nil, arith, length, take, drop}
 use Rattle.std.proofs.Common.{take-append-drop}
 use Rattle.std.specs.Io.KnownBytes.{Appends, Consumes, Keeps}
-use Rattle.tn_lines.specs.Edges.{HasShown, at_screen}
-use Rattle.tn_lines.specs.Kinds.{Kind, typed, read, LeadsTo, said_by, shown_by}
-use Rattle.tn_lines_client.specs.Logs.{bytes_in}
+use Rattle.tn_lines.specs.{Edges.{HasShown, at_screen}, Kinds.{Kind, typed, read, LeadsTo, said_by, shown_by}}
+use Rattle.tn_lines_client.specs.{Logs.bytes_in, Talking.Begins, declared.talk.Talk.Talk}
 use Rattle.tn_lines_client.specs.Talking.{Streams, streams, Piece, echo, came, all_shown, echoed, came_in, Leads, LeadsBy, GoesOn, TypesKeys, ShowsBytes}
-use Rattle.tn_lines_client.specs.Talking.{Begins}
-use Rattle.tn_lines_client.specs.declared.talk.Talk.{Talk}
-use Rattle.tn_lines_client.proofs.FirstBytes.{rises_more, rises_none}
-use Rattle.tn_lines_client.proofs.Writing.{consumes_more, consumes_kept, consumes_none}
+use Rattle.tn_lines_client.proofs.{FirstBytes.{rises_more, rises_none}, Writing.{consumes_more, consumes_kept, consumes_none}}
 use Rattle.tn_streams.proofs.lemmas.Writing.{appends_more, appends_kept, appends_none}
 
 -- ONE PIECE MORE

@@ -1,13 +1,9 @@
 -- How a talk ends, and what led to that.
-use Rattle.std.specs.Prelude.{◌≡◌, ◌<◌, ◌≤◌, ◌⊎◌, ⊤, ℕ, Bool, true, false, IsTrue, List}
-use Rattle.std.specs.Prelude.{Option, Some, None}
+use Rattle.std.specs.Prelude.{◌≡◌, ◌<◌, ◌≤◌, ◌⊎◌, ⊤, ℕ, Bool, true, false, IsTrue, List, Option, Some, None}
 use Rattle.std.specs.Io.KnownBytes.{IsAtEnd}
-use Rattle.tn_lines.specs.Kinds.{Kind, LeadsTo, has_left_by}
-use Rattle.tn_lines.specs.declared.any_lines.AnyLines.{AnyLines}
-use Rattle.tn_lines_client.specs.declared.talk.Over.{Over}
-use Rattle.tn_lines_client.specs.declared.talk.Over.TheVariants.{Closed, Broken, Left, Asked}
-use Rattle.tn_streams.specs.Foretelling.{Failures}
-use Rattle.tn_streams.specs.Telling.{Calls}
+use Rattle.tn_lines.specs.{Kinds.{Kind, LeadsTo, has_left_by}, declared.any_lines.AnyLines.AnyLines}
+use Rattle.tn_lines_client.specs.declared.talk.Over.{Over, TheVariants.{Closed, Broken, Left, Asked}}
+use Rattle.tn_streams.specs.{Foretelling.Failures, Telling.Calls}
 
 -- the user left
 abbrev pub is_left : Over → Bool

@@ -1,8 +1,7 @@
 -- By what a service is known that speaks Telnet: its first two bytes are a command that negotiates an option.
 use Rattle.std.specs.Prelude.{◌≡◌, ⊤, ℕ, ◌+◌, ◌==◌, ◌&&◌, nat_le, Bool, true, false, not, Option, Some, None}
 use Rattle.std.specs.Prelude.{option_map, List, [], ◌∷◌, ◌++◌}
-use Rattle.tn_lines_client.specs.declared.opening.Opening.{Opening}
-use Rattle.tn_lines_client.specs.declared.opening.Opening.TheVariants.{Nothing, First, Both}
+use Rattle.tn_lines_client.specs.declared.opening.Opening.{Opening, TheVariants.{Nothing, First, Both}}
 
 -- IAC, and then WILL, WONT, DO or DONT (RFC 854)
 abbrev pub is_option : ℕ → ℕ → Bool

@@ -1,12 +1,10 @@
 -- A talk with a service: what was read, what was told to it and what was shown, for every order in which keys
 -- and bytes come.
-use Rattle.std.specs.Prelude.{◌≡◌, ℕ, Bool, Option, List, [], ◌∷◌, ◌++◌}
-use Rattle.std.specs.Io.KnownBytes.{Consumes, Appends}
+use Rattle.std.specs.{Prelude.{◌≡◌, ℕ, Bool, Option, List, [], ◌∷◌, ◌++◌}, Io.KnownBytes.{Consumes, Appends}}
 use Rattle.tn_lines.specs.Edges.{HasShown, ShowsOn, at_screen}
 use Rattle.tn_lines.specs.Kinds.{Kind, LeadsTo, Takes, said_by, shown_by}
-use Rattle.tn_lines_client.specs.Logs.{bytes_in}
+use Rattle.tn_lines_client.specs.{Logs.bytes_in, declared.talk.Talk.Talk}
 use Rattle.tn_lines_client.specs.Openings.{Listens, Rises, negotiates, opening_of, warnings_if}
-use Rattle.tn_lines_client.specs.declared.talk.Talk.{Talk}
 
 -- what is known of the four streams: what the keys and the service still give, what was told to the service,
 -- and what is shown; and how often the user was warned of a service that speaks Telnet

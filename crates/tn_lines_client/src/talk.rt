@@ -1,13 +1,11 @@
 //! A talk with a service.
 
-ghost use Rattle.std.specs.IoError.{error_kind};
-ghost use Rattle.std.specs.Io.KnownBytes.{IsAtEnd};
-ghost use Rattle.std.specs.Prelude.{◌≡◌, ◌≢◌, ◌⊎◌, ℕ, List, None, Option, [], false, not, true};
-ghost use Rattle.std.specs.Prelude.{IfOk, IfSome, IsFalse, IsTrue, OnOk, length};
+ghost use Rattle.std.specs.{IoError.error_kind, Io.KnownBytes.IsAtEnd};
+ghost use Rattle.std.specs.Prelude.{◌≡◌, ◌≢◌, ◌⊎◌, ℕ, List, None, Option, [], false, not, true, IfOk, IfSome};
+ghost use Rattle.std.specs.Prelude.{IsFalse, IsTrue, OnOk, length};
 ghost use Rattle.tn_lines.specs.Kinds.{Kind, LeadsTo, has_left_by};
 ghost use Rattle.tn_lines_client.specs.Ending.{ClosesAt, Ends, LeavesBy, ReadsFail, WritesFail};
-ghost use Rattle.tn_lines_client.specs.Ending.{broken_unless, has_broken, has_left, is_left};
-ghost use Rattle.tn_lines_client.specs.Logs.{bytes_in};
+ghost use Rattle.tn_lines_client.specs.{Ending.{broken_unless, has_broken, has_left, is_left}, Logs.bytes_in};
 ghost use Rattle.tn_lines_client.specs.Openings.{Listens};
 ghost use Rattle.tn_lines_client.specs.Talking.{Begins, GoesOn, ShowsBytes, Talked, TypesKeys, streams};
 

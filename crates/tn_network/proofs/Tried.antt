@@ -1,15 +1,9 @@
 -- The addresses of a host are tried one by one.
-use Rattle.std.proofs.Common.{◌≡◌, ◌≤◌, Bool, true, false, cond, ◌∙◌, ℕ, ◌+◌, zero, suc, List, [], ◌∷◌, ◌++◌, Result, Ok, Err, Contains, ap, ap₂, None, option_map, ◌&&◌, sym, subst, refl, take, length, arith, append-nil}
-use Rattle.std.proofs.lemmas.Grind.{common_steps}
-use Rattle.std.proofs.lemmas.List.Elements.{filter-append}
-use Rattle.std.specs.List.{filter}
-use Rattle.std.specs.declared.io.Error.{Error}
-use Rattle.std.specs.declared.net.socket_addr.SocketAddr.{SocketAddr}
-use Rattle.std.specs.declared.net.tcp.TcpStream.{TcpStream}
+use Rattle.std.proofs.Common.{◌≡◌, ◌≤◌, Bool, true, false, cond, ◌∙◌, ℕ, ◌+◌, zero, suc, List, [], ◌∷◌, ◌++◌, Result, Ok, Err, Contains, ap, ap₂, None}
+use Rattle.std.proofs.{Common.{option_map, ◌&&◌, sym, subst, refl, take, length, arith, append-nil}, lemmas.{Grind.common_steps, List.Elements.filter-append}}
+use Rattle.std.specs.{List.filter, declared.{io.Error.Error, net.{socket_addr.SocketAddr.SocketAddr, tcp.TcpStream.TcpStream}}}
 use Rattle.std.specs.Net.ToAddrs.{HostAddrs, host_addrs}
-use Rattle.tn_network.specs.Dialing.{family_of, is_of, suits}
-use Rattle.tn_network.specs.declared.dialing.Dialing.{Dialing}
-use Rattle.tn_network.specs.Asked.{AreRefused, Reaches, ReachesBy, RefuseAll}
+use Rattle.tn_network.specs.{Dialing.{family_of, is_of, suits}, declared.dialing.Dialing.Dialing, Asked.{AreRefused, Reaches, ReachesBy, RefuseAll}}
 
 pub taken : {A : Type 0} (items rest : List A) (count less : ℕ) (x : A) → items ≡ x ∷ rest → less + 1 ≡ count → take count items ≡ x ∷ take less rest
 taken items rest count less x is one = grind (arith, common_steps, is, one)

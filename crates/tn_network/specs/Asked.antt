@@ -1,14 +1,9 @@
 -- What was asked of a network, by several calls of it.
-use Rattle.std.specs.Prelude.{◌≡◌, ℕ, zero, suc, Bool, true, List, [], ◌∷◌, Contains, MatchResult}
-use Rattle.std.specs.Prelude.{Option, Result, Ok, Err, IfOk}
-use Rattle.std.specs.IoError.{error_kind}
-use Rattle.std.specs.List.{filter}
-use Rattle.std.specs.Net.ToAddrs.{HostAddrs, host_addrs}
-use Rattle.std.specs.declared.io.Error.{Error}
-use Rattle.std.specs.declared.io.ErrorKind.TheVariants.{NotFound}
-use Rattle.std.specs.declared.net.socket_addr.SocketAddr.{SocketAddr}
-use Rattle.std.specs.declared.net.tcp.TcpListener.{TcpListener}
-use Rattle.std.specs.declared.net.tcp.TcpStream.{TcpStream}
+use Rattle.std.specs.Prelude.{◌≡◌, ℕ, zero, suc, Bool, true, List, [], ◌∷◌, Contains, MatchResult, Option}
+use Rattle.std.specs.{Prelude.{Result, Ok, Err, IfOk}, IoError.error_kind, List.filter}
+use Rattle.std.specs.{Net.ToAddrs.{HostAddrs, host_addrs}, declared.io.Error.Error}
+use Rattle.std.specs.declared.{io.ErrorKind.TheVariants.NotFound, net.socket_addr.SocketAddr.SocketAddr}
+use Rattle.std.specs.declared.net.tcp.{TcpListener.TcpListener, TcpStream.TcpStream}
 
 -- a connection to each of these addresses was asked for, in order, and there was none; of the first error,
 -- which was there before, and of theirs this is the last

@@ -1,12 +1,9 @@
 -- How a connection is asked for, and which addresses are tried.
 use Rattle.std.specs.Prelude.{Bool, true, false, ◌&&◌, Option, Some, None, option_map}
-use Rattle.std.specs.declared.net.ip_addr.IpAddr.{IpAddr}
-use Rattle.std.specs.declared.net.ip_addr.IpAddr.TheVariants as ip
-use Rattle.std.specs.declared.net.socket_addr.SocketAddr.{SocketAddr}
+use Rattle.std.specs.declared.net.{ip_addr.IpAddr.IpAddr, socket_addr.SocketAddr.SocketAddr}
 use Rattle.std.specs.declared.net.socket_addr.SocketAddr.TheVariants.{V4, V6}
-use Rattle.tn_network.specs.declared.dialing.Dialing.{Dialing}
-use Rattle.tn_network.specs.declared.dialing.Family.{Family}
-use Rattle.tn_network.specs.declared.dialing.Family.TheVariants.{Ipv4, Ipv6}
+use Rattle.std.specs.declared.net.ip_addr.IpAddr.TheVariants as ip
+use Rattle.tn_network.specs.declared.dialing.{Dialing.Dialing, Family.{Family, TheVariants.{Ipv4, Ipv6}}}
 
 abbrev pub family_of : IpAddr → Family
 family_of (ip.V4 address) = Ipv4

@@ -12,12 +12,9 @@ use std::time::Duration;
 /// A network, as it is asked. Each relation holds of what was asked in a call, and of its answer; nothing
 /// else gives one. A thread may rest on this trait: it names no types of the network.
 pub trait Network {
-    ghost use Rattle.std.specs.Prelude.{ℕ, List, Option, Result};
-    ghost use Rattle.std.specs.declared.io.Error.{Error};
-    ghost use Rattle.std.specs.declared.net.socket_addr.SocketAddr.{SocketAddr};
-    ghost use Rattle.std.specs.declared.net.tcp.TcpListener.{TcpListener};
-    ghost use Rattle.std.specs.declared.net.tcp.TcpStream.{TcpStream};
-    ghost use Rattle.std.specs.Net.ToAddrs.{HostAddrs};
+    ghost use Rattle.std.specs.{Prelude.{ℕ, List, Option, Result}, declared.io.Error.Error};
+    ghost use Rattle.std.specs.declared.net.{socket_addr.SocketAddr.SocketAddr, tcp.TcpListener.TcpListener};
+    ghost use Rattle.std.specs.{declared.net.tcp.TcpStream.TcpStream, Net.ToAddrs.HostAddrs};
 
     // a listener at this host and this port, or the one that is handed in at this descriptor
     ghost listens: { Self → List ℕ → ℕ → Option ℕ → Result TcpListener Error → Type 0 };

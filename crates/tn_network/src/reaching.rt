@@ -1,8 +1,7 @@
 //! A connection to a host.
 
 ghost use Rattle.std.specs.Prelude.{◌≡◌, [], OnOk};
-ghost use Rattle.tn_network.specs.Asked.{Reaches, ReachesBy};
-ghost use Rattle.tn_network.specs.Dialing.{suits};
+ghost use Rattle.tn_network.specs.{Asked.{Reaches, ReachesBy}, Dialing.suits};
 
 use crate::asking::Network;
 use crate::dialing::Dialing;

@@ -1,12 +1,9 @@
 -- Where a server could listen, there is no cause; and what is as before is so whatever came of the words.
 use Rattle.std.proofs.Common.{◌≡◌, ℕ, inl, inr, List, Option, Result, Ok, Err}
-use Rattle.std.specs.declared.io.Error.{Error}
-use Rattle.std.specs.declared.net.tcp.TcpListener.{TcpListener}
-use Rattle.tn_serve.specs.Causes.{IsCaused}
-use Rattle.tn_serve.specs.declared.fault.ServeFault.{ServeFault}
+use Rattle.std.specs.declared.{io.Error.Error, net.tcp.TcpListener.TcpListener}
+use Rattle.tn_serve.specs.{Causes.IsCaused, declared.fault.ServeFault.ServeFault}
 use Rattle.tn_serve.specs.declared.fault.ServeFault.TheVariants as serve
-use Rattle.tn_program.specs.Told.{UnlessConnected, UnlessNetwork, UnlessTelling}
-use Rattle.tn_program.specs.declared.outcome.Outcome.{Outcome}
+use Rattle.tn_program.specs.{Told.{UnlessConnected, UnlessNetwork, UnlessTelling}, declared.outcome.Outcome.Outcome}
 use Rattle.tn_program.specs.declared.outcome.Outcome.TheVariants as outcome
 
 pub uncaused : {A : Type 0} (host : List ℕ) (port : ℕ) (handed : Option ℕ) (listens : List ℕ → ℕ → Option ℕ → Result TcpListener Error → Type 0)

@@ -1,22 +1,15 @@
 -- Where the status is 0, what was asked for was done.
 use Rattle.std.proofs.Common.{◌≡◌, ◌⊎◌, ℕ, inl, inr, refl, Option, Some, None, List, Result, Ok, Err, IfOk, sym, subst, arith}
 use Rattle.tn_cli.specs.Faults as cli
-use Rattle.tn_cli.specs.declared.fault.CliFault.{CliFault}
-use Rattle.tn_cli.specs.declared.fault.CliFault.TheVariants.{Read, TooLong, Script, World, Write, Memory}
-use Rattle.tn_connect.specs.declared.fault.ConnectFault.{ConnectFault}
+use Rattle.tn_cli.specs.declared.fault.CliFault.{CliFault, TheVariants.{Read, TooLong, Script, World, Write, Memory}}
+use Rattle.tn_connect.specs.declared.{fault.ConnectFault.ConnectFault, settings.KeySource.KeySource}
 use Rattle.tn_connect.specs.declared.fault.ConnectFault.TheVariants as connect
 use Rattle.tn_serve.specs.declared.fault.ServeFault.{ServeFault}
 use Rattle.tn_serve.specs.declared.fault.ServeFault.TheVariants as serve
-use Rattle.tn_program.specs.Machine.{Machine}
-use Rattle.tn_program.specs.Ports.{IsUnknown}
-use Rattle.tn_words.specs.declared.settings.Port.{Port}
-use Rattle.tn_program.specs.Outcomes.{AskForNothing, ComesOf, ComesOfRun, ComesOfNoRun}
-use Rattle.tn_program.specs.Runs.{DoesAsAsked, RunsAsked}
-use Rattle.tn_program.specs.Statuses.{status_of, status_of_connecting, status_of_serving}
-use Rattle.tn_program.specs.declared.outcome.Outcome.{Outcome}
+use Rattle.tn_program.specs.{Machine.Machine, Ports.IsUnknown, Outcomes.{AskForNothing, ComesOf, ComesOfRun, ComesOfNoRun}, Runs.{DoesAsAsked, RunsAsked}}
+use Rattle.tn_program.specs.{Statuses.{status_of, status_of_connecting, status_of_serving}, declared.outcome.Outcome.Outcome}
+use Rattle.tn_words.specs.declared.{settings.Port.Port, words.Asked.Asked}
 use Rattle.tn_program.specs.declared.outcome.Outcome.TheVariants as outcome
-use Rattle.tn_connect.specs.declared.settings.KeySource.{KeySource}
-use Rattle.tn_words.specs.declared.words.Asked.{Asked}
 
 abbrev of_connecting : {A : Type 0} → A → Result A ConnectFault
 of_connecting done = Ok done

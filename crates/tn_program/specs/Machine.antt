@@ -1,9 +1,6 @@
 -- What is known of the machine that the program runs on.
-use Rattle.std.specs.Prelude.{ℕ, List, Option, Result}
-use Rattle.std.specs.Net.ToAddrs.{HostAddrs}
-use Rattle.std.specs.declared.io.Error.{Error}
-use Rattle.std.specs.declared.net.socket_addr.SocketAddr.{SocketAddr}
-use Rattle.std.specs.declared.net.tcp.TcpListener.{TcpListener}
+use Rattle.std.specs.{Prelude.{ℕ, List, Option, Result}, Net.ToAddrs.HostAddrs, declared.io.Error.Error}
+use Rattle.std.specs.declared.net.{socket_addr.SocketAddr.SocketAddr, tcp.TcpListener.TcpListener}
 use Rattle.std.specs.declared.net.tcp.TcpStream.{TcpStream}
 use Rattle.tn_network.specs.Asked.{Asking, asking}
 use Rattle.tn_serve.specs.declared.served.Served.{Served}

@@ -1,37 +1,27 @@
 -- What comes of the words of a command line.
 use Rattle.std.specs.Prelude.{◌≡◌, ◌≢◌, ◌⊎◌, ⊤, ℕ, Option, Some, None, Result, Err, OnOk, OnErr, IfOk, IfErr}
-use Rattle.std.specs.Prelude.{IsErrOf, List, option_map, string_bytes}
-use Rattle.std.specs.Io.KnownBytes.{Appends}
+use Rattle.std.specs.{Prelude.{IsErrOf, List, option_map, string_bytes}, Io.KnownBytes.Appends}
 use Rattle.tn_cli.specs.Ends.{EndsDecode, EndsLocal, EndsReplay, EndsWorld}
 use Rattle.tn_cli.specs.declared.fault.CliFault.{CliFault}
 use Rattle.tn_cli.specs.declared.fault.CliFault.TheVariants as fault
 use Rattle.tn_connect.specs.Clients.{ConnectsBy, RunsClient, connection_of, foreseen}
-use Rattle.tn_connect.specs.Talks.{RunsTalk, talked_over}
-use Rattle.tn_connect.specs.declared.connected.Connected.{Connected}
-use Rattle.tn_connect.specs.declared.fault.ConnectFault.{ConnectFault}
+use Rattle.tn_connect.specs.{Talks.{RunsTalk, talked_over}, declared.connected.Connected.Connected}
+use Rattle.tn_connect.specs.declared.{fault.ConnectFault.ConnectFault, settings.KeySource.KeySource}
+use Rattle.tn_connect.specs.declared.talks.TalkReport.{TalkReport}
 use Rattle.tn_connect.specs.declared.fault.ConnectFault.TheVariants as connect
 use Rattle.tn_lines.specs.declared.line_ends.LineEnd.{LineEnd}
-use Rattle.tn_serve.specs.Causes.{FailsBy}
-use Rattle.tn_serve.specs.Ends.{IfAny, ServesUntil}
-use Rattle.tn_serve.specs.declared.fault.ServeFault.{ServeFault}
-use Rattle.tn_serve.specs.declared.fault.ServeFault.TheVariants as serve
+use Rattle.tn_serve.specs.{Causes.FailsBy, Ends.{IfAny, ServesUntil}, declared.fault.ServeFault.ServeFault}
 use Rattle.tn_serve.specs.declared.served.Served.{Served}
+use Rattle.tn_serve.specs.declared.fault.ServeFault.TheVariants as serve
 use Rattle.tn_machines.specs.Ending.{EndsWhole}
-use Rattle.tn_network.specs.Asked.{Listens, ReachesBy}
-use Rattle.tn_network.specs.Dialing.{suits}
-use Rattle.tn_program.specs.Machine.{Machine}
-use Rattle.tn_program.specs.Ports.{IsPort, IsUnknown}
-use Rattle.tn_program.specs.Statuses.{status_of}
-use Rattle.tn_program.specs.declared.outcome.Outcome.{Outcome}
+use Rattle.tn_network.specs.{Asked.{Listens, ReachesBy}, Dialing.suits}
+use Rattle.tn_program.specs.{Machine.Machine, Ports.{IsPort, IsUnknown}, declared.outcome.Outcome.Outcome}
+use Rattle.tn_program.specs.{Statuses.status_of, Settings.{UnlessMemory, count_as, plain_as, window_as}}
 use Rattle.tn_program.specs.declared.outcome.Outcome.TheVariants as outcome
-use Rattle.tn_program.specs.Settings.{UnlessMemory, count_as, plain_as, window_as}
 use Rattle.tn_roster.specs.Held.{IsLimit}
 use Rattle.tn_streams.specs.Known.{KnownTyping}
-use Rattle.tn_connect.specs.declared.settings.KeySource.{KeySource}
 use Rattle.tn_words.specs.Words.{AskFor, AsksForHelp, AsksForVersion, Refuses, version_line}
-use Rattle.tn_connect.specs.declared.talks.TalkReport.{TalkReport}
-use Rattle.tn_words.specs.declared.settings.ConnectWords.{ConnectWords}
-use Rattle.tn_words.specs.declared.settings.ServeWords.{ServeWords}
+use Rattle.tn_words.specs.declared.settings.{ConnectWords.ConnectWords, ServeWords.ServeWords}
 use Rattle.tn_words.specs.declared.words.Asked.{Asked}
 use Rattle.tn_words.specs.declared.words.Asked.TheVariants as asked
 use Rattle.tn_words.specs.declared.words.WordsFault.TheVariants as words_fault

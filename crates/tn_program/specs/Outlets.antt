@@ -1,10 +1,7 @@
 -- What a screen holds whose reader may leave.
 use Rattle.std.specs.Prelude.{◌≡◌, ◌⊎◌, ℕ, Bool, true, false, Option, None, List, length, Result, Ok}
-use Rattle.std.specs.Prelude.{IsErrAnd}
-use Rattle.std.specs.Io.KnownBytes.{WriteAppends}
-use Rattle.std.specs.IoError.{error_kind}
-use Rattle.std.specs.declared.io.Error.{Error}
-use Rattle.std.specs.declared.io.ErrorKind.TheVariants.{BrokenPipe}
+use Rattle.std.specs.{Prelude.IsErrAnd, Io.KnownBytes.WriteAppends, IoError.error_kind}
+use Rattle.std.specs.declared.io.{Error.Error, ErrorKind.TheVariants.BrokenPipe}
 
 -- nothing is known of what a session's screen holds, since it may be dropped
 abbrev pub held_by : Bool → Option (List ℕ) → Option (List ℕ)

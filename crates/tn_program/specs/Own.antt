@@ -1,6 +1,5 @@
 -- How the launcher tells the special characters of a terminal.
-use Rattle.std.specs.Prelude.{ℕ, nat_eq, Option, Some, None, List, option_map, slice_index}
-use Rattle.std.specs.Prelude.{if◌then◌else◌}
+use Rattle.std.specs.Prelude.{ℕ, nat_eq, Option, Some, None, List, option_map, slice_index, if◌then◌else◌}
 use Rattle.std.specs.Result.{result_ok}
 use Rattle.hex.specs.Hex.{decode_sized}
 use Rattle.tn_sockets.specs.declared.own_characters.OwnCharacters.{OwnCharacters}

@@ -1,28 +1,17 @@
 -- What a run of the program writes.
 use Rattle.std.specs.Prelude.{◌≡◌, ℕ, ◌⊎◌, Option, None, Some, IfSome, List, Result, Ok, option_map}
-use Rattle.std.specs.Prelude.{string_bytes}
-use Rattle.std.specs.Io.KnownBytes.{Appends}
-use Rattle.tn_cli.specs.Decode.{Decodes}
-use Rattle.tn_cli.specs.Playing.{PlaysScript}
-use Rattle.tn_cli.specs.Replay.{Replays}
-use Rattle.tn_cli.specs.Typing.{PrintsKeys}
+use Rattle.std.specs.{Prelude.string_bytes, Io.KnownBytes.Appends}
+use Rattle.tn_cli.specs.{Decode.Decodes, Playing.PlaysScript, Replay.Replays, Typing.PrintsKeys}
 use Rattle.tn_connect.specs.Clients.{ConnectsBy, RunsClient, connection_of, foreseen}
-use Rattle.tn_connect.specs.Talks.{RunsTalk, talked_over}
-use Rattle.tn_connect.specs.declared.talks.TalkReport.{TalkReport}
-use Rattle.tn_connect.specs.declared.connected.Connected.{Connected}
-use Rattle.tn_connect.specs.declared.fault.ConnectFault.{ConnectFault}
+use Rattle.tn_connect.specs.{Talks.{RunsTalk, talked_over}, declared.talks.TalkReport.TalkReport}
+use Rattle.tn_connect.specs.declared.{connected.Connected.Connected, fault.ConnectFault.ConnectFault}
+use Rattle.tn_connect.specs.declared.settings.KeySource.{KeySource}
 use Rattle.tn_lines.specs.declared.line_ends.LineEnd.{LineEnd}
-use Rattle.tn_serve.specs.Causes.{FailsBy}
-use Rattle.tn_serve.specs.Ends.{IfAny, ServesUntil}
-use Rattle.tn_serve.specs.declared.fault.ServeFault.{ServeFault}
+use Rattle.tn_serve.specs.{Causes.FailsBy, Ends.{IfAny, ServesUntil}, declared.fault.ServeFault.ServeFault}
 use Rattle.tn_serve.specs.declared.served.Served.{Served}
 use Rattle.tn_machines.specs.Ending.{EndsWhole}
-use Rattle.tn_network.specs.Asked.{Listens, ReachesBy}
-use Rattle.tn_network.specs.Dialing.{suits}
-use Rattle.tn_program.specs.Machine.{Machine}
-use Rattle.tn_program.specs.Ports.{IsPort}
-use Rattle.tn_program.specs.Settings.{count_as, plain_as, window_as}
-use Rattle.tn_connect.specs.declared.settings.KeySource.{KeySource}
+use Rattle.tn_network.specs.{Asked.{Listens, ReachesBy}, Dialing.suits}
+use Rattle.tn_program.specs.{Machine.Machine, Ports.IsPort, Settings.{count_as, plain_as, window_as}}
 use Rattle.tn_words.specs.Words.{AskFor, AsksForHelp, AsksForVersion, version_line}
 use Rattle.tn_words.specs.declared.words.Asked.{Asked}
 use Rattle.tn_words.specs.declared.words.Asked.TheVariants.{Local, Replay, Decode, World, Serve, Connect}
@@ -64,8 +53,8 @@ RunsAsked machine (Connect connecting) origin bytes old new = (port : ℕ) × Is
     × ConnectsBy talked_over (ReachesBy (suits connecting.dialing)
     (machine.network.finds (string_bytes connecting.host) port) machine.network.dials) (talked report)))
 
--- the run that the words ask for, or some text where they ask for help, or the version; a host of the user's own
--- file was replaced in them by what it stands for
+-- the run that the words ask for, or some text if they ask for help, or the version; a host of the user's
+-- own file was replaced in them by what it stands for
 abbrev pub DoesAsAsked : Machine → List (List ℕ) → KeySource → Option (List ℕ) → Option (List ℕ)
     → Option (List ℕ) → Type 0
 DoesAsAsked machine words origin bytes old new =

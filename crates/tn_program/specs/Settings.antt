@@ -1,33 +1,23 @@
 -- What was asked for, as sessions over connections take it.
-use Rattle.std.specs.Prelude.{◌≡◌, ◌||◌, ◌&&◌, not, is_some, ◌/◌, ℕ, Bool, true, IsTrue, false, Option, None, Some}
-use Rattle.std.specs.Prelude.{IsSome, unwrap_or, Result, List, codes, eqb, nat_eq, if◌then◌else◌}
-use Rattle.std.specs.List.{starts_with}
-use Rattle.std.specs.Str.{bytes_eq}
-use Rattle.std.specs.Prelude.{Ok, Err, string_bytes}
-use Rattle.tn_services.specs.declared.answerers.Answerers.{Answerers}
-use Rattle.tn_services.specs.declared.cutting.LineFormat.{LineFormat}
+use Rattle.std.specs.Prelude.{◌≡◌, ◌||◌, ◌&&◌, not, is_some, ◌/◌, ℕ, Bool, true, IsTrue, false, Option, None}
+use Rattle.std.specs.Prelude.{Some, IsSome, unwrap_or, Result, List, codes, eqb, nat_eq, if◌then◌else◌, Ok}
+use Rattle.std.specs.{Prelude.{Err, string_bytes}, List.starts_with, Str.bytes_eq}
+use Rattle.tn_services.specs.declared.{answerers.Answerers.Answerers, cutting.LineFormat.LineFormat}
 use Rattle.tn_services.specs.declared.dialing.Joiner.{Joiner}
-use Rattle.tn_serve.specs.declared.fault.ServeFault.{ServeFault}
+use Rattle.tn_serve.specs.declared.{fault.ServeFault.ServeFault, settings.SessionOptions.SessionOptions}
 use Rattle.tn_serve.specs.declared.fault.ServeFault.TheVariants.{Network, Memory, Limit as BadLimit}
-use Rattle.tn_serve.specs.declared.settings.SessionOptions.{SessionOptions}
-use Rattle.tn_connect.specs.declared.settings.KeySource.{KeySource}
-use Rattle.tn_connect.specs.declared.settings.KeySource.TheVariants.{Reader, Input, Terminal}
+use Rattle.tn_connect.specs.declared.settings.KeySource.{KeySource, TheVariants.{Reader, Input, Terminal}}
 use Rattle.tn_connect.specs.declared.settings.Plain.{Plain}
-use Rattle.tn_sockets.specs.Mapping.{none_own}
-use Rattle.tn_lines.specs.declared.line_ends.LineEnd.{LineEnd}
-use Rattle.tn_server.specs.declared.wishes.Editing.{Editing}
-use Rattle.tn_server.specs.declared.wishes.Editing.TheVariants.{Local, Remote}
-use Rattle.tn_session.specs.Facts.{Window}
-use Rattle.tn_words.specs.declared.settings.Characters.{Characters}
-use Rattle.tn_words.specs.declared.settings.Characters.TheVariants.{Own, Standard}
-use Rattle.tn_words.specs.declared.settings.ConnectWords.{ConnectWords}
-use Rattle.tn_words.specs.declared.settings.Escape.{Escape}
-use Rattle.tn_words.specs.declared.settings.Escape.TheVariants as escape
-use Rattle.tn_words.specs.declared.settings.ReturnBytes.{ReturnBytes}
-use Rattle.tn_words.specs.declared.settings.ReturnBytes.TheVariants as bytes
-use Rattle.tn_words.specs.declared.settings.ServeWords.{ServeWords}
-use Rattle.tn_sockets.specs.declared.returns.ReturnKey.{ReturnKey}
+use Rattle.tn_sockets.specs.{Mapping.none_own, declared.returns.ReturnKey.ReturnKey}
 use Rattle.tn_sockets.specs.declared.returns.ReturnKey.TheVariants.{CrNul, CrLf, Lf}
+use Rattle.tn_lines.specs.declared.line_ends.LineEnd.{LineEnd}
+use Rattle.tn_server.specs.declared.wishes.Editing.{Editing, TheVariants.{Local, Remote}}
+use Rattle.tn_session.specs.Facts.{Window}
+use Rattle.tn_words.specs.declared.settings.Characters.{Characters, TheVariants.{Own, Standard}}
+use Rattle.tn_words.specs.declared.settings.{ConnectWords.ConnectWords, Escape.Escape, ServeWords.ServeWords}
+use Rattle.tn_words.specs.declared.settings.ReturnBytes.{ReturnBytes}
+use Rattle.tn_words.specs.declared.settings.Escape.TheVariants as escape
+use Rattle.tn_words.specs.declared.settings.ReturnBytes.TheVariants as bytes
 
 abbrev pub editing_as : Bool → Editing
 editing_as true = Local

@@ -2,22 +2,17 @@
 use Rattle.std.specs.Prelude.{◌≡◌, ◌≢◌, ◌⊎◌, ℕ, ◌==◌, ◌||◌, decimal, if◌then◌else◌, not, Bool, true}
 use Rattle.std.specs.Prelude.{IsTrue, false, IsFalse}
 use Rattle.std.specs.Prelude.{Option, Some, None, List, [], ◌∷◌, ◌++◌, Result, Ok, Err, codes, string_bytes}
-use Rattle.tn_cli.specs.declared.fault.CliFault.{CliFault}
-use Rattle.tn_cli.specs.declared.fault.CliFault.TheVariants as run
-use Rattle.tn_cli.specs.declared.unprinted.Dropped.{Dropped}
-use Rattle.tn_cli.specs.declared.unprinted.Left.{Left}
-use Rattle.tn_cli.specs.declared.unprinted.Left.TheVariants as left
+use Rattle.tn_cli.specs.declared.{fault.CliFault.CliFault, unprinted.{Dropped.Dropped, Left.Left}}
 use Rattle.tn_cli.specs.declared.unprinted.Unprinted.{Unprinted}
+use Rattle.tn_cli.specs.declared.fault.CliFault.TheVariants as run
+use Rattle.tn_cli.specs.declared.unprinted.Left.TheVariants as left
 use Rattle.tn_connect.specs.declared.fault.ConnectFault.{ConnectFault}
 use Rattle.tn_connect.specs.declared.fault.ConnectFault.TheVariants as connect
 use Rattle.tn_serve.specs.declared.fault.ServeFault.{ServeFault}
 use Rattle.tn_serve.specs.declared.fault.ServeFault.TheVariants as serve
-use Rattle.tn_program.specs.Statuses.{status_of}
-use Rattle.tn_program.specs.declared.outcome.Outcome.{Outcome}
+use Rattle.tn_program.specs.{Statuses.status_of, declared.outcome.Outcome.Outcome}
 use Rattle.tn_program.specs.declared.outcome.Outcome.TheVariants as outcome
-use Rattle.tn_streams.specs.Writing.{Tells, Writes}
-use Rattle.tn_streams.specs.Known.{KnownWriting, known_writing}
-use Rattle.tn_streams.specs.Telling.{Calls}
+use Rattle.tn_streams.specs.{Writing.{Tells, Writes}, Known.{KnownWriting, known_writing}, Telling.Calls}
 
 abbrev pub word_of_run : CliFault → List ℕ
 word_of_run run.Read = codes "read"

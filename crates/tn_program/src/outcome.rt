@@ -2,13 +2,11 @@
 
 ghost use Rattle.std.specs.Prelude.{◌≡◌, ◌++◌, IfOk, codes, decimal};
 ghost use Rattle.tn_cli.specs.Faults.{status_after};
-ghost use Rattle.tn_program.specs.Statuses.{status_after_connecting, status_after_serving};
-ghost use Rattle.tn_program.specs.Statuses.{status_after_talking};
-ghost use Rattle.tn_program.specs.Statuses.{status_of, status_of_connecting, status_of_over};
+ghost use Rattle.tn_program.specs.Statuses.{status_after_connecting, status_after_serving, status_of_over};
+ghost use Rattle.tn_program.specs.Statuses.{status_after_talking, status_of, status_of_connecting};
 ghost use Rattle.tn_program.specs.Told.{TellsAll, TellsSome, has_unprinted, is_some_left, line, text_of};
-ghost use Rattle.tn_program.specs.Told.{text_of_connecting, text_of_count};
-ghost use Rattle.tn_program.specs.Told.{text_of_decoding, text_of_left, text_of_run, text_of_serving};
-ghost use Rattle.tn_program.specs.Told.{text_of_unprinted};
+ghost use Rattle.tn_program.specs.Told.{text_of_connecting, text_of_count, text_of_decoding, text_of_left};
+ghost use Rattle.tn_program.specs.Told.{text_of_run, text_of_serving, text_of_unprinted};
 ghost use Rattle.tn_streams.specs.Known.{known_writing};
 
 use std::alloc::{AllocError, Global};

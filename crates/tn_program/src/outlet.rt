@@ -1,7 +1,6 @@
 //! Standard output, whose reader may leave.
 
-ghost use Rattle.std.specs.Io.{WritesAtMost};
-ghost use Rattle.std.specs.Io.KnownBytes.{WriteAppends};
+ghost use Rattle.std.specs.Io.{WritesAtMost, KnownBytes.WriteAppends};
 ghost use Rattle.tn_program.specs.Outlets.{HandsOn, held_by};
 
 use std::io;

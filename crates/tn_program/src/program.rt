@@ -1,12 +1,9 @@
 //! The program: words and streams in, a status out.
 
 ghost use Rattle.std.specs.Prelude.{◌≡◌, ◌≢◌, ◌⊎◌, ℕ, List, None, Some, IfErr, IfOk, IsOk, OnErr, map};
-ghost use Rattle.std.specs.Prelude.{Option, string_bytes};
-ghost use Rattle.std.specs.IoError.{error_kind};
-ghost use Rattle.tn_program.specs.Machine.{machine_of};
+ghost use Rattle.std.specs.{Prelude.{Option, string_bytes}, IoError.error_kind};
+ghost use Rattle.tn_program.specs.{Machine.machine_of, Outcomes.AskForNothing, Runs.DoesAsAsked};
 ghost use Rattle.tn_program.specs.Outcomes.{ComesOf, ComesOfNoRun, ComesOfRun, EndsVersion, EndsWith};
-ghost use Rattle.tn_program.specs.Outcomes.{AskForNothing};
-ghost use Rattle.tn_program.specs.Runs.{DoesAsAsked};
 ghost use Rattle.tn_program.specs.Told.{IsConnecting, IsTold, UnlessConnected, UnlessTelling};
 ghost use Rattle.tn_words.specs.Words.{AskFor, Refuses};
 
@@ -30,10 +27,11 @@ use tn_network::Network;
 use tn_streams::Drain;
 use tn_words::{Asked, ConnectWords, LineEnd, ServeWords, VERSION_LINE, WordsFault, read_words};
 
-/// Runs what the words of the command line ask for, where they could be read. The program's name is the
-/// first of them; a host of the user's own file is no longer among them, but what it stands for (`tn_hosts`). Returns the status to end with: 0 where that was done, and else the status of its fault
-/// (`EndsWith`). A fault is told in one line on `errors`, and behind it what is wrong with words, or why;
-/// what cannot be written is dropped. Of a streams at standard input nothing is known beforehand.
+/// Runs what the words of the command line ask for, if they could be read. The program's name is the first of
+/// them; a host of the user's own file is no longer among them, but what it stands for (`tn_hosts`). Returns
+/// the status to end with: 0 if that was done, and else the status of its fault (`EndsWith`). A fault is one
+/// line on `errors`, followed by what is wrong with words, or why; what cannot be written is dropped. Of
+/// streams at standard input nothing is known beforehand.
 pub fn run_words<
     H: Network + Host + Lookout + Replacing + Eprint + Files<File = File>,
     R: Read + Drop + Send + 'static,

@@ -1,8 +1,7 @@
 //! `tn serve`: its own job, or a line service that each session is joined to.
 
 ghost use Rattle.std.specs.Prelude.{◌≡◌, IfOk, IfSome, IsErrOf, option_map, string_bytes};
-ghost use Rattle.tn_serve.specs.Causes.{FailsBy, IsCaused};
-ghost use Rattle.tn_serve.specs.Ends.{IfAny, ServesUntil};
+ghost use Rattle.tn_serve.specs.{Causes.{FailsBy, IsCaused}, Ends.{IfAny, ServesUntil}};
 ghost use Rattle.tn_network.specs.Asked.{Listens};
 ghost use Rattle.tn_program.specs.Settings.{UnlessMemory, count_as};
 ghost use Rattle.tn_roster.specs.Held.{IsLimit};
@@ -18,7 +17,8 @@ use std::sync::{Arc, Wait};
 use tn_network::Network;
 use tn_serve::{At, Call, Finished, Host, NoteWriter, Notes, ServeFault, Served, Service, serve};
 use tn_services::{
-    Gateway, Heard, HearsCut, HearsTelnet, Joiner, LineFormat, ServiceReader, ServiceWriter, Told,
+    Gateway, Greets, Heard, HearsCut, HearsTelnet, Joiner, LineFormat, ServiceReader,
+    ServiceWriter, Told,
 };
 
 /// Serves as was asked for, and writes notes to standard error: `is_journal` says that systemd's journal reads
@@ -115,7 +115,7 @@ where
         handed: asked.socket.handed,
     };
     let Some(to) = &asked.to else {
-        let service = answering_of(asked, banner);
+        let service = answering_of(asked);
         return serve(rt, alloc, at, serving, until, service, log, causes);
     };
     let service = Joining {
@@ -158,15 +158,26 @@ pub struct Joining<H> {
     pub patience: u32,
     /// How lines go there.
     pub lines: LineFormat,
-    /// What each client is shown first, as it goes over the connection.
+    /// What each client is shown first.
     pub banner: Option<Arc<Vec<u8>, Global>>,
 }
 
-/// Has the server note a line that may have been cut, and a service that speaks Telnet.
+/// Has the server note a line that may have been cut, and a service that speaks Telnet; and has what a client
+/// is shown first.
 #[derive(Drop)]
 pub struct Noting<H> {
     rt: H,
     notes: Notes,
+    banner: Option<Arc<Vec<u8>, Global>>,
+}
+
+impl<H> Greets for Noting<H> {
+    fn banner(&self) -> &[u8] {
+        match &self.banner {
+            Some(banner) => banner.as_slice(),
+            None => b"",
+        }
+    }
 }
 
 impl<H: Wait> HearsCut for Noting<H> {
@@ -181,6 +192,21 @@ impl<H: Wait> HearsTelnet for Noting<H> {
     }
 }
 
+impl<H: Copy> Joining<H> {
+    // Who notes for a session's jobs.
+    fn noting(&self, notes: Notes) -> Result<Noting<H>, AllocError> {
+        let banner = match &self.banner {
+            Some(banner) => Some(Arc::try_clone(banner)?),
+            None => None,
+        };
+        Ok(Noting {
+            rt: self.rt,
+            notes,
+            banner,
+        })
+    }
+}
+
 impl<H: Host + Network> Service for Joining<H> {
     ghost use Rattle.std.specs.Prelude.{string_bytes};
     ghost use Rattle.tn_program.specs.Settings.{JoinsAsAsked};
@@ -191,19 +217,11 @@ impl<H: Host + Network> Service for Joining<H> {
 
     ghost makes = { λ j jobs. JoinsAsAsked j.rt (string_bytes j.host) j.port j.patience j.lines jobs };
 
-    fn banner(&self) -> Option<&Arc<Vec<u8>, Global>> {
-        self.banner.as_ref()
-    }
-
     fn session(&mut self, alloc: Global, call: Call) -> Result<Joiner<H, Noting<H>>, AllocError> {
         let Call { hook, notes, .. } = call;
         let rt = self.rt;
         let host = String::from_str(alloc, self.host.as_str())?;
-        let heard = Noting {
-            rt,
-            notes: notes.another()?,
-        };
-        let notes = (heard, Noting { rt, notes });
+        let notes = (self.noting(notes.another()?)?, self.noting(notes)?);
         let (port, patience) = (self.port, self.patience);
         Ok(Joiner::new(rt, host, port, patience, self.lines, hook, notes))
     }

@@ -8,7 +8,6 @@ ghost use Rattle.tn_program.specs.Settings.{return_as, usual_per_host, window_as
 
 use log::Level;
 use std::alloc::{AllocError, Global};
-use std::sync::Arc;
 use tn_connect::{Connecting, KeySource, OwnCharacters, Plain, ReturnKey};
 use tn_serve::{Call, Finished, NoteFormat, NoteStyle, Service, Serving, SessionOptions};
 use tn_server::Editing;
@@ -25,12 +24,10 @@ const ANY_NUMBER: u16 = 64;
 const HOUR: u32 = 3_600;
 
 /// Gives each session the jobs of `tn serve`.
-#[derive(Drop)]
+#[derive(Clone, Copy, Drop)]
 pub struct Answering {
     /// How often the job in the background ticks; there is none where it is 0.
     pub ticks: u16,
-    /// What each client is shown first, as it goes over the connection.
-    pub banner: Option<Arc<Vec<u8>, Global>>,
 }
 
 impl Service for Answering {
@@ -41,10 +38,6 @@ impl Service for Answering {
     type Jobs = Answerers;
 
     ghost makes = { λ a jobs. AnswersAsAsked a.ticks jobs };
-
-    fn banner(&self) -> Option<&Arc<Vec<u8>, Global>> {
-        self.banner.as_ref()
-    }
 
     fn session(&mut self, _alloc: Global, _call: Call) -> Result<Answerers, AllocError> {
         Ok(Answerers::new(self.ticks))
@@ -158,16 +151,10 @@ fn count_of(asked: Option<u32>) -> u64
 }
 
 // The jobs that were asked for, where each session has its own.
-pub(crate) fn answering_of(
-    asked: &tn_words::ServeWords,
-    banner: Option<Arc<Vec<u8>, Global>>,
-) -> Answering
+pub(crate) fn answering_of(asked: &tn_words::ServeWords) -> Answering
     ensures { result.ticks ≡ asked.now.ticks }
 {
-    Answering {
-        ticks: asked.ticks,
-        banner,
-    }
+    Answering { ticks: asked.ticks }
 }
 
 // How lines go to the service that was asked for.

@@ -1,9 +1,6 @@
 -- When a server has served what it was asked for.
 use Rattle.std.proofs.Common.{◌≡◌, ◌≤◌, inl, inr, ℕ, true, Result, Ok, Err, IfOk, sym, subst, ◌∙◌}
-use Rattle.tn_serve.specs.Ends.{AreEnough, ServesAll, ServesUntil}
-use Rattle.tn_serve.specs.declared.acceptor.Accepted.{Accepted}
-use Rattle.tn_serve.specs.declared.fault.ServeFault.{ServeFault}
-use Rattle.tn_serve.specs.declared.served.Served.{Served}
+use Rattle.tn_serve.specs.{Ends.{AreEnough, ServesAll, ServesUntil}, declared.{acceptor.Accepted.Accepted, fault.ServeFault.ServeFault, served.Served.Served}}
 
 -- where nothing tells so, all were accepted
 pub only_all : (count : ℕ) (result : Result Served ServeFault) → IfOk result (ServesUntil count ⊥) → IfOk result (ServesAll count)

@@ -1,11 +1,8 @@
 -- A service is called once more.
 use Rattle.std.proofs.Common.{◌≡◌, ◌<◌, ◌≤◌, ℕ, ◌+◌, List, [], ◌∷◌, length, get_or, refl, sym, subst, sum_by, swap_remove, arith}
 use Rattle.std.proofs.lemmas.List.Sums.{sum_by-swap_remove}
-use Rattle.tn_serve.specs.Ends.{whole_of}
-use Rattle.tn_serve.specs.Turns.{AreApart, EndsFollow, Hears, HearsAll, HearsOfEnd, HearsOfJobs, HearsOfNone, IsOneMore, StillHears}
-use Rattle.tn_serve.specs.Turns.{ended_for, is_same, live_of, made_for, times, with_one}
-use Rattle.tn_serve.specs.declared.finished.Finished.{Finished}
-use Rattle.tn_serve.specs.declared.turns.Turn.{Turn}
+use Rattle.tn_serve.specs.{Ends.whole_of, Turns.{live_of, made_for, times, with_one}, declared.{finished.Finished.Finished, turns.Turn.Turn}}
+use Rattle.tn_serve.specs.Turns.{AreApart, EndsFollow, Hears, HearsAll, HearsOfEnd, HearsOfJobs, HearsOfNone, IsOneMore, StillHears, ended_for, is_same}
 use Rattle.tn_serve.specs.declared.turns.Turn.TheVariants.{Made, Refused, Ended}
 
 -- after all of them

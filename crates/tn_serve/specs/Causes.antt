@@ -1,11 +1,8 @@
 -- Why a server could not listen.
-use Rattle.std.specs.Prelude.{◌≡◌, ℕ, ◌==◌, ◌⊎◌, Bool, false, Option, None, Some, List, [], ◌∷◌, ◌++◌, codes, decimal}
-use Rattle.std.specs.Prelude.{if◌then◌else◌, Result, Ok, Err}
-use Rattle.std.specs.List.{list_any}
-use Rattle.std.specs.declared.io.Error.{Error}
-use Rattle.std.specs.declared.net.tcp.TcpListener.{TcpListener}
-use Rattle.tn_serve.specs.Faults.{IsToldAs}
-use Rattle.tn_serve.specs.declared.fault.ServeFault.{ServeFault}
+use Rattle.std.specs.Prelude.{◌≡◌, ℕ, ◌==◌, ◌⊎◌, Bool, false, Option, None, Some, List, [], ◌∷◌, ◌++◌, codes}
+use Rattle.std.specs.{Prelude.{decimal, if◌then◌else◌, Result, Ok, Err}, List.list_any}
+use Rattle.std.specs.declared.{io.Error.Error, net.tcp.TcpListener.TcpListener}
+use Rattle.tn_serve.specs.{Faults.IsToldAs, declared.fault.ServeFault.ServeFault}
 
 -- it failed by what this error is told as
 abbrev pub FailsBy : {A : Type 0} → Error → Result A ServeFault → Type 0

@@ -1,17 +1,12 @@
 -- The sessions that a server counts.
-use Rattle.std.specs.Prelude.{◌≡◌, ℕ, ◌+◌, Option, List, length, ◌⊎◌}
-use Rattle.std.specs.declared.net.tcp.TcpStream.{TcpStream}
-use Rattle.tn_discipline.specs.Limits.{standard_limit}
-use Rattle.tn_discipline.specs.declared.reads.Entry.{Entry}
+use Rattle.std.specs.{Prelude.{◌≡◌, ℕ, ◌+◌, Option, List, length, ◌⊎◌}, declared.net.tcp.TcpStream.TcpStream}
+use Rattle.tn_discipline.specs.{Limits.standard_limit, declared.reads.Entry.Entry}
 use Rattle.tn_jobs.specs.declared.reactions.Reaction.{Reaction}
-use Rattle.tn_serve.specs.Ends.{IsWhole, finished_as, not_started}
-use Rattle.tn_serve.specs.Servers.{IsPromised}
-use Rattle.tn_serve.specs.declared.conversed.Ran.{Ran}
-use Rattle.tn_serve.specs.declared.finished.Finished.{Finished}
+use Rattle.tn_serve.specs.{Ends.{IsWhole, finished_as, not_started}, Servers.IsPromised}
+use Rattle.tn_serve.specs.declared.{conversed.Ran.Ran, finished.Finished.Finished}
 use Rattle.tn_serve.specs.declared.settings.SessionOptions.{SessionOptions}
 use Rattle.tn_server.specs.declared.wishes.Editing.TheVariants.{Remote}
-use Rattle.tn_session.specs.Facts.{JobFacts, job_facts}
-use Rattle.tn_session.specs.Makers.{begins}
+use Rattle.tn_session.specs.{Facts.{JobFacts, job_facts}, Makers.begins}
 
 -- what nobody asked for
 abbrev pub no_options : SessionOptions

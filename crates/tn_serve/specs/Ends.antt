@@ -1,19 +1,11 @@
 -- How the sessions of a server ended.
 use Rattle.std.specs.Prelude.{◌≡◌, ◌≤◌, ◌⊎◌, ℕ, pos, IsTrue, false, Option, Some, None, Result, Ok, Err, IfOk}
-use Rattle.std.specs.Prelude.{IsOk}
-use Rattle.std.specs.IoError.{raw_os_error}
-use Rattle.std.specs.declared.io.Error.{Error}
-use Rattle.std.specs.declared.net.socket_addr.SocketAddr.{SocketAddr}
-use Rattle.std.specs.declared.net.tcp.TcpStream.{TcpStream}
-use Rattle.tn_serve.specs.declared.acceptor.Accepted.{Accepted}
-use Rattle.tn_serve.specs.declared.conversed.Conversed.{Conversed}
-use Rattle.tn_serve.specs.declared.conversed.Ran.{Ran}
-use Rattle.tn_serve.specs.declared.finished.Finished.{Finished}
-use Rattle.tn_serve.specs.declared.served.Served.{Served}
-use Rattle.tn_machines.specs.Ending.{EndsWhole}
-use Rattle.tn_machines.specs.declared.faults.Ended.{Ended}
+use Rattle.std.specs.{Prelude.IsOk, IoError.raw_os_error, declared.io.Error.Error}
+use Rattle.std.specs.declared.net.{socket_addr.SocketAddr.SocketAddr, tcp.TcpStream.TcpStream}
+use Rattle.tn_serve.specs.declared.{acceptor.Accepted.Accepted, conversed.{Conversed.Conversed, Ran.Ran}}
+use Rattle.tn_serve.specs.declared.{finished.Finished.Finished, served.Served.Served}
+use Rattle.tn_machines.specs.{Ending.EndsWhole, declared.faults.{Ended.Ended, SessionFault.SessionFault}}
 use Rattle.tn_machines.specs.declared.faults.Ended.TheVariants.{HangUp, Done, Fault}
-use Rattle.tn_machines.specs.declared.faults.SessionFault.{SessionFault}
 use Rattle.tn_machines.specs.declared.faults.SessionFault.TheVariants.{Start}
 use Rattle.tn_network.specs.Asked.{AcceptsAll}
 use Rattle.tn_session.specs.declared.parties.Report.{Report}

@@ -1,10 +1,7 @@
 -- Which faults come from where.
-use Rattle.std.specs.Prelude.{◌≡◌, ◌≢◌}
-use Rattle.std.specs.IoError.{error_kind}
-use Rattle.std.specs.declared.io.Error.{Error}
+use Rattle.std.specs.{Prelude.{◌≡◌, ◌≢◌}, IoError.error_kind, declared.io.Error.Error}
 use Rattle.std.specs.declared.io.ErrorKind.TheVariants.{OutOfMemory}
-use Rattle.tn_serve.specs.declared.fault.ServeFault.{ServeFault}
-use Rattle.tn_serve.specs.declared.fault.ServeFault.TheVariants.{Network, Limit, Memory}
+use Rattle.tn_serve.specs.declared.fault.ServeFault.{ServeFault, TheVariants.{Network, Limit, Memory}}
 use Rattle.tn_roster.specs.declared.RosterFault.{RosterFault}
 use Rattle.tn_roster.specs.declared.RosterFault.TheVariants as roster
 

@@ -1,17 +1,11 @@
 -- How many sessions there may be, of all and of one host.
 use Rattle.std.specs.Prelude.{◌≡◌, ◌≤◌, ◌+◌, ◌⊎◌, ℕ, Bool, List, [], ◌∷◌, ◌++◌, count_by, length}
-use Rattle.std.specs.Prelude.{if◌then◌else◌, get_or}
-use Rattle.std.specs.Net.Socket.{socket_ip}
+use Rattle.std.specs.{Prelude.{if◌then◌else◌, get_or}, Net.{Socket.socket_ip, Addr.ipv6_segments}}
+use Rattle.std.specs.declared.net.{ip_addr.IpAddr.{IpAddr, TheVariants.{V4, V6}}, ipv6_addr.Ipv6Addr.Ipv6Addr}
+use Rattle.std.specs.declared.net.{socket_addr.SocketAddr.SocketAddr, tcp.TcpStream.TcpStream}
 use Rattle.std.specs.contracts.net.ip_addr.IpAddrPartialEq.TheImpl as comparing
-use Rattle.std.specs.declared.net.ip_addr.IpAddr.{IpAddr}
-use Rattle.std.specs.declared.net.ip_addr.IpAddr.TheVariants.{V4, V6}
-use Rattle.std.specs.declared.net.ipv6_addr.Ipv6Addr.{Ipv6Addr}
-use Rattle.std.specs.Net.Addr.{ipv6_segments}
-use Rattle.std.specs.declared.net.socket_addr.SocketAddr.{SocketAddr}
-use Rattle.std.specs.declared.net.tcp.TcpStream.{TcpStream}
-use Rattle.tn_serve.specs.declared.caller.Caller.{Caller}
+use Rattle.tn_serve.specs.{declared.caller.Caller.Caller, Turns.{live_of, with_one}}
 use Rattle.tn_roster.specs.Held.{Held, held_count, is_held}
-use Rattle.tn_serve.specs.Turns.{live_of, with_one}
 
 -- the first 64 bits of an address, and zeros after them
 abbrev pub subnet_of : Ipv6Addr → Ipv6Addr

@@ -1,16 +1,12 @@
 -- Which session a server runs over a connection.
 use Rattle.std.specs.Prelude.{◌≡◌, ◌≢◌, ℕ, Option, Some, None, [], IfOk, IfErr}
 use Rattle.std.specs.declared.net.tcp.TcpStream.{TcpStream}
-use Rattle.tn_discipline.specs.Characters.{standard_characters}
-use Rattle.tn_discipline.specs.Keys.{standard_flags}
-use Rattle.tn_serve.specs.declared.conversed.Conversed.{Conversed}
-use Rattle.tn_serve.specs.declared.conversed.Ran.{Ran}
+use Rattle.tn_discipline.specs.{Characters.standard_characters, Keys.standard_flags}
+use Rattle.tn_serve.specs.declared.conversed.{Conversed.Conversed, Ran.Ran}
 use Rattle.tn_serve.specs.declared.settings.SessionOptions.{SessionOptions}
 use Rattle.tn_session.specs.Facts.{JobFacts, SessionResult, TermSettings, session_result}
 use Rattle.tn_session.specs.Session.{RunningSession, IsRefusal}
-use Rattle.tn_sockets.specs.LastWords.{last_lines}
-use Rattle.tn_sockets.specs.Logs.{wrote}
-use Rattle.tn_sockets.specs.declared.write_log.WriteLog.{WriteLog}
+use Rattle.tn_sockets.specs.{LastWords.last_lines, Logs.wrote, declared.write_log.WriteLog.WriteLog}
 use Rattle.tn_machines.specs.server.Welcoming.{too_far_ahead}
 use Rattle.tn_streams.specs.Known.{KnownReader}
 

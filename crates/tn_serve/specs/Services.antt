@@ -1,6 +1,5 @@
 -- What a service makes, and what a connection is told that gets no session.
-use Rattle.std.specs.Prelude.{ℕ, List, ◌++◌, ◌∷◌, [], codes}
-use Rattle.std.specs.declared.net.tcp.TcpStream.{TcpStream}
+use Rattle.std.specs.{Prelude.{ℕ, List, ◌++◌, ◌∷◌, [], codes}, declared.net.tcp.TcpStream.TcpStream}
 
 -- what the service makes from here on is such
 abbrev pub MakesOnly : {V M : Type 0} → (V → M → Type 0) → V → (M → Type 0) → Type 0

@@ -1,8 +1,6 @@
 -- What a service does and hears, call by call.
 use Rattle.std.specs.Prelude.{◌≡◌, ◌≤◌, ℕ, ◌+◌, ◌==◌, if◌then◌else◌, List, [], ◌∷◌, Result, Ok, Err, sum_by}
-use Rattle.tn_serve.specs.Ends.{whole_of}
-use Rattle.tn_serve.specs.declared.finished.Finished.{Finished}
-use Rattle.tn_serve.specs.declared.turns.Turn.{Turn}
+use Rattle.tn_serve.specs.{Ends.whole_of, declared.{finished.Finished.Finished, turns.Turn.Turn}}
 use Rattle.tn_serve.specs.declared.turns.Turn.TheVariants.{Made, Refused, Ended}
 
 -- it was asked for the jobs of the session with this number

@@ -34,7 +34,6 @@ mod draining;
 mod events;
 mod fault;
 mod finished;
-mod greeting;
 mod hosts;
 mod listening;
 mod logfmt;

@@ -1,14 +1,12 @@
 //! What a server does for its users.
 
 ghost use Rattle.std.specs.Prelude.{IfOk};
-ghost use Rattle.tn_serve.specs.Services.{StillMakes};
-ghost use Rattle.tn_serve.specs.Turns.{asked};
+ghost use Rattle.tn_serve.specs.{Services.StillMakes, Turns.asked};
 
 use crate::call::Call;
 use crate::finished::Finished;
 use crate::turns::Turn;
 use std::alloc::{AllocError, Global};
-use std::sync::Arc;
 use tn_jobs::Job;
 use tn_session::Maker;
 
@@ -27,11 +25,6 @@ pub trait Service {
 
     // What a call makes of it.
     ghost turns: { Self → Turn → Self → Type 0 } = { λ _ _ _. Unit {0} };
-
-    /// What each client is shown before all that jobs write, as it goes over the connection.
-    fn banner(&self) -> Option<&Arc<Vec<u8>, Global>> {
-        None
-    }
 
     /// What makes the jobs of the session of this connection. Out of memory, the connection is closed and
     /// counts as a session that ended in a fault.

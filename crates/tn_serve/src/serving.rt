@@ -1,13 +1,10 @@
 //! Each connection has a session in threads of its own.
 
 ghost use Rattle.std.specs.Prelude.{◌≡◌, ◌⊎◌, ◌<◌, ◌≤◌, ◌+◌, ◌^◌, ◌-◌, true, IsTrue, IfOk, IfSome, IfNone};
-ghost use Rattle.std.specs.Prelude.{[], IsErrOf, Ok};
-ghost use Rattle.std.specs.Prelude.{vec_items, vec_len};
-ghost use Rattle.tn_serve.specs.Causes.{FailsBy, IsCaused};
+ghost use Rattle.std.specs.Prelude.{[], IsErrOf, Ok, vec_items, vec_len};
+ghost use Rattle.tn_serve.specs.{Causes.{FailsBy, IsCaused}, Ends.{AreEnough, ServesAll, ServesUntil}};
 ghost use Rattle.tn_serve.specs.Counted.{CountsSessions, HasEnded, StillCounts, facts_of, server_of};
-ghost use Rattle.tn_serve.specs.Ends.{AreEnough, ServesAll, ServesUntil};
-ghost use Rattle.tn_serve.specs.Places.{AreHeld, AreHeldBeside, HasNoPlace, RunsAll, RunsOver};
-ghost use Rattle.tn_serve.specs.Places.{count_from};
+ghost use Rattle.tn_serve.specs.Places.{AreHeld, AreHeldBeside, HasNoPlace, RunsAll, RunsOver, count_from};
 ghost use Rattle.tn_serve.specs.Services.{MakesOnly, StillMakes, TurnsAway, WasTurnedAway};
 ghost use Rattle.tn_serve.specs.Turns.{HearsAll, HearsOfJobs, HearsOfNone, StillHears, live_of};
 ghost use Rattle.tn_network.specs.Asked.{Accepts, Listens};
@@ -48,14 +45,14 @@ use tn_sockets::{Hook, Host, Standing};
 const EVENTS: usize = 16;
 
 /// Serves an address, or a name that has one, or a socket that is handed in, until so many connections were
-/// accepted, or `until` tells that no more are to come, and all their sessions have ended. Each connection has a
-/// session in threads of its own, with the jobs that the service makes for it, as long as there are no more of them, and no more from
-/// its host, than there may be; one more is told `full` and closed. Once `until` says so, sessions have
-/// `serving.drain` seconds to end; then their last words are `closing`. `log` gets a record of each event: a
-/// warning for a session that ends in a fault, after an error `tn: session`. If it cannot listen, `causes` gets
-/// a line. Each session runs as `serve_connection` runs one; the clauses below count them,
-/// and say what the network was asked for. None makes it ask `until`. It takes eight, since what is lent and
-/// what is given here go together nowhere else.
+/// accepted, or `until` tells that no more are to come, and all their sessions have ended. Each connection has
+/// a session in threads of its own, with the jobs that the service makes for it, as long as there are no more
+/// of them, and no more from its host, than there may be; one more is told `full` and closed. Once `until`
+/// says so, sessions have `serving.drain` seconds to end; then their last words are `closing`. `log` gets a
+/// record of each event: a warning for a session that ends in a fault, after an error `tn: session`. If it
+/// cannot listen, `causes` gets a line. Each session runs as `serve_connection` runs one; the clauses below
+/// count them, and say what the network was asked for. None makes it ask `until`. It takes eight, since what
+/// is lent and what is given here go together nowhere else.
 pub fn serve<H, U, V, L>(
     rt: H,
     alloc: Global,
@@ -546,7 +543,6 @@ impl<H: Host + Network, V: Service, O: Asked<V::Jobs>> Open<H, V, O> {
             jobs,
             standing,
             traffic,
-            banner: banner_of(&self.service),
         };
         if let Some(session) = session.start(caller.number, events) {
             return Some(Started::new(caller, noted, session));
@@ -687,11 +683,6 @@ fn call_of(
         hook,
         notes: Notes { events, number },
     })
-}
-
-// What each client is shown first.
-fn banner_of<V: Service>(service: &V) -> Option<Arc<Vec<u8>, Global>> {
-    Arc::try_clone(service.banner()?).ok()
 }
 
 // What happens next at a server, in this time where there is one.

@@ -2,15 +2,12 @@
 
 ghost use Rattle.std.specs.Prelude.{◌≡◌, ◌≢◌, [], IfOk, IfErr, IfSome};
 ghost use Rattle.tn_serve.specs.Servers.{IsPromised, RunsServer, RunsWriting, connection_of};
-ghost use Rattle.tn_session.specs.Facts.{job_facts, session_result};
-ghost use Rattle.tn_session.specs.Makers.{begins};
-ghost use Rattle.tn_session.specs.Session.{IsRefusal};
+ghost use Rattle.tn_session.specs.{Facts.{job_facts, session_result}, Makers.begins, Session.IsRefusal};
 ghost use Rattle.tn_sockets.specs.Logs.{logged};
 ghost use Rattle.tn_machines.specs.server.Welcoming.{too_far_ahead};
 
 use crate::conversed::{Conversed, Ran};
 use crate::events::Event;
-use crate::greeting::Greeting;
 use crate::settings::SessionOptions;
 use crate::sight::Sight;
 use crate::traffic::{Counted, CountedWrites, Traffic};
@@ -36,8 +33,6 @@ pub(crate) struct Session<H, M> {
     pub(crate) jobs: M,
     pub(crate) standing: Arc<Standing, Global>,
     pub(crate) traffic: Arc<Traffic, Global>,
-    /// What the client is shown first.
-    pub(crate) banner: Option<Arc<Vec<u8>, Global>>,
 }
 
 impl<H, M> Session<H, M>
@@ -89,8 +84,7 @@ pub(crate) struct SessionSays<M> {
 
 impl<M: Maker> Promise<Ran> for SessionSays<M> {
     ghost use Rattle.tn_serve.specs.Servers.{IsPromised};
-    ghost use Rattle.tn_session.specs.Facts.{job_facts};
-    ghost use Rattle.tn_session.specs.Makers.{begins};
+    ghost use Rattle.tn_session.specs.{Facts.job_facts, Makers.begins};
 
     ghost kept_by = { λ p ran.
         IsPromised (job_facts (begins M.Job.fresh M.gives p.jobs.value) M.Job.reacts M.Job.steps
@@ -145,7 +139,6 @@ where
             jobs,
             standing,
             traffic,
-            banner,
         } = self;
         let (Ok(theirs), Ok(ours)) = (Arc::try_clone(&standing), Arc::try_clone(&standing)) else {
             return Err(SessionFault::Memory);
@@ -165,16 +158,15 @@ where
             side: reader,
             traffic,
         };
-        let side = CountedWrites {
+        let mut writer = Logged::new(CountedWrites {
             side: writer.with_standing(ours),
             traffic: went,
-        };
-        let mut writer = Logged::new(Greeting { side, banner });
+        });
         let sight = Sight { standing: seen };
         let (report, ports) = talk(rt, alloc, reader, &mut writer, options, jobs, sight)?;
         let (writer, log) = writer.into_parts();
         if standing.is_ended_here() {
-            linger(rt, alloc, writer.side.side.into_stream(), standing);
+            linger(rt, alloc, writer.side.into_stream(), standing);
         }
         Ok(Conversed {
             report,
@@ -190,7 +182,7 @@ fn talk<H, M>(
     rt: H,
     alloc: Global,
     reader: Counted<Attended<H, TcpStream>>,
-    writer: &mut Logged<Greeting<CountedWrites<Connection<TcpStream>>>>,
+    writer: &mut Logged<CountedWrites<Connection<TcpStream>>>,
     options: SessionOptions,
     jobs: M,
     sight: Sight,
@@ -258,7 +250,6 @@ where
         jobs,
         standing,
         traffic,
-        banner: None,
     };
     session.run().ended
 }

@@ -1,7 +1,6 @@
 -- The line feed at the end of a line.
 use Rattle.std.proofs.Common.{◌≡◌, ℕ, ◌<◌, ◌==◌, Bool, false, List, [], ◌∷◌, ◌++◌, length, refl, sym, ap, ◌∙◌, append-nil, arith, if◌then◌else◌}
-use Rattle.tn_lines.specs.LineEnds.{end_bytes, line_said}
-use Rattle.tn_lines.specs.declared.line_ends.LineEnd.{LineEnd}
+use Rattle.tn_lines.specs.{LineEnds.{end_bytes, line_said}, declared.line_ends.LineEnd.LineEnd}
 
 pub fed : (line_end : LineEnd) (body : List ℕ) → line_said line_end (body ++ 10 ∷ []) ≡ body ++ end_bytes line_end
 unfolding line_said

@@ -1,7 +1,6 @@
 -- What is shown of bytes that come in pieces.
 use Rattle.std.proofs.Common.{◌≡◌, ℕ, ◌==◌, ◌&&◌, Bool, true, false, List, [], ◌∷◌, ◌++◌, refl, sym, ap, ap₂, ◌∙◌, append_assoc, ◌≤◌, length, arith}
-use Rattle.std.proofs.Common.{if◌then◌else◌}
-use Rattle.std.proofs.lemmas.Bool.{eqb-true}
+use Rattle.std.proofs.{Common.if◌then◌else◌, lemmas.Bool.eqb-true}
 use Rattle.tn_services.specs.NewLines.{ends_by_return, new_lines, settled, shown_of, waiting}
 
 -- by cases of one test

@@ -1,26 +1,14 @@
 -- What was shown, one step after another.
 use Rattle.std.proofs.Common.{◌≡◌, ◌≢◌, ◌⊎◌, inl, inr, ⊎_elim, ℕ, Bool, false, List, [], ◌∷◌, ◌++◌, length, Option, Some, None, Err, refl, sym, ap, ap₂, ◌∙◌}
-use Rattle.std.proofs.Common.{subst, append_assoc, append-nil, arith}
-use Rattle.std.proofs.lemmas.List.{append_cancel_right}
-use Rattle.std.specs.Io.KnownBytes.{Consumes, IsAtEnd}
-use Rattle.std.specs.IoError.{error_kind}
-use Rattle.std.specs.List.{FoldsTo, concat}
-use Rattle.std.specs.declared.io.Error.{Error}
+use Rattle.std.proofs.{Common.{subst, append_assoc, append-nil, arith}, lemmas.List.append_cancel_right}
+use Rattle.std.specs.{Io.KnownBytes.{Consumes, IsAtEnd}, IoError.error_kind, List.{FoldsTo, concat}, declared.io.Error.Error}
 use Rattle.std.specs.declared.io.ErrorKind.TheVariants.{Interrupted}
 use Rattle.tn_services.proofs.NewLines.{all, ends_more, settles, waits_alone}
-use Rattle.tn_services.specs.Joining.{Steps}
-use Rattle.tn_services.specs.NewLines.{ends_by_return, new_lines, settled, shown_of, waiting}
-use Rattle.tn_services.specs.Showing.{IsToFail, Shows, ShowsGiven, giving}
-use Rattle.tn_services.specs.Talks.{EndsAtLast, ShowsTalk, texts_of}
-use Rattle.tn_services.specs.declared.joining.Gateway.{Gateway}
+use Rattle.tn_services.specs.{Joining.Steps, NewLines.{ends_by_return, new_lines, settled, shown_of, waiting}, Showing.{IsToFail, Shows, ShowsGiven, giving}}
+use Rattle.tn_services.specs.{Talks.{EndsAtLast, ShowsTalk, texts_of}, declared.{joining.Gateway.Gateway, showing.Showing.Showing}}
 use Rattle.tn_services.specs.declared.joining.Gateway.TheVariants as side
-use Rattle.tn_services.specs.declared.showing.Showing.{Showing}
-use Rattle.tn_jobs.specs.declared.reactions.Reaction.{Reaction}
-use Rattle.tn_jobs.specs.declared.verdicts.After.{After}
-use Rattle.tn_jobs.specs.declared.verdicts.After.TheVariants.{Stay, WantsInput, Done, Stop}
-use Rattle.tn_streams.specs.Foretelling.{Failures, ForetellsCall, HasCome}
-use Rattle.tn_streams.specs.Known.{KnownReader, known_reader}
-use Rattle.tn_streams.specs.declared.window.WindowSize.{WindowSize}
+use Rattle.tn_jobs.specs.declared.{reactions.Reaction.Reaction, verdicts.After.{After, TheVariants.{Stay, WantsInput, Done, Stop}}}
+use Rattle.tn_streams.specs.{Foretelling.{Failures, ForetellsCall, HasCome}, Known.{KnownReader, known_reader}, declared.window.WindowSize.WindowSize}
 
 pub consumes_more : (a b c : Option (List ℕ)) (xs ys : List ℕ) → Consumes a b xs → Consumes b c ys → Consumes a c (xs ++ ys)
 consumes_more None b c xs ys one two = tt

@@ -1,19 +1,12 @@
 -- What one step of the job in the background shows.
 use Rattle.std.proofs.Common.{◌≡◌, ◌≢◌, ◌⊎◌, inr, ℕ, ◌<◌, ◌≤◌, Bool, false, List, [], ◌∷◌, ◌++◌, Option, Some, None, Result, Ok, Err, length, take, refl, sym}
 use Rattle.std.proofs.Common.{ap, ap₂, ◌∙◌, subst, append-nil, arith, length-take-le}
-use Rattle.std.specs.Io.KnownBytes.{Consumes, IsAtEnd, Keeps, ReadConsumes}
-use Rattle.std.specs.IoError.{error_kind}
-use Rattle.std.specs.declared.io.Error.{Error}
-use Rattle.std.specs.declared.io.ErrorKind.TheVariants.{Interrupted}
-use Rattle.tn_services.proofs.NewLines.{all, ends_more, waits_alone}
-use Rattle.tn_services.proofs.Shown.{failed}
-use Rattle.tn_services.specs.NewLines.{ends_by_return, new_lines, settled, waiting}
-use Rattle.tn_services.specs.Showing.{IsToFail, Shows, ShowsGiven, giving}
-use Rattle.tn_jobs.specs.declared.verdicts.After.{After}
-use Rattle.tn_jobs.specs.declared.verdicts.After.TheVariants.{Stay, Done}
+use Rattle.std.specs.{Io.KnownBytes.{Consumes, IsAtEnd, Keeps, ReadConsumes}, IoError.error_kind, declared.io.{Error.Error, ErrorKind.TheVariants.Interrupted}}
+use Rattle.tn_services.proofs.{NewLines.{all, ends_more, waits_alone}, Shown.failed}
+use Rattle.tn_services.specs.{NewLines.{ends_by_return, new_lines, settled, waiting}, Showing.{IsToFail, Shows, ShowsGiven, giving}}
+use Rattle.tn_jobs.specs.declared.verdicts.After.{After, TheVariants.{Stay, Done}}
 use Rattle.tn_streams.proofs.lemmas.Foretelling.{come_none, come_more, come_again}
-use Rattle.tn_streams.specs.Foretelling.{ForetellsCall, HasCome}
-use Rattle.tn_streams.specs.Known.{KnownReader}
+use Rattle.tn_streams.specs.{Foretelling.{ForetellsCall, HasCome}, Known.KnownReader}
 
 kept_consumes : (a b : Option (List ℕ)) → Keeps a b → Consumes a b []
 kept_consumes None b keeps = tt

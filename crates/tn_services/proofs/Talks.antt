@@ -1,27 +1,16 @@
 -- What went to the service, one entry after another.
 use Rattle.std.proofs.Common.{◌≡◌, ◌≢◌, ℕ, Bool, true, false, List, [], ◌∷◌, ◌++◌, Option, refl, sym, ◌∙◌, subst, map}
 use Rattle.std.specs.Io.KnownBytes.{Appends}
-use Rattle.tn_discipline.specs.declared.reads.Entry.{Entry}
-use Rattle.tn_discipline.specs.declared.reads.Entry.TheVariants.{Text, Eof, Signal}
-use Rattle.tn_discipline.specs.declared.reads.Sig.TheVariants.{Int, Quit, Tstp}
-use Rattle.tn_streams.proofs.lemmas.Writing.{kept_appends, keeps_on, keeps_same, writes_more, stops_more, tells_more}
-use Rattle.tn_services.specs.Joining.{Reacts}
-use Rattle.tn_services.specs.Cutting.{is_ending}
-use Rattle.tn_services.specs.Sending.{Goes, GoesKey, GoesLine, WritesNothing, way_after}
-use Rattle.tn_services.specs.Talks.{SendsAll, SendsTalk, due, due_from, due_key, goes_well}
-use Rattle.tn_services.specs.declared.cutting.LineFormat.{LineFormat}
-use Rattle.tn_services.specs.declared.joining.Gateway.{Gateway}
+use Rattle.tn_discipline.specs.declared.reads.{Entry.{Entry, TheVariants.{Text, Eof, Signal}}, Sig.TheVariants.{Int, Quit, Tstp}}
+use Rattle.tn_streams.proofs.lemmas.{Writing.{kept_appends, keeps_on, keeps_same, writes_more, stops_more, tells_more}, Telling.accounts_none}
+use Rattle.tn_services.specs.{Joining.Reacts, Cutting.is_ending, Sending.{Goes, GoesKey, GoesLine, WritesNothing, way_after}, declared.joining.Gateway.Gateway}
+use Rattle.tn_services.specs.{Talks.{SendsAll, SendsTalk, due, due_from, due_key, goes_well}, declared.{cutting.LineFormat.LineFormat, sending.Way.Way}}
+use Rattle.tn_services.specs.declared.sending.{SendingLines.SendingLines, Way.TheVariants.{Open, Ended, Broken}}
 use Rattle.tn_services.specs.declared.joining.Gateway.TheVariants as side
-use Rattle.tn_services.specs.declared.sending.SendingLines.{SendingLines}
-use Rattle.tn_services.specs.declared.sending.Way.{Way}
-use Rattle.tn_services.specs.declared.sending.Way.TheVariants.{Open, Ended, Broken}
 use Rattle.tn_jobs.specs.declared.reactions.Reaction.{Reaction}
 use Rattle.tn_lines.specs.LineEnds.{line_said}
 use Rattle.tn_workers.specs.Talk.{Answers}
-use Rattle.tn_streams.specs.Writing.{Writes, Tells, max_writes}
-use Rattle.tn_streams.proofs.lemmas.Telling.{accounts_none}
-use Rattle.tn_streams.specs.Known.{KnownWriter, KnownWriting, known_writer, known_writing}
-use Rattle.tn_streams.specs.Telling.{Calls}
+use Rattle.tn_streams.specs.{Writing.{Writes, Tells, max_writes}, Known.{KnownWriter, KnownWriting, known_writer, known_writing}, Telling.Calls}
 
 abbrev pub between : KnownWriter → KnownWriter → KnownWriting
 between before after = record { before = before; after = after }

@@ -1,8 +1,7 @@
 -- As many ticks are made as are left.
 use Rattle.std.proofs.Common.{◌≡◌, ◌≤◌, ◌+◌, ℕ, zero, suc, List, [], ◌∷◌, ◌++◌, length, refl, sym, ap, ◌∙◌, append-nil, arith}
 use Rattle.tn_jobs.specs.declared.reactions.Reaction.{Reaction}
-use Rattle.tn_services.specs.Answering.{AreTicks, IsFresh, AreSteps, tick, ticks}
-use Rattle.tn_services.specs.declared.answering.Answerer.{Answerer}
+use Rattle.tn_services.specs.{Answering.{AreTicks, IsFresh, AreSteps, tick, ticks}, declared.answering.Answerer.Answerer}
 
 pub length-ticks : (left : ℕ) → length (ticks left) ≡ left
 length-ticks zero = refl

@@ -1,7 +1,6 @@
 -- The jobs of a session: how many are still to be made, and which one comes next.
 use Rattle.std.specs.Prelude.{◌≡◌, ℕ, zero, suc, Bool, true, false, IsFalse, if◌then◌else◌}
-use Rattle.tn_services.specs.declared.answerers.Answerers.{Answerers}
-use Rattle.tn_services.specs.declared.answering.Answerer.{Answerer}
+use Rattle.tn_services.specs.declared.{answerers.Answerers.Answerers, answering.Answerer.Answerer}
 
 -- one in the foreground
 abbrev pub foreground : Bool → ℕ

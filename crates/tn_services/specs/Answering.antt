@@ -1,12 +1,9 @@
 -- What the job of a served session answers, and what the one in the background writes.
 use Rattle.std.specs.Prelude.{◌≡◌, ◌-◌, ℕ, nat_le, zero, suc, IsTrue, Option, Some, List, [], ◌∷◌, codes}
-use Rattle.std.specs.Prelude.{if◌then◌else◌}
-use Rattle.std.specs.Str.{bytes_eq}
-use Rattle.tn_discipline.specs.declared.reads.Sig.TheVariants.{Int, Quit, Tstp}
-use Rattle.tn_discipline.specs.declared.reads.Entry.{Entry}
+use Rattle.std.specs.{Prelude.if◌then◌else◌, Str.bytes_eq}
+use Rattle.tn_discipline.specs.declared.reads.{Sig.TheVariants.{Int, Quit, Tstp}, Entry.Entry}
 use Rattle.tn_discipline.specs.declared.reads.Entry.TheVariants.{Text, Eof, Signal}
-use Rattle.tn_jobs.specs.declared.reactions.Reaction.{Reaction}
-use Rattle.tn_jobs.specs.declared.verdicts.After.{After}
+use Rattle.tn_jobs.specs.declared.{reactions.Reaction.Reaction, verdicts.After.After}
 use Rattle.tn_jobs.specs.declared.verdicts.After.TheVariants.{Stay, Done, Stop}
 use Rattle.tn_services.specs.declared.answering.Answerer.{Answerer}
 

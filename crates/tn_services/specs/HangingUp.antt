@@ -1,8 +1,6 @@
 -- When the end of a service ends the session that is joined to it.
 use Rattle.std.specs.Prelude.{◌≡◌, ◌≢◌, ℕ, Bool, true, Option, option_map, Result, Ok, Err}
-use Rattle.std.specs.IoError.{error_kind}
-use Rattle.std.specs.declared.io.Error.{Error}
-use Rattle.std.specs.declared.io.ErrorKind.TheVariants.{Interrupted}
+use Rattle.std.specs.{IoError.error_kind, declared.io.{Error.Error, ErrorKind.TheVariants.Interrupted}}
 
 -- after a hang-up, if it is counted
 abbrev pub hung_up_on : Option Bool → Option Bool

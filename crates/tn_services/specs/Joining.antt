@@ -1,18 +1,12 @@
 -- The jobs of a session that is joined to a service.
 use Rattle.std.specs.Prelude.{◌≡◌, ℕ, ◌+◌, IsFalse, IfSome, Option, Some, None, List}
 use Rattle.tn_discipline.specs.declared.reads.Entry.{Entry}
-use Rattle.tn_services.specs.Sending.{SendsEntry, WantsMemory, silent}
-use Rattle.tn_services.specs.Showing.{Shows}
-use Rattle.tn_services.specs.declared.cutting.LineFormat.{LineFormat}
-use Rattle.tn_services.specs.declared.joining.Gateway.{Gateway}
+use Rattle.tn_services.specs.{Sending.{SendsEntry, WantsMemory, silent}, Showing.Shows}
+use Rattle.tn_services.specs.declared.{cutting.LineFormat.LineFormat, joining.Gateway.Gateway}
+use Rattle.tn_services.specs.declared.{makers.Gateways.Gateways, sending.Way.TheVariants.Open}
 use Rattle.tn_services.specs.declared.joining.Gateway.TheVariants as side
-use Rattle.tn_services.specs.declared.makers.Gateways.{Gateways}
-use Rattle.tn_services.specs.declared.sending.Way.TheVariants.{Open}
-use Rattle.tn_jobs.specs.declared.reactions.Reaction.{Reaction}
-use Rattle.tn_jobs.specs.declared.verdicts.After.TheVariants.{Stay, Done}
-use Rattle.tn_streams.specs.Foretelling.{Failures}
-use Rattle.tn_streams.specs.Known.{known_reader}
-use Rattle.tn_streams.specs.declared.window.WindowSize.{WindowSize}
+use Rattle.tn_jobs.specs.declared.{reactions.Reaction.Reaction, verdicts.After.TheVariants.{Stay, Done}}
+use Rattle.tn_streams.specs.{Foretelling.Failures, Known.known_reader, declared.window.WindowSize.WindowSize}
 use Rattle.tn_streams.specs.Telling.{Calls}
 
 -- how many jobs are to come of something that is there, or not

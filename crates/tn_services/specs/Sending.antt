@@ -1,21 +1,15 @@
 -- What the job in the foreground sends to the service at an entry, and what it tells the user.
 use Rattle.std.specs.Prelude.{◌≡◌, ◌≢◌, ℕ, Bool, true, false, if◌then◌else◌, Option, List, [], ◌∷◌, codes}
 use Rattle.std.specs.Io.KnownBytes.{Keeps}
-use Rattle.tn_discipline.specs.declared.reads.Entry.{Entry}
-use Rattle.tn_discipline.specs.declared.reads.Entry.TheVariants.{Text, Eof, Signal}
+use Rattle.tn_discipline.specs.declared.reads.Entry.{Entry, TheVariants.{Text, Eof, Signal}}
 use Rattle.tn_discipline.specs.declared.reads.Sig.TheVariants.{Int, Quit, Tstp}
-use Rattle.tn_services.specs.Cutting.{is_ending}
-use Rattle.tn_services.specs.declared.cutting.LineFormat.{LineFormat}
+use Rattle.tn_services.specs.{Cutting.is_ending, declared.{cutting.LineFormat.LineFormat, sending.Way.Way}}
 use Rattle.tn_services.specs.declared.sending.SendingLines.{SendingLines}
-use Rattle.tn_services.specs.declared.sending.Way.{Way}
 use Rattle.tn_services.specs.declared.sending.Way.TheVariants.{Open, Ended, Broken}
-use Rattle.tn_jobs.specs.declared.reactions.Reaction.{Reaction}
-use Rattle.tn_jobs.specs.declared.verdicts.After.{After}
+use Rattle.tn_jobs.specs.declared.{reactions.Reaction.Reaction, verdicts.After.After}
 use Rattle.tn_jobs.specs.declared.verdicts.After.TheVariants.{Stay, Done}
 use Rattle.tn_lines.specs.LineEnds.{line_said}
-use Rattle.tn_streams.specs.Writing.{Writes, Tells}
-use Rattle.tn_streams.specs.Known.{KnownWriting, known_writing}
-use Rattle.tn_streams.specs.Telling.{Calls}
+use Rattle.tn_streams.specs.{Writing.{Writes, Tells}, Known.{KnownWriting, known_writing}, Telling.Calls}
 
 abbrev pub say : List ℕ → After → Reaction
 say text after = record { text = text; after = after }

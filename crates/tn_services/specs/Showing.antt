@@ -2,10 +2,8 @@
 use Rattle.std.specs.Prelude.{◌≡◌, ◌<◌, ◌≤◌, ◌⊎◌, ⊤, ℕ, Bool, Option, Some, None, List, [], ◌∷◌, ◌++◌, length}
 use Rattle.std.specs.Io.KnownBytes.{Consumes, IsAtEnd}
 use Rattle.tn_services.specs.NewLines.{ends_by_return, new_lines, waiting}
-use Rattle.tn_jobs.specs.declared.verdicts.After.{After}
-use Rattle.tn_jobs.specs.declared.verdicts.After.TheVariants.{Stay, WantsInput, Done, Stop}
-use Rattle.tn_streams.specs.Foretelling.{Failures, HasCome}
-use Rattle.tn_streams.specs.Known.{KnownReader}
+use Rattle.tn_jobs.specs.declared.verdicts.After.{After, TheVariants.{Stay, WantsInput, Done, Stop}}
+use Rattle.tn_streams.specs.{Foretelling.{Failures, HasCome}, Known.KnownReader}
 
 -- how many of the step's reads, which are one, gave a byte
 abbrev pub giving : List ℕ → ℕ

@@ -1,29 +1,18 @@
 -- What went to the service in a whole talk, and what of its words was shown.
 use Rattle.std.specs.Prelude.{◌≡◌, ◌⊎◌, ℕ, Bool, true, false, IsFalse, Option, List, [], ◌∷◌, ◌++◌, length}
-use Rattle.std.specs.Prelude.{map}
-use Rattle.std.specs.List.{concat}
-use Rattle.std.specs.Io.KnownBytes.{Consumes, IsAtEnd}
-use Rattle.tn_discipline.specs.declared.reads.Entry.{Entry}
-use Rattle.tn_discipline.specs.declared.reads.Entry.TheVariants.{Text, Eof, Signal}
+use Rattle.std.specs.{Prelude.map, List.concat, Io.KnownBytes.{Consumes, IsAtEnd}}
+use Rattle.tn_discipline.specs.declared.reads.Entry.{Entry, TheVariants.{Text, Eof, Signal}}
 use Rattle.tn_discipline.specs.declared.reads.Sig.TheVariants.{Int, Quit, Tstp}
-use Rattle.tn_services.specs.Cutting.{is_ending}
-use Rattle.tn_services.specs.NewLines.{shown_of, waiting}
-use Rattle.tn_services.specs.Showing.{IsToFail}
-use Rattle.tn_services.specs.declared.cutting.LineFormat.{LineFormat}
-use Rattle.tn_services.specs.declared.joining.Gateway.{Gateway}
-use Rattle.tn_services.specs.declared.joining.Gateway.TheVariants as side
-use Rattle.tn_services.specs.declared.sending.SendingLines.{SendingLines}
-use Rattle.tn_services.specs.declared.sending.Way.{Way}
+use Rattle.tn_services.specs.{Cutting.is_ending, NewLines.{shown_of, waiting}, Showing.IsToFail}
+use Rattle.tn_services.specs.declared.{cutting.LineFormat.LineFormat, joining.Gateway.Gateway}
+use Rattle.tn_services.specs.declared.{sending.{SendingLines.SendingLines, Way.Way}, showing.Showing.Showing}
 use Rattle.tn_services.specs.declared.sending.Way.TheVariants.{Open, Ended, Broken}
-use Rattle.tn_services.specs.declared.showing.Showing.{Showing}
-use Rattle.tn_jobs.specs.declared.reactions.Reaction.{Reaction}
-use Rattle.tn_jobs.specs.declared.verdicts.After.TheVariants.{Stay, Done}
+use Rattle.tn_services.specs.declared.joining.Gateway.TheVariants as side
+use Rattle.tn_jobs.specs.declared.{reactions.Reaction.Reaction, verdicts.After.TheVariants.{Stay, Done}}
 use Rattle.tn_lines.specs.LineEnds.{line_said}
-use Rattle.tn_streams.specs.Writing.{Writes, Tells}
-use Rattle.tn_streams.specs.Foretelling.{Failures}
+use Rattle.tn_streams.specs.{Writing.{Writes, Tells}, Foretelling.Failures, Telling.Calls}
 use Rattle.tn_streams.specs.Known.{KnownReader, KnownWriting, known_reader, known_writing}
 use Rattle.tn_streams.specs.declared.window.WindowSize.{WindowSize}
-use Rattle.tn_streams.specs.Telling.{Calls}
 
 -- a line, and what is due behind it; or nothing, where it ends the session
 abbrev pub due_from : Bool → List ℕ → List ℕ → List ℕ

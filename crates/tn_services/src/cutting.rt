@@ -17,6 +17,12 @@ pub trait HearsTelnet {
     fn hear_telnet(&self);
 }
 
+/// Who has a text for a session's user.
+pub trait Greets {
+    /// What is read before what the service says.
+    fn banner(&self) -> &[u8];
+}
+
 /// How lines go to a service.
 #[derive(Clone, Copy, PartialEq, Eq)]
 pub struct LineFormat {

@@ -1,15 +1,13 @@
 //! A connection to a line service, for the jobs of one session.
 
-ghost use Rattle.std.specs.Io.{ReadsAtMost, WritesAtMost};
-ghost use Rattle.std.specs.Io.KnownBytes.{ReadConsumes, WriteAppends};
-ghost use Rattle.std.specs.Prelude.{◌≡◌, ◌+◌, None, IfOk, IfSome, IsFalse, IsSome, IsTrue, OnErr};
-ghost use Rattle.std.specs.Prelude.{OnOk, string_bytes};
-ghost use Rattle.tn_services.specs.Dialing.{IsToldTo};
-ghost use Rattle.tn_services.specs.HangingUp.{HangsUpAtEnd, IsLast};
+ghost use Rattle.std.specs.Io.{ReadsAtMost, WritesAtMost, KnownBytes.{ReadConsumes, WriteAppends}};
+ghost use Rattle.std.specs.Prelude.{◌≡◌, ◌+◌, None, IfOk, IfSome, IsFalse, IsSome, IsTrue, OnErr, OnOk};
+ghost use Rattle.std.specs.Prelude.{string_bytes};
+ghost use Rattle.tn_services.specs.{Dialing.IsToldTo, HangingUp.{HangsUpAtEnd, IsLast}};
 ghost use Rattle.tn_services.specs.Joining.{Connects, count};
 ghost use Rattle.tn_sockets.specs.Passing.{HandsOn};
 
-use crate::cutting::{HearsCut, HearsTelnet, LineFormat};
+use crate::cutting::{Greets, HearsCut, HearsTelnet, LineFormat};
 use crate::hanging_up::HangUp;
 use crate::joining::Gateway;
 use crate::joint::{Heard, Joint, LOOK, Told};
@@ -61,7 +59,7 @@ pub struct Joiner<H, N> {
 impl<H, N> Joiner<H, N> {
     /// Jobs that are joined to the service at this host and port, which they dial for so many seconds at most.
     /// They hang up by this hook once it ends. The first of `notes` is told of a service that speaks Telnet,
-    /// the second of lines that may have been cut.
+    /// and gives what the user reads first; the second is told of lines that may have been cut.
     pub fn new(
         rt: H,
         host: String,
@@ -159,10 +157,10 @@ impl<H: Clock + Copy + Network + Wait, N: Drop> Joiner<H, N> {
     }
 }
 
-impl<H: Clock + Copy + Network + Wait, N: HearsCut + HearsTelnet + Drop> Maker for Joiner<H, N> {
+impl<H: Clock + Copy + Network + Wait, N: Greets + HearsCut + HearsTelnet + Drop> Maker
+    for Joiner<H, N> {
     ghost use Rattle.std.specs.Prelude.{Some, string_bytes};
-    ghost use Rattle.tn_services.specs.Dialing.{IsToldTo};
-    ghost use Rattle.tn_services.specs.Joining.{GivesReached, GivesSide, left_to_make};
+    ghost use Rattle.tn_services.specs.{Dialing.IsToldTo, Joining.{GivesReached, GivesSide, left_to_make}};
 
     type Job = Gateway<ServiceReader<H, Heard<H, N>>, ServiceWriter<H, Told<H>, N>>;
 

@@ -1,12 +1,10 @@
 //! The connection to a line service, which is made while its session runs.
 
-ghost use Rattle.std.specs.Io.{ReadsAtMost};
-ghost use Rattle.std.specs.Io.KnownBytes.{ReadConsumes};
-ghost use Rattle.std.specs.Prelude.{◌≡◌, None, string_bytes};
+ghost use Rattle.std.specs.{Io.{ReadsAtMost, KnownBytes.ReadConsumes}, Prelude.{◌≡◌, None, string_bytes}};
 ghost use Rattle.tn_network.specs.Asked.{Reaches};
 ghost use Rattle.tn_services.specs.Dialing.{unreached};
 
-use crate::cutting::HearsTelnet;
+use crate::cutting::{Greets, HearsTelnet};
 use crate::dialing::Pacing;
 use crate::telnet::Speech;
 use std::alloc::Global;
@@ -93,8 +91,10 @@ pub struct Heard<H, N> {
     cause: Vec<u8>,
     told: usize,
     speech: Speech,
-    /// It hears of a service that speaks Telnet.
+    /// It has what is read first, and hears of a service that speaks Telnet.
     notes: N,
+    /// How many bytes of what is read first were read.
+    greeted: usize,
 }
 
 impl<H, N> Heard<H, N> {
@@ -121,6 +121,7 @@ impl<H, N> Heard<H, N> {
             told: 0,
             speech: Speech::new(),
             notes,
+            greeted: 0,
         }
     }
 }
@@ -191,11 +192,32 @@ impl<H: Clock + Copy + Network + Wait, N: Drop> Heard<H, N> {
     }
 }
 
-impl<H: Clock + Copy + Network + Wait, N: HearsTelnet + Drop> Read for Heard<H, N> {
+impl<H, N: Greets> Heard<H, N> {
+    // What is left of what is read first.
+    fn greeting(&self) -> &[u8] {
+        self.notes.banner().get(self.greeted..).unwrap_or(b"")
+    }
+
+    fn greet(&mut self, buf: &mut [u8]) -> io::Result<usize>
+        ensures bound { ReadsAtMost result buf.new }
+    {
+        let mut left = self.greeting();
+        let read = left.read(buf);
+        if let Ok(count) = &read {
+            self.greeted = self.greeted.saturating_add(*count);
+        }
+        read
+    }
+}
+
+impl<H: Clock + Copy + Network + Wait, N: Greets + HearsTelnet + Drop> Read for Heard<H, N> {
     fn read(&mut self, buf: &mut [u8]) -> io::Result<usize>
         ensures bound { ReadsAtMost result buf.new }
         ensures bytes { ReadConsumes None None result buf.new }
     {
+        if !self.greeting().is_empty() {
+            return self.greet(buf);
+        }
         if let Some(stream) = self.joint.stream.get() {
             let mut stream = stream;
             let count = stream.read(buf)?;

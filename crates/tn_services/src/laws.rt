@@ -1,17 +1,12 @@
 //! Laws of whole talks and of a job that ticks, over the definitions alone.
 
-ghost use Rattle.std.specs.Prelude.{◌≡◌, ◌≤◌, ◌+◌, ◌++◌, ℕ, List, length, map};
-ghost use Rattle.std.specs.List.{FoldsTo};
+ghost use Rattle.std.specs.{Prelude.{◌≡◌, ◌≤◌, ◌+◌, ◌++◌, ℕ, List, length, map}, List.FoldsTo};
 ghost use Rattle.tn_discipline.specs.declared.reads.Entry.{Entry};
-ghost use Rattle.tn_services.specs.Answering.{AreTicks, IsFresh, AreSteps, ticks};
-ghost use Rattle.tn_services.specs.Joining.{Reacts, Steps};
-ghost use Rattle.tn_services.specs.Talks.{SendsTalk, ShowsTalk};
-ghost use Rattle.tn_services.specs.declared.answering.Answerer.{Answerer};
-ghost use Rattle.tn_services.specs.declared.joining.Gateway.{Gateway};
+ghost use Rattle.tn_services.specs.{Answering.{AreTicks, IsFresh, AreSteps, ticks}, Joining.{Reacts, Steps}};
+ghost use Rattle.tn_services.specs.{Talks.{SendsTalk, ShowsTalk}, declared.answering.Answerer.Answerer};
+ghost use Rattle.tn_services.specs.declared.{joining.Gateway.Gateway, sending.SendingLines.SendingLines};
+ghost use Rattle.tn_services.specs.declared.{sending.Way.TheVariants.Open, showing.Showing.Showing};
 ghost use Rattle.tn_services.specs.declared.joining.Gateway.TheVariants as side;
-ghost use Rattle.tn_services.specs.declared.sending.SendingLines.{SendingLines};
-ghost use Rattle.tn_services.specs.declared.sending.Way.TheVariants.{Open};
-ghost use Rattle.tn_services.specs.declared.showing.Showing.{Showing};
 ghost use Rattle.tn_jobs.specs.declared.reactions.Reaction.{Reaction};
 ghost use Rattle.tn_workers.specs.Talk.{Answers};
 

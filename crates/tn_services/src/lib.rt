@@ -16,7 +16,7 @@
 
 pub use answerers::Answerers;
 pub use answering::Answerer;
-pub use cutting::{HearsCut, HearsTelnet, LineFormat};
+pub use cutting::{Greets, HearsCut, HearsTelnet, LineFormat};
 pub use dialing::{Joiner, Pacing, ServiceReader, ServiceWriter};
 pub use hanging_up::HangUp;
 pub use joining::Gateway;

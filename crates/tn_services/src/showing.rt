@@ -1,10 +1,8 @@
 //! The job in the background: what the service says goes to the user.
 
 ghost use Rattle.std.specs.Prelude.{◌≡◌, ◌+◌, ◌≤◌, ◌<◌, ◌++◌, [], ◌∷◌, false, IsFalse, IfOk, length};
-ghost use Rattle.std.specs.Prelude.{vec_capacity};
-ghost use Rattle.std.specs.Prelude.{vec_len};
-ghost use Rattle.tn_services.specs.NewLines.{ends_by_return, settled, waiting};
-ghost use Rattle.tn_services.specs.Showing.{Shows};
+ghost use Rattle.std.specs.Prelude.{vec_capacity, vec_len};
+ghost use Rattle.tn_services.specs.{NewLines.{ends_by_return, settled, waiting}, Showing.Shows};
 ghost use Rattle.tn_streams.specs.Known.{known_reader};
 
 use std::alloc::{AllocError, Global};

@@ -64,7 +64,7 @@ impl Speech {
         kept.min(bytes.len())
     }
 
-    // Whether a byte is text. Of a service that has said nothing of Telnet, the next one says whether it begins.
+    // Whether a byte is text. If the service has said nothing of Telnet, the next byte says whether it begins.
     fn is_text(&mut self, byte: u8, next: Option<u8>) -> bool {
         if !self.speaks_telnet {
             return !self.begins(byte, next);

@@ -1,7 +1,6 @@
 -- The numbers of a date of HTTP, in another order.
 use Rattle.std.proofs.Common.{◌≡◌, ℕ, zero, suc, ◌+◌, ◌<◌, arith, List, [], ◌∷◌, ◌++◌, codes, drop, take, sym, ap, refl, ◌∙◌}
-use Rattle.httpdate.specs.declared.parts.Parts.{Parts}
-use Rattle.httpdate.specs.Text.{day_name, four_digits, imf_fixdate, month_name, time_of_day, two_digits}
+use Rattle.httpdate.specs.{declared.parts.Parts.Parts, Text.{day_name, four_digits, imf_fixdate, month_name, time_of_day, two_digits}}
 use Rattle.tn_sockets.specs.Times.{hyphenated, instant_text, three_digits}
 
 -- three letters

@@ -1,6 +1,5 @@
 -- A number is read digit by digit.
-use Rattle.std.proofs.Common.{◌≡◌, ◌<◌, ◌≤◌, ◌+◌, ℕ, List, [], ◌∷◌, Option, Some, ap, drop, length, refl, ◌∙◌}
-use Rattle.std.proofs.lemmas.List.{drop_all, drop_more}
+use Rattle.std.proofs.{Common.{◌≡◌, ◌<◌, ◌≤◌, ◌+◌, ℕ, List, [], ◌∷◌, Option, Some, ap, drop, length, refl, ◌∙◌}, lemmas.List.{drop_all, drop_more}}
 use Rattle.tn_sockets.specs.Sizes.{number_from, with_digit}
 use lib.ListN.{get_or}
 

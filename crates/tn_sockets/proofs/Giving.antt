@@ -1,10 +1,8 @@
 -- What a console gives and keeps.
 use Rattle.std.proofs.Common.{◌≡◌, ℕ, List, [], ◌++◌, Option, refl, sym, ap, ◌∙◌, subst, inl, arith, append-nil}
 use Rattle.std.specs.Io.KnownBytes.{Keeps}
-use Rattle.tn_sockets.specs.declared.escaping.Escaping.{Escaping}
-use Rattle.tn_sockets.specs.declared.escaping.SessionInput.{SessionInput}
+use Rattle.tn_sockets.specs.{declared.escaping.{Escaping.Escaping, SessionInput.SessionInput}, Passing.{GivesInputs, handed_on}}
 use Rattle.tn_sockets.proofs.Passing.{consumes_none, keeps_same}
-use Rattle.tn_sockets.specs.Passing.{GivesInputs, handed_on}
 use Rattle.tn_streams.specs.declared.control.Control.{Control}
 
 -- nothing was read: what was kept is given or kept

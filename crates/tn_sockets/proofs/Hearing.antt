@@ -2,13 +2,9 @@
 use Rattle.std.proofs.Common.{◌≡◌, ℕ, Bool, true, false, ◌||◌, List, ◌++◌, Result, Ok, Err, IsErrOf, ◌↔◌, inl, inr, refl, sym, ap, ◌∙◌}
 use Rattle.std.proofs.lemmas.List.Folds.{list_any-append}
 use Rattle.tn_nvt.proofs.lemmas.Folding.{taken_all}
-use Rattle.tn_nvt.specs.declared.decoding.NvtFault.{NvtFault}
-use Rattle.tn_nvt.specs.declared.decoding.NvtFault.TheVariants.{Memory, Failed, Refused}
-use Rattle.tn_nvt.specs.declared.items.Item.{Item}
+use Rattle.tn_nvt.specs.{declared.{decoding.NvtFault.{NvtFault, TheVariants.{Memory, Failed, Refused}}, items.Item.Item}, Feeding.{DecoderState, failed}}
 use Rattle.tn_nvt.specs.Sinks.{FeedsTo, StopsAtSink, StopsForMemory, all_of, bytes_of, calls_of}
-use Rattle.tn_nvt.specs.Feeding.{DecoderState, failed}
-use Rattle.tn_sockets.specs.Presence.{is_typed, are_typed, Sees, LosesNone, NeedsMemory, TellsOfPiece}
-use Rattle.tn_sockets.specs.declared.presence.Seen.{Seen}
+use Rattle.tn_sockets.specs.{Presence.{is_typed, are_typed, Sees, LosesNone, NeedsMemory, TellsOfPiece}, declared.presence.Seen.Seen}
 
 or_false : (a : Bool) → a ≡ (a || false)
 or_false true = refl

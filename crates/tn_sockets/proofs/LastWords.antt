@@ -1,8 +1,6 @@
 -- What the peer of a server's connection is told at its end is one of four.
 use Rattle.std.proofs.Common.{◌≡◌, ℕ, List, Option, Some, None, inl, inr, refl, subst, sym}
-use Rattle.tn_sockets.specs.LastWords.{last_lines, line_of}
-use Rattle.tn_sockets.specs.declared.attended.Why.{Why}
-use Rattle.tn_sockets.specs.declared.attended.Why.TheVariants.{Closing, Idle, TooLong}
+use Rattle.tn_sockets.specs.{LastWords.{last_lines, line_of}, declared.attended.Why.{Why, TheVariants.{Closing, Idle, TooLong}}}
 use Rattle.tn_streams.specs.Beside.{IsOneOf}
 
 each : (why : Option Why) → IsOneOf last_lines (line_of why)

@@ -1,28 +1,16 @@
 -- No line that is printed of items has a line feed in it.
-use Rattle.std.proofs.Common.{◌≡◌, ℕ, zero, suc, ◌+◌, ◌/◌, ◌%◌, ◌<◌, ◌==◌, nat_lt, nat_le, bit_and, refl, arith}
-use Rattle.std.proofs.Common.{Bool, true, false, not, ◌&&◌, ◌||◌, if◌then◌else◌, Option, Some, None}
-use Rattle.std.proofs.Common.{List, [], ◌∷◌, ◌++◌, map, flat_map, slice_index, codes, decimal}
-use Rattle.std.proofs.lemmas.Bool.{cond_both}
+use Rattle.std.proofs.Common.{◌≡◌, ℕ, zero, suc, ◌+◌, ◌/◌, ◌%◌, ◌<◌, ◌==◌, nat_lt, nat_le, bit_and, refl, arith, Bool, true, false, not, ◌&&◌, ◌||◌}
+use Rattle.std.proofs.{Common.{if◌then◌else◌, Option, Some, None, List, [], ◌∷◌, ◌++◌, map, flat_map, slice_index, codes, decimal}, lemmas.Bool.cond_both}
 use Rattle.std.specs.Fmt.{digits, digits_onto, digit_glyph}
 use Rattle.hex.specs.Hex.{encode_with, encode_lower, lower_digits}
-use Rattle.tn_codes.specs.PayloadOf.{payload_of}
-use Rattle.tn_codes.specs.Masks.{has_character}
-use Rattle.tn_codes.specs.declared.codes.Command.{Command}
+use Rattle.tn_codes.specs.{PayloadOf.payload_of, Masks.has_character, declared.{codes.{Command.Command, Verb.Verb}, masks.Mask.Mask, payloads.Payload.Payload}}
+use Rattle.tn_codes.specs.declared.{payloads.Payload.TheVariants.{Naws, Mode, ForwardOn, ForwardOff, ForwardYes, ForwardNo, Slc}, triples.Triple.Triple}
 use Rattle.tn_codes.specs.declared.codes.Command.TheVariants as command
-use Rattle.tn_codes.specs.declared.codes.Verb.{Verb}
 use Rattle.tn_codes.specs.declared.codes.Verb.TheVariants as verb
-use Rattle.tn_codes.specs.declared.masks.Mask.{Mask}
-use Rattle.tn_codes.specs.declared.payloads.Payload.{Payload}
-use Rattle.tn_codes.specs.declared.payloads.Payload.TheVariants.{Naws, Mode, ForwardOn, ForwardOff}
-use Rattle.tn_codes.specs.declared.payloads.Payload.TheVariants.{ForwardYes, ForwardNo, Slc}
-use Rattle.tn_codes.specs.declared.triples.Triple.{Triple}
-use Rattle.tn_nvt.specs.declared.items.Item.{Item}
-use Rattle.tn_nvt.specs.declared.items.Item.TheVariants.{Byte, Newline, Cmd, Neg, Sub}
-use Rattle.tn_decode.specs.Lines.{Part, run, single, part_lines, parts_of, lines_of, pieces_of, max_data}
-use Rattle.tn_decode.specs.Names.{verb_name, command_name, option_name, func_name, level_name}
-use Rattle.tn_decode.specs.Texts.{byte_text, data_text, name_or_number, bit_word, high_bits_word, mode_words}
-use Rattle.tn_decode.specs.Texts.{character_word, character_words, modifier_text, triple_text, triples_words, payload_words}
-use Rattle.tn_decode.specs.Texts.{parameters_words, item_text}
+use Rattle.tn_nvt.specs.declared.items.Item.{Item, TheVariants.{Byte, Newline, Cmd, Neg, Sub}}
+use Rattle.tn_decode.specs.{Lines.{Part, run, single, part_lines, parts_of, lines_of, pieces_of, max_data}, Names.{verb_name, command_name, option_name}}
+use Rattle.tn_decode.specs.{Names.{func_name, level_name}, Texts.{byte_text, data_text, name_or_number, bit_word, high_bits_word, mode_words, character_word}}
+use Rattle.tn_decode.specs.Texts.{character_words, modifier_text, triple_text, triples_words, payload_words, parameters_words, item_text}
 
 -- whether a byte is no line feed
 abbrev pub no_feed : ℕ → Bool

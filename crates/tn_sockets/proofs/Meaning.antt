@@ -5,12 +5,9 @@ use Rattle.std.specs.List.{All, cons_option}
 use Rattle.tn_codes.specs.declared.codes.Func.{Func}
 use Rattle.tn_codes.specs.declared.codes.Func.TheVariants as func
 use Rattle.tn_discipline.proofs.lemmas.Functions.{set_to, is_set}
-use Rattle.tn_discipline.specs.Characters.{AreAllowed, Characters, is_reserved, is_set_to, slot, standard_characters}
-use Rattle.tn_discipline.specs.Keys.{mapped_key, mapped_keys, role_by_signal, role_of_mapped, roles_of, standard_flags}
-use Rattle.tn_discipline.specs.declared.keys.Role.{Role}
-use Rattle.tn_discipline.specs.declared.keys.Role.TheVariants.{Eof, Erase, Kill, Nl, Ordinary, Signal}
-use Rattle.tn_discipline.specs.declared.reads.Sig.TheVariants.{Int, Quit, Tstp}
-use Rattle.tn_discipline.specs.declared.termios.Settings.{Settings}
+use Rattle.tn_discipline.specs.{Characters.{AreAllowed, Characters, is_reserved, is_set_to, slot, standard_characters}, declared.keys.Role.Role}
+use Rattle.tn_discipline.specs.{Keys.{mapped_key, mapped_keys, role_by_signal, role_of_mapped, roles_of, standard_flags}, declared.termios.Settings.Settings}
+use Rattle.tn_discipline.specs.declared.{keys.Role.TheVariants.{Eof, Erase, Kill, Nl, Ordinary, Signal}, reads.Sig.TheVariants.{Int, Quit, Tstp}}
 use Rattle.tn_sockets.specs.Mapping.{IsOfUser, characters_of, mapped, own_function, standard_for, standard_own}
 use Rattle.tn_sockets.specs.declared.own_characters.OwnCharacters.{OwnCharacters}
 

@@ -1,12 +1,9 @@
 -- Which keys bytes are that are taken one by one, up to where the user asks to leave.
-use Rattle.std.proofs.Common.{◌≡◌, ◌<◌, ◌+◌, ℕ, Bool, true, false, if◌then◌else◌, List, [], ◌∷◌, ◌++◌, length, take, drop, refl, sym, ap, ◌∙◌, append_assoc, append-nil, arith}
-use Rattle.std.proofs.Common.{Option, Some, None, option_map}
-use Rattle.std.proofs.Math.ListN.{get_or, set}
-use Rattle.std.specs.Io.KnownBytes.{Consumes, IsAtEnd, Keeps}
+use Rattle.std.proofs.Common.{◌≡◌, ◌<◌, ◌+◌, ℕ, Bool, true, false, if◌then◌else◌, List, [], ◌∷◌, ◌++◌, length, take, drop, refl, sym, ap, ◌∙◌, append_assoc}
+use Rattle.std.proofs.{Common.{append-nil, arith, Option, Some, None, option_map}, Math.ListN.{get_or, set}}
 use Rattle.std.proofs.lemmas.List.{drop_more, get_or-set_same, length-set, take-set-le, take_more}
-use Rattle.tn_sockets.specs.PlainKeys.{asks_to_leave, key_in, keys_left, keys_typed}
-use Rattle.tn_sockets.specs.Typing.{prompt_after, reading}
-use Rattle.tn_sockets.specs.declared.escaping.Escaping.{Escaping}
+use Rattle.std.specs.Io.KnownBytes.{Consumes, IsAtEnd, Keeps}
+use Rattle.tn_sockets.specs.{PlainKeys.{asks_to_leave, key_in, keys_left, keys_typed}, Typing.{prompt_after, reading}, declared.escaping.Escaping.Escaping}
 use Rattle.tn_sockets.specs.declared.escaping.Typed.{Typed}
 use Rattle.tn_sockets.specs.declared.escaping.Typed.TheVariants as typed
 

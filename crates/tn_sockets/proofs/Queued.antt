@@ -1,15 +1,11 @@
 -- The end of a queue, and what is sent of it.
 use Rattle.std.proofs.Common.{◌≡◌, ℕ, ◌≤◌, arith, length, take, Result, Ok, Err, OnOk, OnErr, Bool, true, false, not, List, [], ◌∷◌, ◌++◌, Option, Some, None}
 use Rattle.std.proofs.Common.{option_map, refl, sym, ap, ◌∙◌, subst, append_assoc, append-nil}
-use Rattle.std.specs.Global.{Vec}
-use Rattle.std.specs.Option.{is_some}
-use Rattle.std.specs.Io.KnownBytes.{Appends, Keeps}
-use Rattle.std.specs.Vec.{vec_items}
+use Rattle.std.specs.{Global.Vec, Option.is_some, Io.KnownBytes.{Appends, Keeps}, Vec.vec_items}
 use Rattle.tn_queue.specs.Queue.{more, put_more, taken_more}
 use Rattle.tn_streams.proofs.lemmas.Writing.{appends_more, appends_kept, appends_none, take_all}
-use Rattle.tn_sockets.specs.Passing.{Begins}
+use Rattle.tn_sockets.specs.{Passing.Begins, Queue.WritesToTheEnd}
 use Rattle.tn_sockets.specs.Queue.{Piece, Pieces, PieceHand, behind_end, bytes_of, count_behind, has_end, put_bytes, TakesOn, WritesTaken, WritesAllTaken}
-use Rattle.tn_sockets.specs.Queue.{WritesToTheEnd}
 
 pub there : {A : Type 0} (o : Option A) → (o ≡ None → ⊥) → (l : A) × (o ≡ Some l)
 there None known = absurd (known refl)

@@ -1,28 +1,18 @@
 -- Bytes that are taken one by one give what stands among them.
-use Rattle.std.proofs.Common.{◌≡◌, ◌<◌, ◌+◌, ◌==◌, ◌||◌, ℕ, Bool, true, false, if◌then◌else◌, IsFalse, IsTrue, codes, Option, None, Some, List, [], ◌∷◌, ◌++◌, length, map, take, refl, sym}
-use Rattle.std.proofs.Common.{ap, ◌∙◌, subst, append_assoc, append-nil, arith}
-use Rattle.std.proofs.Math.ListN.{get_or}
+use Rattle.std.proofs.Common.{◌≡◌, ◌<◌, ◌+◌, ◌==◌, ◌||◌, ℕ, Bool, true, false, if◌then◌else◌, IsFalse, IsTrue, codes, Option, None, Some, List, [], ◌∷◌, ◌++◌}
+use Rattle.std.proofs.{Common.{length, map, take, refl, sym, ap, ◌∙◌, subst, append_assoc, append-nil, arith}, Math.ListN.get_or}
 use Rattle.std.proofs.lemmas.List.{map-append, take_more}
 use Rattle.tn_discipline.specs.Characters.{is_reserved}
 use Rattle.tn_codes.specs.declared.codes.Func.{Func}
 use Rattle.tn_codes.specs.declared.codes.Func.TheVariants as func
-use Rattle.tn_sockets.specs.Mapping.{mapped, none_own, own_function, standard_for}
-use Rattle.tn_sockets.specs.Prompting.{closed, edit_of}
+use Rattle.tn_sockets.specs.{Mapping.{mapped, none_own, own_function, standard_for}, Prompting.{closed, edit_of}, Typing.unmapped, declared.prompt.Edit.Edit}
 use Rattle.tn_sockets.specs.Typing.{AreTaken, Obeys, command, command_in, commands, input_in, inputs, inputs_in, is_escape, is_one, mapped_input, of_bytes}
-use Rattle.tn_sockets.specs.Typing.{returned, returns_of, typed_as, prompt_after, prompt_behind, prompt_when, typed_after, typed_again, typed_by, typed_when, unmapped}
-use Rattle.tn_sockets.specs.declared.escaping.EscapeCommand.{EscapeCommand}
-use Rattle.tn_sockets.specs.declared.escaping.Escaping.{Escaping}
-use Rattle.tn_sockets.specs.declared.escaping.SessionInput.{SessionInput}
+use Rattle.tn_sockets.specs.Typing.{returned, returns_of, typed_as, prompt_after, prompt_behind, prompt_when, typed_after, typed_again, typed_by, typed_when}
+use Rattle.tn_sockets.specs.declared.escaping.{EscapeCommand.EscapeCommand, Escaping.Escaping, SessionInput.SessionInput, Keyboard.Keyboard, Typed.Typed}
+use Rattle.tn_sockets.specs.declared.{prompt.Edit.TheVariants.{Enter, Leave, Erase, Kill, Add, Skip, Refuse}, own_characters.OwnCharacters.OwnCharacters}
+use Rattle.tn_sockets.specs.declared.{prompt.Prompt.Prompt, returns.ReturnKey.{ReturnKey, TheVariants.{CrNul, CrLf, Lf}}}
 use Rattle.tn_sockets.specs.declared.escaping.SessionInput.TheVariants as input
-use Rattle.tn_sockets.specs.declared.escaping.Keyboard.{Keyboard}
-use Rattle.tn_sockets.specs.declared.escaping.Typed.{Typed}
 use Rattle.tn_sockets.specs.declared.escaping.Typed.TheVariants as typed
-use Rattle.tn_sockets.specs.declared.prompt.Edit.{Edit}
-use Rattle.tn_sockets.specs.declared.prompt.Edit.TheVariants.{Enter, Leave, Erase, Kill, Add, Skip, Refuse}
-use Rattle.tn_sockets.specs.declared.own_characters.OwnCharacters.{OwnCharacters}
-use Rattle.tn_sockets.specs.declared.prompt.Prompt.{Prompt}
-use Rattle.tn_sockets.specs.declared.returns.ReturnKey.{ReturnKey}
-use Rattle.tn_sockets.specs.declared.returns.ReturnKey.TheVariants.{CrNul, CrLf, Lf}
 use Rattle.tn_streams.specs.declared.control.Control.TheVariants.{Brk, Ip, Ayt, NewLine}
 
 -- where no character is the user's own, each byte stays

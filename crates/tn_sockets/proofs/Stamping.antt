@@ -1,17 +1,10 @@
 -- Text whose lines have a stamp: the lines of items, each behind the stamp.
-use Rattle.std.proofs.Common.{◌≡◌, ℕ, ◌==◌, Bool, true, false, Option, List, [], ◌∷◌, ◌++◌, flat_map}
-use Rattle.std.proofs.Common.{refl, sym, ap, subst, ◌∙◌, append_assoc, arith}
-use Rattle.std.specs.Io.KnownBytes.{Appends}
-use Rattle.std.specs.declared.time.Duration.{Duration}
-use Rattle.std.specs.Duration.{as_nanos}
+use Rattle.std.proofs.Common.{◌≡◌, ℕ, ◌==◌, Bool, true, false, Option, List, [], ◌∷◌, ◌++◌, flat_map, refl, sym, ap, subst, ◌∙◌, append_assoc, arith}
+use Rattle.std.specs.{Io.KnownBytes.Appends, declared.time.Duration.Duration, Duration.as_nanos}
 use Rattle.tn_nvt.specs.declared.items.Item.{Item}
-use Rattle.tn_decode.specs.Lines.{decoded, lines_of, whole_line}
-use Rattle.tn_decode.specs.Printing.{prefix_text}
-use Rattle.tn_decode.specs.declared.printer.Prefix.{Prefix}
-use Rattle.tn_decode.specs.declared.printer.Prefix.TheVariants.{Empty, Came, Gone}
+use Rattle.tn_decode.specs.{Lines.{decoded, lines_of, whole_line}, Printing.prefix_text, declared.printer.Prefix.{Prefix, TheVariants.{Empty, Came, Gone}}}
 use Rattle.tn_sockets.proofs.LineTexts.{AreLines, IsLine, both, first, lines_are_lines, no_feed, none, one_line, others, word}
-use Rattle.tn_sockets.specs.Traces.{Passes, Shows, stamped, time_text, timed_lines}
-use Rattle.tn_sockets.specs.declared.trace_lines.Side.{Side}
+use Rattle.tn_sockets.specs.{Traces.{Passes, Shows, stamped, time_text, timed_lines}, declared.trace_lines.Side.Side}
 
 not_feed : (b : ℕ) → no_feed b ≡ true → (b == 10) ≡ false
 not_feed b is = grind arith

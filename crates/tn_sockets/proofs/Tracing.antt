@@ -1,13 +1,10 @@
 -- What a trace shows of a piece, and text whose lines have a stamp.
 use Rattle.std.proofs.Common.{◌≡◌, ◌==◌, ℕ, ◌+◌, ◌≤◌, Bool, List, [], ◌∷◌, ◌++◌, map, drop, length, sym, ap, ◌∙◌, append-nil, append_assoc}
 use Rattle.std.proofs.lemmas.List.{drop_all}
-use Rattle.tn_nvt.specs.declared.items.Item.TheVariants.{Byte}
-use Rattle.tn_nvt.specs.Sinks.{FeedsTo, all_of, calls_of}
+use Rattle.tn_nvt.specs.{declared.items.Item.TheVariants.Byte, Sinks.{FeedsTo, all_of, calls_of}}
 use Rattle.tn_decode.proofs.lemmas.Taking.{taken_by_all, taken_whole}
-use Rattle.tn_decode.specs.Lines.{decoded}
-use Rattle.tn_decode.specs.Printing.{Printing, Takes, EndsData, prefix_text}
-use Rattle.tn_sockets.specs.Traces.{HoldsNothing, Shows, stamp_where, timed_lines}
-use Rattle.tn_sockets.specs.declared.trace_lines.Side.{Side}
+use Rattle.tn_decode.specs.{Lines.decoded, Printing.{Printing, Takes, EndsData, prefix_text}}
+use Rattle.tn_sockets.specs.{Traces.{HoldsNothing, Shows, stamp_where, timed_lines}, declared.trace_lines.Side.Side}
 
 pub shows : (old new : Side) (piece text : List ℕ) (taken ended : Printing) → HoldsNothing old
     → FeedsTo Takes old.decoder piece old.lines taken new.decoder → EndsData taken ended → text ≡ ended.text

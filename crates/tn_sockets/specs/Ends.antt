@@ -1,10 +1,8 @@
 -- Both ends of a queue: as they begin, and once they are joined.
 use Rattle.std.specs.Prelude.{◌≡◌, None, Some, []}
-use Rattle.crossbeam_channel.specs.Claims.{view, IsSeatAt}
-use Rattle.crossbeam_channel.specs.Ends.{sends_on, receives_on}
+use Rattle.crossbeam_channel.specs.{Claims.{view, IsSeatAt}, Ends.{sends_on, receives_on}}
 use Rattle.tn_queue.specs.Queue.{LeftOver, joined_hands, putter, taker}
-use Rattle.tn_sockets.specs.Queue.{PieceHand, Pieces, count_behind}
-use Rattle.tn_sockets.specs.declared.outgoing.NewQueue.{NewQueue}
+use Rattle.tn_sockets.specs.{Queue.{PieceHand, Pieces, count_behind}, declared.outgoing.NewQueue.NewQueue}
 
 pub record IsNew (queue : NewQueue) : Type 0 where
   pub one : receives_on queue.from ≡ sends_on queue.to

@@ -1,8 +1,7 @@
 -- What the peer of a server's connection is told at its end: why that came, if it was neither the peer's own
 -- wish nor a job's.
 use Rattle.std.specs.Prelude.{ℕ, Option, Some, None, List, [], ◌∷◌, codes}
-use Rattle.tn_sockets.specs.declared.attended.Why.{Why}
-use Rattle.tn_sockets.specs.declared.attended.Why.TheVariants.{Closing, Idle, TooLong}
+use Rattle.tn_sockets.specs.declared.attended.Why.{Why, TheVariants.{Closing, Idle, TooLong}}
 
 abbrev pub line_of : Option Why → List ℕ
 line_of None = []

@@ -3,9 +3,8 @@
 use Rattle.std.specs.Prelude.{◌≡◌, ℕ, Option, Some, None, if◌then◌else◌, unwrap_or}
 use Rattle.tn_codes.specs.declared.codes.Func.{Func}
 use Rattle.tn_codes.specs.declared.codes.Func.TheVariants as func
-use Rattle.tn_discipline.specs.Canon.{Canon}
+use Rattle.tn_discipline.specs.{Canon.Canon, Keys.standard_flags}
 use Rattle.tn_discipline.specs.Characters.{Characters, is_reserved, is_set_to, slot, standard_characters}
-use Rattle.tn_discipline.specs.Keys.{standard_flags}
 use Rattle.tn_sockets.specs.declared.own_characters.OwnCharacters.{OwnCharacters}
 
 -- no character is the user's own

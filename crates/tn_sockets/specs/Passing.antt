@@ -1,13 +1,10 @@
 -- What passes through: a write that fails on the way, and what a reader hands on.
 use Rattle.std.specs.Prelude.{◌≡◌, ◌≢◌, ℕ, List, [], ◌++◌, map, take, Option, option_to_list, Result, Ok, Err}
-use Rattle.std.specs.Prelude.{IfOk, MatchResult}
-use Rattle.std.specs.Io.KnownBytes.{Appends, Consumes, Keeps}
-use Rattle.tn_sockets.specs.Typing.{IsTakenUpTo, inputs, prompt_behind}
-use Rattle.tn_sockets.specs.declared.escaping.Escaping.{Escaping}
+use Rattle.std.specs.{Prelude.{IfOk, MatchResult}, Io.KnownBytes.{Appends, Consumes, Keeps}}
+use Rattle.tn_sockets.specs.{Typing.{IsTakenUpTo, inputs, prompt_behind}, declared.escaping.Escaping.Escaping}
 use Rattle.tn_sockets.specs.declared.escaping.SessionInput.{SessionInput}
 use Rattle.tn_sockets.specs.declared.escaping.SessionInput.TheVariants as input
-use Rattle.tn_streams.specs.declared.control.Control.{Control}
-use Rattle.tn_streams.specs.Prefixes.{IsPrefixOf}
+use Rattle.tn_streams.specs.{declared.control.Control.Control, Prefixes.IsPrefixOf}
 
 -- the first of the bytes were written
 abbrev pub Begins : Option (List ℕ) → Option (List ℕ) → List ℕ → Type 0

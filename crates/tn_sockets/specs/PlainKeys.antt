@@ -1,13 +1,9 @@
 -- Which keys a user types to a service without Telnet, up to where he asks to leave.
 use Rattle.std.specs.Prelude.{ℕ, Bool, true, false, List, [], ◌∷◌, ◌++◌, if◌then◌else◌}
-use Rattle.tn_sockets.specs.Typing.{prompt_after, typed_after}
-use Rattle.tn_sockets.specs.declared.escaping.EscapeCommand.{EscapeCommand}
-use Rattle.tn_sockets.specs.declared.escaping.EscapeCommand.TheVariants.{Close}
-use Rattle.tn_sockets.specs.declared.escaping.Escaping.{Escaping}
-use Rattle.tn_sockets.specs.declared.escaping.Keyboard.{Keyboard}
-use Rattle.tn_sockets.specs.declared.escaping.Typed.{Typed}
+use Rattle.tn_sockets.specs.{Typing.{prompt_after, typed_after}, declared.escaping.Escaping.Escaping}
+use Rattle.tn_sockets.specs.declared.escaping.{EscapeCommand.{EscapeCommand, TheVariants.Close}, Typed.Typed}
+use Rattle.tn_sockets.specs.declared.{escaping.Keyboard.Keyboard, prompt.Prompt.Prompt}
 use Rattle.tn_sockets.specs.declared.escaping.Typed.TheVariants as typed
-use Rattle.tn_sockets.specs.declared.prompt.Prompt.{Prompt}
 
 -- the key that a byte is, if it is one; a control function is none, and goes to no service
 abbrev pub key_in : Typed → List ℕ
@@ -15,7 +11,7 @@ key_in (typed.Key key) = key ∷ []
 key_in _ = []
 
 abbrev pub is_close : EscapeCommand → Bool
-is_close Close = true
+is_close (Close next) = true
 is_close _ = false
 
 -- it asks to leave

@@ -1,11 +1,9 @@
 -- What of a client's stream is typed: data, and the commands that stand for keys at the terminal (RFC 854,
 -- RFC 1184, section 2).
-use Rattle.std.specs.Prelude.{◌≡◌, ℕ, Bool, true, false, ◌||◌, List, ◌∷◌, ◌++◌, ◌⊎◌}
-use Rattle.std.specs.List.{list_any}
+use Rattle.std.specs.{Prelude.{◌≡◌, ℕ, Bool, true, false, ◌||◌, List, ◌∷◌, ◌++◌, ◌⊎◌}, List.list_any}
 use Rattle.tn_codes.specs.declared.codes.Command.{Command}
 use Rattle.tn_codes.specs.declared.codes.Command.TheVariants as command
-use Rattle.tn_nvt.specs.declared.items.Item.{Item}
-use Rattle.tn_nvt.specs.declared.items.Item.TheVariants.{Byte, Newline, Cmd, Neg, Sub}
+use Rattle.tn_nvt.specs.declared.items.Item.{Item, TheVariants.{Byte, Newline, Cmd, Neg, Sub}}
 use Rattle.tn_nvt.specs.Feeding.{DecoderState, failed, Advances, KeepsParameter}
 use Rattle.tn_sockets.specs.declared.presence.Seen.{Seen}
 

@@ -1,15 +1,10 @@
 -- The line that a user types to the client itself, behind the escape character: how it is edited.
-use Rattle.std.specs.Prelude.{ℕ, nat_le, ◌==◌, ◌||◌, ◌&&◌, ◌+◌, ◌-◌, true, false, not, List, [], ◌∷◌, ◌++◌, length}
-use Rattle.std.specs.Prelude.{Option, Some, None, codes, take, if◌then◌else◌}
-use Rattle.std.specs.Str.{bytes_eq}
-use Rattle.tn_sockets.specs.Mapping.{mapped}
-use Rattle.tn_sockets.specs.declared.own_characters.OwnCharacters.{OwnCharacters}
-use Rattle.tn_sockets.specs.declared.prompt.Edit.{Edit}
+use Rattle.std.specs.Prelude.{ℕ, nat_le, ◌==◌, ◌||◌, ◌&&◌, ◌+◌, ◌-◌, true, false, not, List, [], ◌∷◌, ◌++◌}
+use Rattle.std.specs.{Prelude.{length, Option, Some, None, codes, take, if◌then◌else◌}, Str.bytes_eq}
+use Rattle.tn_sockets.specs.{Mapping.mapped, declared.prompt.{Edit.Edit, Prompt.Prompt}}
+use Rattle.tn_sockets.specs.declared.{own_characters.OwnCharacters.OwnCharacters, prompt.Sequence.Sequence}
 use Rattle.tn_sockets.specs.declared.prompt.Edit.TheVariants.{Enter, Leave, Erase, Kill, Add, Skip, Refuse}
-use Rattle.tn_sockets.specs.declared.prompt.Prompt.{Prompt}
-use Rattle.tn_sockets.specs.declared.returns.ReturnKey.{ReturnKey}
-use Rattle.tn_sockets.specs.declared.returns.ReturnKey.TheVariants.{CrNul, CrLf, Lf}
-use Rattle.tn_sockets.specs.declared.prompt.Sequence.{Sequence}
+use Rattle.tn_sockets.specs.declared.returns.ReturnKey.{ReturnKey, TheVariants.{CrNul, CrLf, Lf}}
 use Rattle.tn_sockets.specs.declared.prompt.Sequence.TheVariants as sequence
 
 -- no line is typed, and one begins

@@ -1,15 +1,9 @@
 -- The queue of what waits to be sent. Its rule is that of `tn_queue`: what was taken, and then what it holds,
 -- is what was put.
 use Rattle.std.specs.Prelude.{◌≡◌, ℕ, Bool, true, false, List, Option, Some, None, option_map, [], ◌∷◌, ◌++◌}
-use Rattle.std.specs.Prelude.{length}
-use Rattle.std.specs.Global.{Vec}
-use Rattle.std.specs.Io.KnownBytes.{Appends}
-use Rattle.std.specs.Vec.{vec_items}
-use Rattle.atomic_table.specs.Seated.{TableId}
-use Rattle.atomic_table.specs.declared.badge.Badge.{Badge}
-use Rattle.crossbeam_channel.specs.Claims.{Pass, no_key}
-use Rattle.crossbeam_channel.specs.declared.flavors.array.Key.{Key}
-use Rattle.crossbeam_channel.specs.declared.flavors.array.Rows.{Rows}
+use Rattle.std.specs.{Prelude.length, Global.Vec, Io.KnownBytes.Appends, Vec.vec_items}
+use Rattle.atomic_table.specs.{Seated.TableId, declared.badge.Badge.Badge}
+use Rattle.crossbeam_channel.specs.{Claims.{Pass, no_key}, declared.flavors.array.{Key.Key, Rows.Rows}}
 use Rattle.tn_queue.specs.declared.Hand.{Hand}
 use Rattle.tn_streams.specs.Prefixes.{IsPrefixOf}
 

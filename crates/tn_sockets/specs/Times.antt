@@ -1,8 +1,6 @@
 -- The time that a line of notes or of a log begins with (RFC 3339, 5.6): in UTC, to the millisecond.
 use Rattle.std.specs.Prelude.{◌≡◌, ℕ, ◌+◌, ◌/◌, ◌%◌, ◌<◌, ◌≤◌, ◌⊎◌, List, [], ◌∷◌, ◌++◌, codes, bytes_eq, if◌then◌else◌}
-use Rattle.httpdate.specs.declared.parts.Parts.{Parts}
-use Rattle.httpdate.specs.declared.date.HttpDate.{HttpDate}
-use Rattle.httpdate.specs.Date.{unix_secs}
+use Rattle.httpdate.specs.{declared.{parts.Parts.Parts, date.HttpDate.HttpDate}, Date.unix_secs}
 use Rattle.httpdate.specs.Text.{two_digits, four_digits, time_of_day}
 
 abbrev pub last_digit : ℕ → ℕ

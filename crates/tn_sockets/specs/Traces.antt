@@ -1,13 +1,9 @@
 -- What a trace has of a piece that passes: a line for each item, each behind the seconds since the beginning.
-use Rattle.std.specs.Prelude.{◌≡◌, ◌==◌, ℕ, ◌+◌, ◌/◌, ◌%◌, Bool, true, false, Option, List, [], ◌∷◌, ◌++◌, codes, decimal}
-use Rattle.std.specs.Io.KnownBytes.{Appends}
-use Rattle.std.specs.List.{flat_map}
+use Rattle.std.specs.Prelude.{◌≡◌, ◌==◌, ℕ, ◌+◌, ◌/◌, ◌%◌, Bool, true, false, Option, List, [], ◌∷◌, ◌++◌}
+use Rattle.std.specs.{Prelude.{codes, decimal}, Io.KnownBytes.Appends, List.flat_map, Duration.as_nanos}
 use Rattle.std.specs.declared.time.Duration.{Duration}
-use Rattle.std.specs.Duration.{as_nanos}
-use Rattle.tn_nvt.specs.declared.items.Item.{Item}
-use Rattle.tn_nvt.specs.Feeding.{Advances}
-use Rattle.tn_decode.specs.Lines.{decoded, lines_of, whole_line}
-use Rattle.tn_decode.specs.Printing.{prefix_text}
+use Rattle.tn_nvt.specs.{declared.items.Item.Item, Feeding.Advances}
+use Rattle.tn_decode.specs.{Lines.{decoded, lines_of, whole_line}, Printing.prefix_text}
 use Rattle.tn_sockets.specs.declared.trace_lines.Side.{Side}
 
 abbrev pub last_digit : ℕ → ℕ

@@ -1,27 +1,18 @@
 -- What is typed at a terminal. Behind an escape character a line is typed to the client itself, which is a
 -- command, or asks the session for a control function.
-use Rattle.std.specs.Prelude.{◌≡◌, ◌≤◌, ◌⊎◌, ◌==◌, ◌||◌, ℕ, nat_eq, Bool, true, false, Option, None, Some, List}
-use Rattle.std.specs.Prelude.{[], ◌∷◌, ◌++◌, codes, is_some, length, take, unwrap_or, if◌then◌else◌}
-use Rattle.std.specs.List.{starts_with}
-use Rattle.std.specs.Str.{bytes_eq}
-use Rattle.tn_sockets.specs.declared.escaping.EscapeCommand.{EscapeCommand}
-use Rattle.tn_sockets.specs.declared.escaping.EscapeCommand.TheVariants.{Close, Help, Status, Suspend}
-use Rattle.tn_sockets.specs.declared.escaping.EscapeCommand.TheVariants.{LogOff, LogTo, Return, Unknown}
-use Rattle.tn_sockets.specs.declared.escaping.Next.{Next}
-use Rattle.tn_sockets.specs.declared.escaping.Next.TheVariants.{Leaves, Returns}
-use Rattle.tn_sockets.specs.Mapping.{mapped, none_own}
+use Rattle.std.specs.Prelude.{◌≡◌, ◌≤◌, ◌⊎◌, ◌==◌, ◌||◌, ℕ, nat_eq, Bool, true, false, Option, None, Some}
+use Rattle.std.specs.Prelude.{List, [], ◌∷◌, ◌++◌, codes, is_some, length, take, unwrap_or, if◌then◌else◌}
+use Rattle.std.specs.{List.starts_with, Str.bytes_eq}
+use Rattle.tn_sockets.specs.declared.escaping.{EscapeCommand.EscapeCommand, Next.Next, Escaping.Escaping}
+use Rattle.tn_sockets.specs.declared.escaping.EscapeCommand.TheVariants.{Close, Help, Status, Suspend, LogOff}
+use Rattle.tn_sockets.specs.declared.escaping.EscapeCommand.TheVariants.{LogTo, Return, Unknown}
+use Rattle.tn_sockets.specs.{declared.escaping.Next.TheVariants.{Leaves, Returns}, Mapping.{mapped, none_own}}
 use Rattle.tn_sockets.specs.Prompting.{after_edit, after_escape, edit_of, opened, return_in}
-use Rattle.tn_sockets.specs.declared.escaping.Escaping.{Escaping}
-use Rattle.tn_sockets.specs.declared.escaping.SessionInput.{SessionInput}
+use Rattle.tn_sockets.specs.declared.escaping.{SessionInput.SessionInput, Keyboard.Keyboard, Typed.Typed}
+use Rattle.tn_sockets.specs.declared.returns.ReturnKey.{ReturnKey, TheVariants.{CrNul, CrLf, Lf}}
+use Rattle.tn_sockets.specs.declared.prompt.{Edit.{Edit, TheVariants.Enter}, Prompt.Prompt}
 use Rattle.tn_sockets.specs.declared.escaping.SessionInput.TheVariants as input
-use Rattle.tn_sockets.specs.declared.escaping.Keyboard.{Keyboard}
-use Rattle.tn_sockets.specs.declared.returns.ReturnKey.{ReturnKey}
-use Rattle.tn_sockets.specs.declared.returns.ReturnKey.TheVariants.{CrNul, CrLf, Lf}
-use Rattle.tn_sockets.specs.declared.escaping.Typed.{Typed}
 use Rattle.tn_sockets.specs.declared.escaping.Typed.TheVariants as typed
-use Rattle.tn_sockets.specs.declared.prompt.Edit.{Edit}
-use Rattle.tn_sockets.specs.declared.prompt.Edit.TheVariants.{Enter}
-use Rattle.tn_sockets.specs.declared.prompt.Prompt.{Prompt}
 use Rattle.tn_streams.specs.declared.control.Control.TheVariants.{Brk, Ip, Ayt, NewLine}
 
 -- every byte is a key, and stands for itself

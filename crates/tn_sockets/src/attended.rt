@@ -1,12 +1,9 @@
 //! What a client sends, how long a server bears its silence, and for how long it serves it.
 
-ghost use Rattle.std.specs.Prelude.{◌≡◌, ◌≤◌, ◌≢◌, length, take, IfOk, IfSome, None, Some};
-ghost use Rattle.std.specs.Io.{ReadsAtMost};
+ghost use Rattle.std.specs.{Prelude.{◌≡◌, ◌≤◌, ◌≢◌, length, take, IfOk, IfSome, None, Some}, Io.ReadsAtMost};
 ghost use Rattle.std.specs.Io.KnownBytes.{Consumes, Keeps, ReadConsumes};
-ghost use Rattle.tn_sockets.specs.LastWords.{last_lines, line_of};
-ghost use Rattle.tn_sockets.specs.Passing.{GivesNext};
-ghost use Rattle.tn_streams.specs.Beside.{IsOneOf};
-ghost use Rattle.tn_streams.specs.Foretelling.{ForetellsCall};
+ghost use Rattle.tn_sockets.specs.{LastWords.{last_lines, line_of}, Passing.GivesNext};
+ghost use Rattle.tn_streams.specs.{Beside.IsOneOf, Foretelling.ForetellsCall};
 ghost use Rattle.tn_streams.specs.Telling.{CountsRead, TellsCall};
 
 use crate::bell::{Bell, has_peer_ended, is_broken};

@@ -1,15 +1,11 @@
 //! Standard input as keys: it is waited for, so that a session ends though nobody types, and at a terminal
 //! the user speaks to the client itself behind an escape character.
 
-ghost use Rattle.std.specs.Prelude.{◌≡◌, ◌≢◌, ◌≤◌, ◌+◌, ◌++◌, ℕ, [], None, length, take};
-ghost use Rattle.std.specs.Io.{ReadsAtMost};
-ghost use Rattle.std.specs.Io.KnownBytes.{ReadConsumes};
-ghost use Rattle.std.specs.VecDeque.{deque_capacity, deque_len};
-ghost use Rattle.tn_sockets.specs.Prompting.{closed};
-ghost use Rattle.tn_sockets.specs.Typing.{IsTakenUpTo, inputs, prompt_behind};
+ghost use Rattle.std.specs.{Prelude.{◌≡◌, ◌≢◌, ◌≤◌, ◌+◌, ◌++◌, ℕ, [], None, length, take}, Io.ReadsAtMost};
+ghost use Rattle.std.specs.{Io.KnownBytes.ReadConsumes, VecDeque.{deque_capacity, deque_len}};
+ghost use Rattle.tn_sockets.specs.{Prompting.closed, Typing.{IsTakenUpTo, inputs, prompt_behind}};
 ghost use Rattle.tn_sockets.specs.Passing.{GivesInputs, given_of, handed_on};
-ghost use Rattle.tn_streams.specs.Foretelling.{ForetellsCall};
-ghost use Rattle.tn_streams.specs.Telling.{CountsRead, TellsCall};
+ghost use Rattle.tn_streams.specs.{Foretelling.ForetellsCall, Telling.{CountsRead, TellsCall}};
 
 use crate::client_files::ClientFiles;
 use crate::deeds::{About, Deeds};

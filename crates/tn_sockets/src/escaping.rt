@@ -2,10 +2,9 @@
 
 ghost use Rattle.std.specs.Prelude.{◌≡◌, ◌≤◌, ◌+◌, ◌++◌, List, Option, None, [], ◌∷◌, length, take};
 ghost use Rattle.std.specs.VecDeque.{deque_capacity, deque_len};
-ghost use Rattle.tn_sockets.specs.Prompting.{closed, edit_of};
-ghost use Rattle.tn_sockets.specs.Typing.{IsTakenUpTo, Obeys, command, commands, inputs, is_escape, is_one, meant};
-ghost use Rattle.tn_sockets.specs.Typing.{returned, returns_of, typed_as};
-ghost use Rattle.tn_sockets.specs.Typing.{of_bytes, prompt_after, prompt_behind, reading, typed_again};
+ghost use Rattle.tn_sockets.specs.{Prompting.{closed, edit_of}, Typing.{prompt_behind, reading, typed_again}};
+ghost use Rattle.tn_sockets.specs.Typing.{IsTakenUpTo, Obeys, command, commands, inputs, is_escape, is_one};
+ghost use Rattle.tn_sockets.specs.Typing.{meant, returned, returns_of, typed_as, of_bytes, prompt_after};
 
 use crate::own_characters::OwnCharacters;
 use crate::prompt::{Edit, Prompt, edit_of};

@@ -1,8 +1,6 @@
 //! What a client's connection brings.
 
-ghost use Rattle.std.specs.Prelude.{◌≡◌, None};
-ghost use Rattle.std.specs.Io.{ReadsAtMost};
-ghost use Rattle.std.specs.Io.KnownBytes.{ReadConsumes};
+ghost use Rattle.std.specs.{Prelude.{◌≡◌, None}, Io.{ReadsAtMost, KnownBytes.ReadConsumes}};
 ghost use Rattle.tn_sockets.specs.Passing.{HandsOn};
 
 use crate::link::Link;

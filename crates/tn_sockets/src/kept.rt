@@ -1,11 +1,9 @@
 //! What was typed and is still to be given to a session: a queue of keys, with the control functions that are
 //! asked for between them.
 
-ghost use Rattle.std.specs.Prelude.{◌≡◌, ◌≤◌, ◌<◌, ◌+◌, ◌++◌, IsTrue, None, length, map, option_to_list, take};
-ghost use Rattle.std.specs.List.{count_by};
-ghost use Rattle.std.specs.VecDeque.{deque_capacity, deque_len};
-ghost use Rattle.tn_sockets.specs.Kept.{control_at_front, key_at_front};
-ghost use Rattle.tn_sockets.specs.Typing.{is_key};
+ghost use Rattle.std.specs.Prelude.{◌≡◌, ◌≤◌, ◌<◌, ◌+◌, ◌++◌, IsTrue, None, length, map, option_to_list};
+ghost use Rattle.std.specs.{Prelude.take, List.count_by, VecDeque.{deque_capacity, deque_len}};
+ghost use Rattle.tn_sockets.specs.{Kept.{control_at_front, key_at_front}, Typing.is_key};
 ghost use Rattle.tn_sockets.specs.declared.escaping.SessionInput.TheVariants as input;
 
 use crate::escaping::SessionInput;

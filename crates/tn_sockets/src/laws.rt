@@ -1,23 +1,18 @@
 //! Laws of what is typed, over the definitions alone.
 
 ghost use Rattle.std.specs.Prelude.{◌≡◌, ◌==◌, ℕ, None, Option, Some, List, [], ◌∷◌, ◌++◌, IsFalse, IsTrue, map};
-ghost use Rattle.tn_codes.specs.declared.codes.Func.{Func};
 ghost use Rattle.std.specs.List.{All};
+ghost use Rattle.tn_codes.specs.declared.codes.Func.{Func};
 ghost use Rattle.tn_discipline.specs.Canon.{typed_entries};
 ghost use Rattle.tn_discipline.specs.Characters.{AreAllowed, is_reserved, slot, standard_characters};
 ghost use Rattle.tn_sockets.specs.Mapping.{IsOfUser, characters_of, mapped, own_function, standard_own};
-ghost use Rattle.tn_sockets.specs.Mapping.{terminal_with};
-ghost use Rattle.tn_sockets.specs.Prompting.{closed};
+ghost use Rattle.tn_sockets.specs.{Mapping.terminal_with, Prompting.closed, declared.escaping.Typed.Typed};
 ghost use Rattle.tn_sockets.specs.Typing.{AreTaken, commands, inputs, inputs_in, is_escape, mapped_input};
-ghost use Rattle.tn_sockets.specs.Typing.{of_bytes, typed_after, unmapped};
-ghost use Rattle.tn_sockets.specs.declared.escaping.Escaping.{Escaping};
-ghost use Rattle.tn_sockets.specs.declared.escaping.SessionInput.TheVariants.{Key};
-ghost use Rattle.tn_sockets.specs.declared.escaping.Keyboard.{Keyboard};
-ghost use Rattle.tn_sockets.specs.declared.escaping.Typed.{Typed};
-ghost use Rattle.tn_sockets.specs.declared.escaping.Typed.TheVariants as typed;
+ghost use Rattle.tn_sockets.specs.{Typing.{of_bytes, typed_after, unmapped}, declared.prompt.Prompt.Prompt};
+ghost use Rattle.tn_sockets.specs.declared.escaping.{Escaping.Escaping, SessionInput.TheVariants.Key};
+ghost use Rattle.tn_sockets.specs.declared.{escaping.Keyboard.Keyboard, returns.ReturnKey.ReturnKey};
 ghost use Rattle.tn_sockets.specs.declared.own_characters.OwnCharacters.{OwnCharacters};
-ghost use Rattle.tn_sockets.specs.declared.prompt.Prompt.{Prompt};
-ghost use Rattle.tn_sockets.specs.declared.returns.ReturnKey.{ReturnKey};
+ghost use Rattle.tn_sockets.specs.declared.escaping.Typed.TheVariants as typed;
 
 /// Where there is no escape character and no character of the user's own, every byte is a key.
 pub fn every_byte_is_a_key()

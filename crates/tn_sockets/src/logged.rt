@@ -1,8 +1,6 @@
 //! A writer with a log of what it took.
 
-ghost use Rattle.std.specs.Prelude.{◌≡◌, [], Some};
-ghost use Rattle.std.specs.Io.{WritesAtMost};
-ghost use Rattle.std.specs.Io.KnownBytes.{Keeps, WriteAppends};
+ghost use Rattle.std.specs.{Prelude.{◌≡◌, [], Some}, Io.{WritesAtMost, KnownBytes.{Keeps, WriteAppends}}};
 ghost use Rattle.tn_sockets.specs.Logs.{logged};
 ghost use Rattle.tn_streams.specs.Sending.{finished_on, written_on};
 

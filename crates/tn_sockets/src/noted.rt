@@ -1,7 +1,6 @@
 //! A direction of a connection without Telnet, whose bytes are counted and traced.
 
-ghost use Rattle.std.specs.Prelude.{◌≡◌};
-ghost use Rattle.std.specs.Io.{ReadsAtMost, WritesAtMost};
+ghost use Rattle.std.specs.{Prelude.◌≡◌, Io.{ReadsAtMost, WritesAtMost}};
 ghost use Rattle.std.specs.Io.KnownBytes.{Keeps, ReadConsumes, WriteAppends};
 ghost use Rattle.tn_streams.specs.Sending.{finished_on, written_on};
 

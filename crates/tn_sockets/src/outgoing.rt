@@ -1,8 +1,7 @@
 //! What a client sends goes out in a thread of its own, so that it reads on while the server does not.
 
 ghost use Rattle.std.specs.Prelude.{◌≡◌, IfOk, None, OnErr, OnOk, Some, false, IsFalse, option_map, []};
-ghost use Rattle.crossbeam_channel.specs.Claims.{view, IsSeatAt};
-ghost use Rattle.crossbeam_channel.specs.Ends.{sends_on};
+ghost use Rattle.crossbeam_channel.specs.{Claims.{view, IsSeatAt}, Ends.sends_on};
 ghost use Rattle.tn_queue.specs.Queue.{put_more, putter, taker};
 ghost use Rattle.tn_sockets.specs.Ends.{IsNew, IsSettled};
 ghost use Rattle.tn_sockets.specs.Queue.{IsNamed, IsSeatIn, count_behind, has_end, put_bytes};

@@ -1,8 +1,7 @@
 //! The keys that a user without Telnet types, who speaks to the client itself behind an escape character.
 
 ghost use Rattle.std.specs.Prelude.{◌≡◌, ◌≤◌, ◌++◌, IsFalse, List, ℕ, false, length, option_map, take};
-ghost use Rattle.tn_sockets.specs.PlainKeys.{asks_to_leave, keys_left};
-ghost use Rattle.tn_sockets.specs.Prompting.{closed};
+ghost use Rattle.tn_sockets.specs.{PlainKeys.{asks_to_leave, keys_left}, Prompting.closed};
 
 use crate::client_files::ClientFiles;
 use crate::deeds::{About, Deeds};
@@ -54,8 +53,8 @@ impl<'a, H: ClientFiles + Copy + Wait, K> PlainKeys<'a, H, K> {
         }
     }
 
-    // Writes the keys that these bytes are to the front of a buffer, and does what the others ask for. Returns
-    // how many keys there are. What stands behind a command to leave is not taken.
+    // Writes the keys that these bytes are to the front of a buffer, and does what the others ask for.
+    // Returns how many keys there are. What follows a command to leave is not taken.
     fn sort(&mut self, bytes: &[u8], buf: &mut [u8]) -> usize
         requires stays { IsFalse self.old.has_left }
         requires fits { length bytes.now ≤ length buf.old }
@@ -81,7 +80,8 @@ impl<'a, H: ClientFiles + Copy + Wait, K> PlainKeys<'a, H, K> {
     }
 }
 
-// The same, with who does what is asked for. Returns too whether the user leaves.
+// Writes the keys to the front of a buffer, with who does what the others ask for. Returns how many keys
+// there are, and whether the user leaves.
 fn keys_of<H: ClientFiles + Wait>(
     escaping: &mut Escaping,
     bytes: &[u8],
@@ -99,7 +99,7 @@ fn keys_of<H: ClientFiles + Wait>(
         deeds.echo(escaping.echo(bytes[place]));
         let typed = escaping.take(bytes[place]);
         if asks_to_leave(typed) {
-            deeds.obey(EscapeCommand::Close, &[]);
+            deeds.obey_alone(typed);
             return (count, true);
         }
         match typed {
@@ -118,7 +118,7 @@ fn keys_of<H: ClientFiles + Wait>(
 fn asks_to_leave(typed: Typed) -> bool
     ensures { result ≡ asks_to_leave typed }
 {
-    matches!(typed, Typed::Command(EscapeCommand::Close))
+    matches!(typed, Typed::Command(EscapeCommand::Close(_)))
 }
 
 impl<'a, H: ClientFiles + Copy + Wait, K: Read> Read for PlainKeys<'a, H, K> {

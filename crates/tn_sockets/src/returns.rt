@@ -1,7 +1,6 @@
 //! What the key RETURN sends.
 
-ghost use Rattle.std.specs.Prelude.{◌≡◌};
-ghost use Rattle.std.specs.Str.{bytes_eq};
+ghost use Rattle.std.specs.{Prelude.◌≡◌, Str.bytes_eq};
 ghost use Rattle.tn_sockets.specs.Prompting.{return_in};
 
 /// What the key RETURN sends if keys go one at a time (RFC 1123, section 3.3.1).

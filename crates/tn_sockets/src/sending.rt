@@ -2,12 +2,10 @@
 
 ghost use Rattle.std.specs.Prelude.{◌≡◌, ◌≢◌, ℕ, List, None, IfOk, IfSome, OnOk, OnErr, true};
 ghost use Rattle.std.specs.Io.KnownBytes.{Appends};
-ghost use Rattle.crossbeam_channel.specs.Claims.{view, IsSeatAt};
-ghost use Rattle.crossbeam_channel.specs.Ends.{receives_on};
+ghost use Rattle.crossbeam_channel.specs.{Claims.{view, IsSeatAt}, Ends.receives_on};
 ghost use Rattle.tn_queue.specs.Queue.{taken_more};
 ghost use Rattle.tn_sockets.specs.Queue.{Piece as PieceT, IsNamed, IsSeatIn, TakesOn, WritesTaken};
-ghost use Rattle.tn_sockets.specs.Queue.{WritesToTheEnd};
-ghost use Rattle.tn_sockets.specs.Passing.{Begins};
+ghost use Rattle.tn_sockets.specs.{Queue.WritesToTheEnd, Passing.Begins};
 ghost use Rattle.tn_streams.specs.Sending.{IsFinished, StaysOpen};
 
 use crate::link::Link;

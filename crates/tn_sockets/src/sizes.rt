@@ -1,7 +1,6 @@
 //! The sizes of the window, as whoever set the terminal tells them.
 
-ghost use Rattle.std.specs.Prelude.{◌≡◌, IfOk, IfSome, List, Some, ℕ};
-ghost use Rattle.std.specs.Io.KnownBytes.{Consumes};
+ghost use Rattle.std.specs.{Prelude.{◌≡◌, IfOk, IfSome, List, Some, ℕ}, Io.KnownBytes.Consumes};
 ghost use Rattle.tn_sockets.specs.Sizes.{IsTold, number_of, with_digit};
 
 use std::fs::File;

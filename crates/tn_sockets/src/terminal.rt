@@ -17,7 +17,8 @@ const BELL: &[u8] = b"\x07";
 /// The line that asks whoever set the terminal to stop the program: SUB and a line feed.
 const STOPS: &[u8] = b"\x1a\n";
 
-/// The lines that say that the user leaves, and that the program is to be started again: CAN or EM, and a line feed.
+/// The lines that say that the user leaves, and that the program is to be started again: CAN or EM, and a
+/// line feed.
 const LEAVES: &[u8] = b"\x18\n";
 
 const RETURNS: &[u8] = b"\x19\n";
@@ -64,8 +65,8 @@ impl Terminal {
         }
     }
 
-    /// Says what becomes of the user once the connection is closed. False if the user wants to connect again, and
-    /// nobody can do that.
+    /// Says what becomes of the user once the connection is closed. False if the user wants to connect again,
+    /// and nobody can do that.
     pub(crate) fn leave(&mut self, next: Next) -> bool {
         let line = match next {
             Next::Leaves => LEAVES,

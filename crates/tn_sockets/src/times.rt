@@ -1,7 +1,6 @@
 //! The time that a line of notes or of a log begins with.
 
-ghost use Rattle.std.specs.Duration.{as_nanos};
-ghost use Rattle.std.specs.Prelude.{◌≡◌, IfOk, bytes_eq};
+ghost use Rattle.std.specs.{Duration.as_nanos, Prelude.{◌≡◌, IfOk, bytes_eq}};
 ghost use Rattle.tn_sockets.specs.Times.{IsStamp, IsTimeText, hyphenated, instant_text, last_digit};
 
 use httpdate::HttpDate;

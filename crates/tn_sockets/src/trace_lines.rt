@@ -1,7 +1,6 @@
 //! The lines of a trace: one for each item that passes, behind the seconds since the beginning.
 
-ghost use Rattle.std.specs.Duration.{as_nanos};
-ghost use Rattle.std.specs.Io.KnownBytes.{Appends};
+ghost use Rattle.std.specs.{Duration.as_nanos, Io.KnownBytes.Appends};
 ghost use Rattle.std.specs.Prelude.{◌≡◌, ◌==◌, ◌++◌, [], ◌∷◌, true, IfOk, OnOk};
 ghost use Rattle.tn_nvt.specs.Feeding.{LeadsTo};
 ghost use Rattle.tn_sockets.specs.Traces.{HoldsNothing, Shows, last_digit, stamp_where, time_text};

@@ -1,18 +1,11 @@
 -- A text is split at its last colon.
-use Rattle.std.proofs.Common.{◌≡◌, ◌≢◌, inl, inr, ℕ, zero, suc, ◌+◌, ◌<◌, ◌≤◌, ◌==◌, ◌&&◌, ◌||◌, Bool, true, false, not, Option, Some, None}
-use Rattle.std.proofs.Common.{List, [], ◌∷◌, ◌++◌, length, get_or, drop, cond, eqb, eqb-true, take-append-drop, refl, sym, ap, ap₂, ◌∙◌}
-use Rattle.std.proofs.Common.{subst, arith, MatchOption, IfSome, codes, take, ◌-◌}
-use Rattle.std.specs.List.{after_first, ends_with, starts_with}
-use Rattle.std.specs.Borrow.{Bor}
-use Rattle.std.specs.Str.Parse.{AllDigits, digits_value, without_leading_plus}
-use Rattle.std.specs.Char.{digit_value}
-use Rattle.std.specs.Str.{NoCharPasses}
-use Rattle.std.specs.Str.Pattern.{FindsCharPrefix, FindsCharSuffix, RFindsChar, SplitsAroundMatch}
-use Rattle.std.proofs.lemmas.List.{append_cancel_right}
+use Rattle.std.proofs.Common.{◌≡◌, ◌≢◌, inl, inr, ℕ, zero, suc, ◌+◌, ◌<◌, ◌≤◌, ◌==◌, ◌&&◌, ◌||◌, Bool, true, false, not, Option, Some, None, List, [], ◌∷◌}
+use Rattle.std.proofs.Common.{◌++◌, length, get_or, drop, cond, eqb, eqb-true, take-append-drop, refl, sym, ap, ap₂, ◌∙◌, subst, arith, MatchOption, IfSome}
+use Rattle.std.proofs.{Common.{codes, take, ◌-◌}, lemmas.{List.append_cancel_right, Str.Pattern.strip_suffix_char}}
 use Rattle.std.proofs.lemmas.Str.Pattern.{IsSplitOnceResult, NoCharPasses-char, drop_at_char, split_once_first, split_parts, strip_prefix_char}
-use Rattle.std.proofs.lemmas.Str.Pattern.{strip_suffix_char}
-use Rattle.tn_words.specs.Addresses.{WritesAddress, WritesHost, WritesName, WritesPlace, has_colon, has_one_colon, has_port}
-use Rattle.tn_words.specs.Numbers.{Writes}
+use Rattle.std.specs.{List.{after_first, ends_with, starts_with}, Borrow.Bor, Str.Parse.{AllDigits, digits_value, without_leading_plus}, Char.digit_value}
+use Rattle.std.specs.Str.{NoCharPasses, Pattern.{FindsCharPrefix, FindsCharSuffix, RFindsChar, SplitsAroundMatch}}
+use Rattle.tn_words.specs.{Addresses.{WritesAddress, WritesHost, WritesName, WritesPlace, has_colon, has_one_colon, has_port}, Numbers.Writes}
 
 -- no byte is this one
 abbrev pub Lacks : ℕ → List ℕ → Type 0

@@ -3,20 +3,13 @@ use Rattle.std.proofs.Common.{◌≡◌, ◌≢◌, ◌⊎◌, inl, inr, ℕ, Bo
 use Rattle.std.proofs.Common.{◌∙◌, subst, arith, ◌<◌, is_some, ap₂}
 use Rattle.std.specs.Prelude.{unwrap_or, ⊤}
 use Rattle.clap.specs.Words.{App, Row, Text, subcommand_name_of, subcommand_of, subcommand_rows_of, HasMatchesOf, takes, fault_of, is_simple}
-use Rattle.clap.specs.Words.{is_simple_and_free, IsAmong}
-use Rattle.clap.specs.declared.error.kind.ErrorKind.{ErrorKind}
-use Rattle.clap.specs.declared.error.kind.ErrorKind.TheVariants as kind
-use Rattle.clap.specs.declared.parser.matches.ArgMatches.{ArgMatches}
+use Rattle.clap.specs.{Words.{is_simple_and_free, IsAmong}, declared.{error.kind.ErrorKind.ErrorKind, parser.matches.ArgMatches.ArgMatches}}
 use Rattle.clap.specs.declared.parser.matches.ArgMatches.TheViews.{out-ArgMatches}
+use Rattle.clap.specs.declared.error.kind.ErrorKind.TheVariants as kind
 use Rattle.clap.proofs.OnLiterals.{clap_on_literals}
-use Rattle.tn_words.specs.Commands.{tn}
-use Rattle.tn_words.specs.Words.{AskFor, Asks, AsksIn, AsksNothing, AsksConnect, AsksServe, AsksForHelp, AsksForVersion}
-use Rattle.tn_words.specs.Words.{AreWrong, Lacks, Refuses, TellsKind}
-use Rattle.tn_words.specs.declared.settings.ConnectWords.{ConnectWords}
-use Rattle.tn_words.specs.declared.settings.ServeWords.{ServeWords}
-use Rattle.tn_words.specs.declared.words.Asked.{Asked}
+use Rattle.tn_words.specs.{Commands.tn, declared.{settings.{ConnectWords.ConnectWords, ServeWords.ServeWords}, words.{Asked.Asked, WordsFault.WordsFault}}}
+use Rattle.tn_words.specs.Words.{AskFor, Asks, AsksIn, AsksNothing, AsksConnect, AsksServe, AsksForHelp, AsksForVersion, AreWrong, Lacks, Refuses, TellsKind}
 use Rattle.tn_words.specs.declared.words.Asked.TheVariants.{Local, Replay, Decode, World, Serve, Connect}
-use Rattle.tn_words.specs.declared.words.WordsFault.{WordsFault}
 use Rattle.tn_words.specs.declared.words.WordsFault.TheVariants as fault
 
 is_simple_tn : is_simple tn ≡ true

@@ -1,25 +1,14 @@
 -- What `clap` gives of an option that has a text.
 use Rattle.std.proofs.Common.{◌≡◌, ◌∙◌, ℕ, true, false, List, Option, Some, None, MatchOption, IfSome, is_some, option_map, codes, sym, ap, ap₂, subst, refl}
 use Rattle.std.proofs.Common.{slice_get}
-use Rattle.std.specs.Prelude.{string_bytes, unwrap_or, option_and_then, find}
-use Rattle.std.specs.Borrow.{Bor}
-use Rattle.std.specs.Option.{option_map_or}
-use Rattle.std.specs.Str.{bytes_eq}
-use Rattle.std.specs.Str.Parse.{digits_value, without_leading_plus}
-use Rattle.clap.specs.Walk.{row_text}
-use Rattle.clap.specs.Words.{Row, Text, first_of, first_value, read_as, rows_of}
-use Rattle.clap.specs.declared.parser.matches.Found.{Found}
+use Rattle.std.specs.{Prelude.{string_bytes, unwrap_or, option_and_then, find}, Borrow.Bor, Option.option_map_or, Str.bytes_eq, Net.Grammar.IsIpText}
+use Rattle.std.specs.{Str.Parse.{digits_value, without_leading_plus}, declared.net.ip_addr.IpAddr.IpAddr}
+use Rattle.clap.specs.{Walk.row_text, Words.{Row, Text, first_of, first_value, read_as, rows_of}, declared.parser.matches.Found.Found}
 use Rattle.clap.proofs.WalkLemmas.{first_value-rows}
 use Rattle.tn_words.proofs.Addresses.{one_place}
-use Rattle.std.specs.Net.Grammar.{IsIpText}
-use Rattle.std.specs.declared.net.ip_addr.IpAddr.{IpAddr}
-use Rattle.tn_words.specs.Dialing.{MayHaveIp}
-use Rattle.tn_words.specs.Addresses.{WritesAddress, WritesPlace}
-use Rattle.tn_words.specs.Services.{service_in}
-use Rattle.tn_words.specs.Words.{AsksPlace, AsksPort, AsksPortOrService, NamesService, HasNumber, HasPlace, IsPath, MayHaveAddress, MayHaveNumber, MayHavePath, is_flagged, is_given, one_port}
-use Rattle.tn_words.specs.declared.settings.Address.{Address}
-use Rattle.tn_words.specs.declared.settings.Port.{Port}
-use Rattle.tn_words.specs.declared.settings.Port.TheVariants.{Number, Service}
+use Rattle.tn_words.specs.{Dialing.MayHaveIp, Addresses.{WritesAddress, WritesPlace}, Services.service_in, Words.{is_flagged, is_given, one_port}}
+use Rattle.tn_words.specs.Words.{AsksPlace, AsksPort, AsksPortOrService, NamesService, HasNumber, HasPlace, IsPath, MayHaveAddress, MayHaveNumber, MayHavePath}
+use Rattle.tn_words.specs.declared.settings.{Address.Address, Port.{Port, TheVariants.{Number, Service}}}
 
 is_some-map : {A B : Type 0} (f : A → B) (o : Option A) → is_some o ≡ is_some (option_map f o)
 is_some-map f None = refl

@@ -4,20 +4,13 @@ use Rattle.std.proofs.Common.{sym, ap, ◌∙◌, subst, arith}
 use Rattle.std.specs.Prelude.{unwrap_or}
 use Rattle.clap.specs.Words.{Row, Text, subcommand_of, takes, one_of, first_of}
 use Rattle.clap.proofs.OnLiterals.{clap_on_literals}
-use Rattle.tn_words.proofs.Addresses.{brackets_write, host_writes, port_writes, seven, six_writes, two_write}
-use Rattle.tn_words.proofs.Asking.{connects_not}
+use Rattle.tn_words.proofs.{Addresses.{brackets_write, host_writes, port_writes, seven, six_writes, two_write}, Asking.connects_not}
 use Rattle.tn_words.proofs.Given.{no_number, no_port_at, place_is, same_maybe, same_number, service_is, the_port}
-use Rattle.tn_words.specs.Commands.{tn}
-use Rattle.tn_words.specs.Escapes.{IsControlOf, WritesEscape}
+use Rattle.tn_words.specs.{Commands.tn, Escapes.{IsControlOf, WritesEscape}, Words.{NamesService, line_end_in, one_port}, Services.service_in}
 use Rattle.tn_words.specs.Words.{AskFor, AskForHost, AsksConnect, AsksIn, AsksNothing, AsksPlace, HasEscape, HasNumber, HasPlace, MayHaveNumber, is_given}
-use Rattle.tn_words.specs.Services.{service_in}
-use Rattle.tn_words.specs.Words.{NamesService, line_end_in, one_port}
-use Rattle.tn_words.specs.declared.settings.ConnectWords.{ConnectWords}
-use Rattle.tn_words.specs.declared.settings.Escape.{Escape}
-use Rattle.tn_words.specs.declared.settings.Port.TheVariants.{Number, Service}
+use Rattle.tn_words.specs.declared.{settings.{ConnectWords.ConnectWords, Escape.Escape, Port.TheVariants.{Number, Service}}, words.Asked.TheVariants.Connect}
 use Rattle.tn_words.specs.declared.settings.Escape.TheVariants as escape
 use Rattle.tn_lines.specs.declared.line_ends.LineEnd.{LineEnd}
-use Rattle.tn_words.specs.declared.words.Asked.TheVariants.{Connect}
 
 -- what was found for the options of a subcommand
 abbrev rows_in : Option (Text × List Row) → List Row
@@ -124,12 +117,6 @@ two_words = codes "tn" ∷ codes "connect" ∷ codes "h:7" ∷ codes "7" ∷ []
 
 abbrev wait_words : List Text
 wait_words = codes "tn" ∷ codes "connect" ∷ codes "h" ∷ codes "-q" ∷ codes "2" ∷ []
-
-abbrev traced_words : List Text
-traced_words = codes "tn" ∷ codes "connect" ∷ codes "h" ∷ codes "--plain" ∷ codes "--trace" ∷ codes "f" ∷ []
-
-abbrev escaped_words : List Text
-escaped_words = codes "tn" ∷ codes "connect" ∷ codes "h" ∷ codes "--plain" ∷ codes "--escape=^]" ∷ []
 
 abbrev lf_words : List Text
 lf_words = codes "tn" ∷ codes "connect" ∷ codes "h" ∷ codes "--lf" ∷ []
@@ -248,14 +235,4 @@ wait_asks asked asks =
 pub lf_asks : AsksNothing (subcommand_of tn lf_words)
 unfolding clap_on_literals
 lf_asks = connects_not (subcommand_of tn lf_words) (codes "connect") (rows_for lf_words) refl refl refl
-    (λ connecting asks. let bad : false ≡ true = ap is_some asks.plain in absurd (cc))
-
-pub traced_ask : AsksNothing (subcommand_of tn traced_words)
-unfolding clap_on_literals
-traced_ask = connects_not (subcommand_of tn traced_words) (codes "connect") (rows_for traced_words) refl refl refl
-    (λ connecting asks. let bad : false ≡ true = ap is_some asks.plain in absurd (cc))
-
-pub escaped_ask : AsksNothing (subcommand_of tn escaped_words)
-unfolding clap_on_literals
-escaped_ask = connects_not (subcommand_of tn escaped_words) (codes "connect") (rows_for escaped_words) refl refl refl
     (λ connecting asks. let bad : false ≡ true = ap is_some asks.plain in absurd (cc))

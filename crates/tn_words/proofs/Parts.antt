@@ -1,13 +1,9 @@
 -- What is asked for, in its parts.
 use Rattle.std.proofs.Common.{List}
 use Rattle.clap.specs.Words.{Row}
-use Rattle.tn_words.specs.Parts.{AsksConnectNumbers, AsksServeChoices, AsksServeNumbers}
-use Rattle.tn_words.specs.Words.{AsksConnect, AsksServe}
-use Rattle.tn_words.specs.declared.settings.ConnectWords.{ConnectWords}
-use Rattle.tn_words.specs.declared.settings.ServeWords.{ServeWords}
-use Rattle.tn_words.specs.declared.words.ConnectNumbers.{ConnectNumbers}
-use Rattle.tn_words.specs.declared.words.ServeChoices.{ServeChoices}
-use Rattle.tn_words.specs.declared.words.ServeNumbers.{ServeNumbers}
+use Rattle.tn_words.specs.{Parts.{AsksConnectNumbers, AsksServeChoices, AsksServeNumbers}, Words.{AsksConnect, AsksServe}}
+use Rattle.tn_words.specs.declared.{settings.{ConnectWords.ConnectWords, ServeWords.ServeWords}, words.ConnectNumbers.ConnectNumbers}
+use Rattle.tn_words.specs.declared.words.{ServeChoices.ServeChoices, ServeNumbers.ServeNumbers}
 
 abbrev pub serve_numbers_of : ServeWords → ServeNumbers
 serve_numbers_of asked = record {

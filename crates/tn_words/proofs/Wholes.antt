@@ -1,9 +1,7 @@
 -- The number that an option has, as `clap` reads it.
 use Rattle.std.proofs.Common.{◌≡◌, ◌∙◌, ℕ, ◌<◌, ◌≤◌, ◌^◌, List, Option, Some, None, Result, arith, sym, subst, ap, refl, is_some, true, false}
-use Rattle.std.specs.Prelude.{unwrap_or}
-use Rattle.std.specs.Str.Parse.{ParsesUnsigned}
-use Rattle.clap.specs.Words.{rows_of, one_text, ReadsOne, Text}
-use Rattle.clap.specs.declared.parser.matches.Found.{Found}
+use Rattle.std.specs.{Prelude.unwrap_or, Str.Parse.ParsesUnsigned}
+use Rattle.clap.specs.{Words.{rows_of, one_text, ReadsOne, Text}, declared.parser.matches.Found.Found}
 use Rattle.clap.proofs.WalkLemmas.{one_text-rows}
 use Rattle.tn_words.specs.Words.{HasNumber}
 

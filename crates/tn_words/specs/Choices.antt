@@ -1,12 +1,11 @@
 -- The rules of the options and places in the tables of `commands`.
 use Rattle.std.specs.Prelude.{List, codes, fold}
 use Rattle.clap.specs.Words.{App, Rule, with_rule}
-use Rattle.tn_words.specs.Commands.{flag_rule, host_rule, maybe_port_rule, place_rule}
-use Rattle.tn_words.specs.Commands.{patience_rule, text_rule, wait_rule, whole_rule, with_default}
-use Rattle.tn_words.specs.Commands.{with_letter}
-use Rattle.tn_words.specs.declared.commands.Choice.{Choice}
-use Rattle.tn_words.specs.declared.commands.Choice.TheVariants.{Default, Flag, Host, HostPlace, Letter, Number, Port}
-use Rattle.tn_words.specs.declared.commands.Choice.TheVariants.{ListenPort, Patience, PortPlace, Text, Wait}
+use Rattle.tn_words.specs.Commands.{flag_rule, host_rule, maybe_port_rule, place_rule, patience_rule}
+use Rattle.tn_words.specs.Commands.{text_rule, wait_rule, whole_rule, with_default, with_letter}
+use Rattle.tn_words.specs.declared.commands.Choice.{Choice, TheVariants.{Text, Wait}}
+use Rattle.tn_words.specs.declared.commands.Choice.TheVariants.{Default, Flag, Host, HostPlace, Letter}
+use Rattle.tn_words.specs.declared.commands.Choice.TheVariants.{Number, Port, ListenPort, Patience, PortPlace}
 
 -- what a parse goes by at a choice
 abbrev pub rule_of_choice : Choice → Rule

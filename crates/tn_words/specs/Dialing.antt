@@ -1,10 +1,8 @@
 -- How the words ask for a connection.
-use Rattle.std.specs.Prelude.{◌≡◌, Bool, true, false, Option, Some, None, List}
-use Rattle.std.specs.Net.Grammar.{IsIpText}
+use Rattle.std.specs.{Prelude.{◌≡◌, Bool, true, false, Option, Some, None, List}, Net.Grammar.IsIpText}
 use Rattle.std.specs.declared.net.ip_addr.IpAddr.{IpAddr}
 use Rattle.clap.specs.Words.{Row, Text, first_of}
-use Rattle.tn_network.specs.declared.dialing.Family.{Family}
-use Rattle.tn_network.specs.declared.dialing.Family.TheVariants.{Ipv4, Ipv6}
+use Rattle.tn_network.specs.declared.dialing.Family.{Family, TheVariants.{Ipv4, Ipv6}}
 
 -- the family of addresses that `-4` and `-6` choose, of which at most one is accepted
 abbrev pub chosen_family : Bool → Bool → Option (Option Family)

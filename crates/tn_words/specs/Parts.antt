@@ -3,8 +3,7 @@ use Rattle.std.specs.Prelude.{◌≡◌, Some, List, codes}
 use Rattle.clap.specs.Words.{Row}
 use Rattle.tn_words.specs.Words.{AsksCount, AsksLine, AsksSocket, HasFlag, HasNumber, MayHaveNumber}
 use Rattle.tn_words.specs.Words.{ends_cut_in, logfmt_in, sends_signals_in, service_line_end_in}
-use Rattle.tn_words.specs.declared.words.ConnectNumbers.{ConnectNumbers}
-use Rattle.tn_words.specs.declared.words.ServeChoices.{ServeChoices}
+use Rattle.tn_words.specs.declared.words.{ConnectNumbers.ConnectNumbers, ServeChoices.ServeChoices}
 use Rattle.tn_words.specs.declared.words.ServeNumbers.{ServeNumbers}
 
 pub record AsksServeNumbers (rows : List Row) (asked : ServeNumbers) : Type 0 where

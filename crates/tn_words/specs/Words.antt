@@ -1,36 +1,22 @@
 -- What words ask for, of the command line that `tn` takes.
 use Rattle.std.specs.Prelude.{◌≡◌, ◌≢◌, ◌⊎◌, ◌<◌, ◌≤◌, ◌||◌, ⊤, ℕ, Bool, true, false, if◌then◌else◌}
 use Rattle.std.specs.Prelude.{unwrap_or, Option, Some, None, MatchOption, is_some, option_map, List, []}
-use Rattle.std.specs.Prelude.{length, codes, string_bytes}
-use Rattle.std.specs.Option.{option_map_or}
-use Rattle.std.specs.Str.{bytes_eq}
+use Rattle.std.specs.{Prelude.{length, codes, string_bytes}, Option.option_map_or, Str.bytes_eq}
 use Rattle.clap.specs.Words.{Row, Text, subcommand_of, takes, fault_of, first_of, one_of, IsAmong}
 use Rattle.clap.specs.declared.error.kind.ErrorKind.{ErrorKind}
 use Rattle.clap.specs.declared.error.kind.ErrorKind.TheVariants as kind
-use Rattle.tn_lines.specs.declared.line_ends.LineEnd.{LineEnd}
-use Rattle.tn_lines.specs.declared.line_ends.LineEnd.TheVariants.{CrLf, Lf, Cr}
+use Rattle.tn_lines.specs.declared.line_ends.LineEnd.{LineEnd, TheVariants.{CrLf, Lf, Cr}}
 use Rattle.tn_network.specs.declared.dialing.Family.{Family}
-use Rattle.tn_words.specs.Addresses.{WritesAddress, WritesPlace}
-use Rattle.tn_words.specs.Commands.{tn}
-use Rattle.tn_words.specs.Dialing.{MayHaveIp, chosen_family}
-use Rattle.tn_words.specs.Escapes.{WritesEscape}
-use Rattle.tn_words.specs.Numbers.{Writes}
-use Rattle.tn_words.specs.Services.{service_in}
-use Rattle.tn_words.specs.declared.words.Asked.{Asked}
+use Rattle.tn_words.specs.{Addresses.{WritesAddress, WritesPlace}, Commands.tn, Escapes.WritesEscape}
+use Rattle.tn_words.specs.{Dialing.{MayHaveIp, chosen_family}, Numbers.Writes, Services.service_in}
+use Rattle.tn_words.specs.declared.{words.Asked.Asked, settings.{Address.Address, Characters.Characters}}
 use Rattle.tn_words.specs.declared.words.Asked.TheVariants.{Local, Replay, Decode, World, Serve, Connect}
-use Rattle.tn_words.specs.declared.settings.Address.{Address}
-use Rattle.tn_words.specs.declared.settings.Characters.{Characters}
-use Rattle.tn_words.specs.declared.settings.Characters.TheVariants.{Own, Standard}
-use Rattle.tn_words.specs.declared.settings.ReturnBytes.{ReturnBytes}
-use Rattle.tn_words.specs.declared.settings.ReturnBytes.TheVariants.{CrNul}
-use Rattle.tn_words.specs.declared.settings.ReturnBytes.TheVariants as returns
-use Rattle.tn_words.specs.declared.settings.ConnectWords.{ConnectWords}
-use Rattle.tn_words.specs.declared.settings.Escape.{Escape}
-use Rattle.tn_words.specs.declared.settings.Port.{Port}
-use Rattle.tn_words.specs.declared.settings.Port.TheVariants.{Number, Service}
-use Rattle.tn_words.specs.declared.settings.ServeWords.{ServeWords}
-use Rattle.tn_words.specs.declared.settings.Socket.{Socket}
+use Rattle.tn_words.specs.declared.settings.{Characters.TheVariants.{Own, Standard}, ReturnBytes.ReturnBytes}
+use Rattle.tn_words.specs.declared.settings.{ReturnBytes.TheVariants.CrNul, ConnectWords.ConnectWords}
+use Rattle.tn_words.specs.declared.settings.{Escape.Escape, Port.{Port, TheVariants.{Number, Service}}}
+use Rattle.tn_words.specs.declared.settings.{ServeWords.ServeWords, Socket.Socket}
 use Rattle.tn_words.specs.declared.words.WordsFault.{WordsFault}
+use Rattle.tn_words.specs.declared.settings.ReturnBytes.TheVariants as returns
 use Rattle.tn_words.specs.declared.words.WordsFault.TheVariants as fault
 
 -- The option of this name has this number, which lies in its range.

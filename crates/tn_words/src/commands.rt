@@ -6,9 +6,8 @@ ghost use Rattle.clap.specs.declared.builder.command.Command.TheViews.{out-Comma
 ghost use Rattle.clap.specs.declared.builder.value_parser.ValueParser.TheVariants as parser;
 ghost use Rattle.tn_words.specs.Choices.{rule_of_choice, with_choices};
 ghost use Rattle.tn_words.specs.Commands.{tn, alone, offline, plain, serve, connect, whole_rule};
-ghost use Rattle.tn_words.specs.Commands.{with_default, flag_rule};
-ghost use Rattle.tn_words.specs.Commands.{host_rule, maybe_port_rule, number_rule, place_rule};
-ghost use Rattle.tn_words.specs.Commands.{patience_rule, text_rule, wait_rule};
+ghost use Rattle.tn_words.specs.Commands.{with_default, flag_rule, host_rule, maybe_port_rule, number_rule};
+ghost use Rattle.tn_words.specs.Commands.{place_rule, patience_rule, text_rule, wait_rule};
 
 use clap::builder::ValueParser;
 use clap::{Arg, ArgAction, Command, value_parser};
@@ -328,7 +327,7 @@ const SERVE_CHOICES: &[Choice] = &[
     Choice::Text(
         BANNER,
         "FILE",
-        "Shows each client what this file has when the server starts, before all that jobs write",
+        "With --to: shows each client what this file has when the server starts, before what the service says",
     ),
     Choice::Text(
         TO,

@@ -3,8 +3,7 @@
 ghost use Rattle.std.specs.Prelude.{◌≡◌, Option, Some, IfOk, IfErr, codes};
 ghost use Rattle.std.specs.declared.net.ip_addr.IpAddr.{IpAddr};
 ghost use Rattle.clap.specs.Words.{rows_of, found_of};
-ghost use Rattle.tn_words.specs.Dialing.{MayHaveIp, chosen_family};
-ghost use Rattle.tn_words.specs.Words.{Lacks, family_in};
+ghost use Rattle.tn_words.specs.{Dialing.{MayHaveIp, chosen_family}, Words.{Lacks, family_in}};
 
 use crate::commands::{BIND, IPV4, IPV6};
 use crate::words::{Lack, WordsFault, is_flagged, lacking};

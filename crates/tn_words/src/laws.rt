@@ -2,15 +2,12 @@
 
 ghost use Rattle.std.specs.Prelude.{◌≡◌, ℕ, List, true, false, [], ◌∷◌, None, Option, Some, codes};
 ghost use Rattle.clap.specs.Words.{subcommand_of, takes};
-ghost use Rattle.tn_words.specs.Addresses.{WritesAddress, WritesPlace};
-ghost use Rattle.tn_words.specs.Commands.{tn};
-ghost use Rattle.tn_words.specs.Escapes.{WritesEscape};
+ghost use Rattle.tn_words.specs.{Addresses.{WritesAddress, WritesPlace}, Commands.tn, Escapes.WritesEscape};
 ghost use Rattle.tn_words.specs.Words.{AskFor, AskForHost, AsksForHelp, AsksForVersion, AsksNothing};
-ghost use Rattle.tn_words.specs.Words.{NamesService};
-ghost use Rattle.tn_words.specs.declared.settings.ConnectWords.{ConnectWords};
+ghost use Rattle.tn_words.specs.{Words.NamesService, declared.settings.ConnectWords.ConnectWords};
 ghost use Rattle.tn_words.specs.declared.settings.Escape.{Escape};
-ghost use Rattle.tn_words.specs.declared.settings.Escape.TheVariants as escape;
 ghost use Rattle.tn_words.specs.declared.words.Asked.TheVariants.{Local, Replay, Decode, World, Connect};
+ghost use Rattle.tn_words.specs.declared.settings.Escape.TheVariants as escape;
 
 /// The name of a subcommand is accepted alone, and asks for its run.
 pub fn names_ask()
@@ -59,8 +56,7 @@ pub fn hosts_and_ports()
 {}
 
 /// Without options the sizes are open, the escape key is `^]`, no trace is written, the end of the keys is
-/// told at once, and the connection is one of Telnet. How a line ends is not chosen without `--plain`, with
-/// which there is no trace and no escape key.
+/// told at once, and the connection is one of Telnet. How a line ends is not chosen without `--plain`.
 pub fn options()
     ensures none { (asked : ConnectWords)
         → AskFor (codes "tn" ∷ codes "connect" ∷ codes "::1" ∷ []) (Connect asked)
@@ -70,10 +66,6 @@ pub fn options()
         → AskFor (codes "tn" ∷ codes "connect" ∷ codes "h" ∷ codes "-q" ∷ codes "2" ∷ []) (Connect asked)
         → asked.wait ≡ 2 }
     ensures lf { AsksNothing (subcommand_of tn (codes "tn" ∷ codes "connect" ∷ codes "h" ∷ codes "--lf" ∷ [])) }
-    ensures traced { AsksNothing (subcommand_of tn
-        (codes "tn" ∷ codes "connect" ∷ codes "h" ∷ codes "--plain" ∷ codes "--trace" ∷ codes "f" ∷ [])) }
-    ensures escaped { AsksNothing (subcommand_of tn
-        (codes "tn" ∷ codes "connect" ∷ codes "h" ∷ codes "--plain" ∷ codes "--escape=^]" ∷ [])) }
 {}
 
 /// A host, a colon and a port write an address, and no text writes two; brackets around a host are none of

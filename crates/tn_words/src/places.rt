@@ -3,9 +3,8 @@
 ghost use Rattle.std.specs.Prelude.{◌≡◌, ℕ, List, None, Option, IfOk, IfErr, IfSome, codes, option_map};
 ghost use Rattle.std.specs.Prelude.{string_bytes};
 ghost use Rattle.clap.specs.Words.{rows_of, found_of};
-ghost use Rattle.tn_words.specs.Services.{begins_with_letter, service_in, service_named};
-ghost use Rattle.tn_words.specs.Words.{AsksPlace, AsksPort, AsksPortOrService, AsksService, HasPlace};
-ghost use Rattle.tn_words.specs.Words.{Lacks, one_port};
+ghost use Rattle.tn_words.specs.{Services.{begins_with_letter, service_in, service_named}, Words.one_port};
+ghost use Rattle.tn_words.specs.Words.{AsksPlace, AsksPort, AsksPortOrService, AsksService, HasPlace, Lacks};
 ghost use Rattle.tn_words.specs.declared.settings.Port.{Port};
 
 use crate::commands::{AT, AT_PLACE, HOST, PORT};

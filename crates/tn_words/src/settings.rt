@@ -1,9 +1,8 @@
 //! How to serve and how to connect.
 
 ghost use Rattle.std.specs.Prelude.{◌≡◌, ℕ, Bool, List, Option, Ok, None, IfOk, IfSome, string_bytes};
-ghost use Rattle.tn_words.specs.Addresses.{WritesAddress, WritesHost, WritesName, WritesPlace};
-ghost use Rattle.tn_words.specs.Addresses.{has_colon, has_one_colon, has_port};
-ghost use Rattle.tn_words.specs.Escapes.{IsControlOf, WritesEscape};
+ghost use Rattle.tn_words.specs.Addresses.{WritesAddress, WritesHost, WritesName, WritesPlace, has_colon};
+ghost use Rattle.tn_words.specs.{Addresses.{has_one_colon, has_port}, Escapes.{IsControlOf, WritesEscape}};
 ghost use Rattle.tn_words.specs.Words.{named_characters, named_return};
 
 use std::alloc::{AllocError, Global};

@@ -5,15 +5,12 @@ ghost use Rattle.std.specs.Prelude.{IfSome, codes, map, option_map, string_bytes
 ghost use Rattle.clap.specs.Words.{Text, kind_of, rows_of, first_of, found_of, subcommand_rows_of};
 ghost use Rattle.tn_words.specs.Parts.{AsksConnectNumbers, AsksServeChoices, AsksServeNumbers};
 ghost use Rattle.tn_words.specs.Words.{AskFor, AsksConnect, AsksCount, AsksIn, AsksLine, AsksNothing};
-ghost use Rattle.tn_words.specs.Words.{AsksServe};
-ghost use Rattle.tn_words.specs.Words.{HasEscape, HasNumber, IsPath, Lacks};
-ghost use Rattle.tn_words.specs.Words.{MayHaveAddress, MayHaveNumber};
-ghost use Rattle.tn_words.specs.Words.{MayHavePath, MissesNumber, Refuses, TellsKind, chosen_count};
-ghost use Rattle.tn_words.specs.Words.{chosen_logfmt, chosen_word, logfmt_in, sends_signals_in};
+ghost use Rattle.tn_words.specs.Words.{AsksServe, HasEscape, HasNumber, IsPath, Lacks, MayHaveAddress};
+ghost use Rattle.tn_words.specs.Words.{MayHaveNumber, MayHavePath, MissesNumber, Refuses, TellsKind};
+ghost use Rattle.tn_words.specs.Words.{chosen_count, chosen_logfmt, chosen_word, logfmt_in, sends_signals_in};
 ghost use Rattle.tn_words.specs.Words.{characters_in, return_in, chosen_line_end, detail_of, ends_cut_in};
-ghost use Rattle.tn_words.specs.Words.{has_telnet_option};
-ghost use Rattle.tn_words.specs.Words.{is_flagged, is_given, line_end_in, service_line_end};
-ghost use Rattle.tn_words.specs.Words.{service_line_end_in, usual_line};
+ghost use Rattle.tn_words.specs.Words.{has_telnet_option, is_flagged, is_given, line_end_in};
+ghost use Rattle.tn_words.specs.Words.{service_line_end, service_line_end_in, usual_line};
 
 use crate::commands::{
     BANNER, CONNECT, COUNT, CR, CRLF, DECODE, DIAL, DRAIN, ESCAPE, FOREVER, HEIGHT, HOST, IDLE,

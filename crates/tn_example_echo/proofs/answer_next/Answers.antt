@@ -1,8 +1,7 @@
 use Rattle.std.proofs.Common.{rules, sym, ◌∙◌, append-nil}
 use Rattle.tn_server.proofs.lemmas.Ends.{waits_are}
 use Rattle.tn_server.specs.Events.{took, wrote, pulled}
-use Rattle.tn_example_echo.proofs.Saying.{says_event, says_then}
-use Rattle.tn_example_echo.proofs.Echoing.{echoes_line, first_text}
+use Rattle.tn_example_echo.proofs.{Saying.{says_event, says_then}, Echoing.{echoes_line, first_text}}
 use Rattle.tn_example_echo.proofs.answer_next.Goals as goal
 
 pub returns-in_ok-pull-in-Some-Text-clause-says : goal.returns-in_ok-pull-in-Some-Text-clause-says

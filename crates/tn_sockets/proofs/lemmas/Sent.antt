@@ -3,8 +3,7 @@ use Rattle.std.proofs.Common.{◌≡◌, ℕ, arith, length, List, [], ◌∷◌
 use Rattle.std.specs.Vec.{vec_items}
 use Rattle.tn_queue.specs.Queue.{one_of, taker}
 use Rattle.tn_sockets.proofs.Queued.{bytes_of-append}
-use Rattle.tn_sockets.specs.Ends.{IsSettled}
-use Rattle.tn_sockets.specs.Queue.{Pieces, PieceHand, IsSent, behind_end, bytes_of, count_behind, put_bytes, WritesTaken, WritesToTheEnd}
+use Rattle.tn_sockets.specs.{Ends.IsSettled, Queue.{Pieces, PieceHand, IsSent, behind_end, bytes_of, count_behind, put_bytes, WritesTaken, WritesToTheEnd}}
 use Rattle.tn_streams.specs.Prefixes.{IsPrefixOf}
 
 same_some : {A : Type 0} (a b : A) → Some a ≡ Some b → a ≡ b

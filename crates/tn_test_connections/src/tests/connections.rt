@@ -202,10 +202,7 @@ fn connections_more_than_the_limit_are_told_so(rt: HostRuntime) -> Result<(), Fa
     let port = listener.local_addr()?.port();
     let server = thread::spawn(&rt, move || -> bool {
         let log = Logged::new(rt, Level::Warn, Memory::new(alloc));
-        let service = Answering {
-            ticks: 0,
-            banner: None,
-        };
+        let service = Answering { ticks: 0 };
         let served = serve_on(rt, alloc, &listener, serving(1, 21), service, &log);
         let (_, memory) = log.into_parts();
         served.is_ok() && memory.into_lines().is_empty()
@@ -251,10 +248,7 @@ fn a_server_that_is_told_to_end_accepts_nobody(rt: HostRuntime) {
         handed: None,
     };
     let mut causes = Vec::new(alloc);
-    let service = Answering {
-        ticks: 0,
-        banner: None,
-    };
+    let service = Answering { ticks: 0 };
     let served = serve(
         rt,
         alloc,

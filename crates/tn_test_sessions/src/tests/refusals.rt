@@ -1,7 +1,6 @@
 //! Sessions whose reader or writer fails, or for which memory is refused.
 
-ghost use Rattle.std.specs.Prelude.{◌≡◌, ◌≤◌, Some, None, length};
-ghost use Rattle.std.specs.Io.{WritesAtMost};
+ghost use Rattle.std.specs.{Prelude.{◌≡◌, ◌≤◌, Some, None, length}, Io.WritesAtMost};
 ghost use Rattle.std.specs.Io.KnownBytes.{WriteAppends};
 ghost use Rattle.tn_streams.specs.Counting.{told_by};
 

@@ -1,5 +1,4 @@
-use Rattle.std.proofs.Common.{◌≡◌, arith}
-use Rattle.std.proofs.lemmas.Grind.{common_steps}
+use Rattle.std.proofs.{Common.{◌≡◌, arith}, lemmas.Grind.common_steps}
 use Rattle.tn_c_parts.specs.Codes.{code_number}
 use Rattle.tn_c.proofs.line.tn_line_start.Goals as goal
 

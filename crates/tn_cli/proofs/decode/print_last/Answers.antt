@@ -1,5 +1,4 @@
-use Rattle.std.proofs.Common.{[]}
-use Rattle.std.proofs.lemmas.Result.{on_err_weaker, on_ok_weaker}
+use Rattle.std.proofs.{Common.[], lemmas.Result.{on_err_weaker, on_ok_weaker}}
 use Rattle.tn_cli.specs.Decode.{PrintsLast}
 use Rattle.tn_cli.proofs.Decoding.{on_err, stops_before, stops_last}
 use Rattle.tn_cli.proofs.decode.print_last.Goals as goal

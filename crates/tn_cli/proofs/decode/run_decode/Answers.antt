@@ -1,7 +1,5 @@
-use Rattle.std.proofs.Common.{[], Err, ap, ◌∙◌}
-use Rattle.std.proofs.lemmas.Result.{err_from_is_err_and}
-use Rattle.tn_cli.proofs.Inputs.{consumes_none}
-use Rattle.tn_cli.proofs.Decoding.{decodes_read, decodes_some, ends_whole, ends_by_read, ends_early}
+use Rattle.std.proofs.{Common.{[], Err, ap, ◌∙◌}, lemmas.Result.err_from_is_err_and}
+use Rattle.tn_cli.proofs.{Inputs.consumes_none, Decoding.{decodes_read, decodes_some, ends_whole, ends_by_read, ends_early}}
 use Rattle.tn_cli.proofs.decode.run_decode.Goals as goal
 
 pub returns-in_err-print_last-clause-ends : goal.returns-in_err-print_last-clause-ends

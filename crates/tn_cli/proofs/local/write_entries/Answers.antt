@@ -1,7 +1,5 @@
-use Rattle.std.proofs.Common.{◌≡◌, ◌+◌, ◌-◌, length, drop, subst, arith}
+use Rattle.std.proofs.{Common.{◌≡◌, ◌+◌, ◌-◌, length, drop, subst, arith}, lemmas.{Result.err_from_is_err_and, List.{length-drop, length-take}}}
 use Rattle.std.specs.Io.KnownBytes.{Appends}
-use Rattle.std.proofs.lemmas.Result.{err_from_is_err_and}
-use Rattle.std.proofs.lemmas.List.{length-drop, length-take}
 use Rattle.tn_cli.specs.Streams.{AppendsPrefix, max_writes}
 use Rattle.tn_cli.proofs.Entries.{given_none, given_more, given_all, given_front, made_both, failed_after}
 use Rattle.tn_streams.proofs.lemmas.Telling.{made_none}

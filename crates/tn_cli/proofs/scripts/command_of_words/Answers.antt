@@ -1,5 +1,4 @@
-use Rattle.std.proofs.Common.{◌≡◌, ◌≤◌, ℕ, List, [], ◌∷◌, None, length, map, refl, sym, arith, Bor}
-use Rattle.std.proofs.lemmas.List.{length-map}
+use Rattle.std.proofs.{Common.{◌≡◌, ◌≤◌, ℕ, List, [], ◌∷◌, None, length, map, refl, sym, arith, Bor}, lemmas.List.length-map}
 use Rattle.tn_cli.specs.Scripts.{command_of_words}
 use Rattle.tn_cli.proofs.scripts.command_of_words.Goals as goal
 

@@ -1,6 +1,5 @@
 use Rattle.std.proofs.Common.{◌≡◌, ◌≤◌, ◌<◌, length, drop}
-use Rattle.std.specs.Str.{all_ascii_digits}
-use Rattle.std.specs.Str.Parse.{digits_value, digits_value_after}
+use Rattle.std.specs.Str.{all_ascii_digits, Parse.{digits_value, digits_value_after}}
 use Rattle.tn_cli.proofs.scripts.number_within.Given as goal
 
 abbrev pub invariant-loop-digit : goal.invariant-loop-digit

@@ -1,7 +1,4 @@
-use Rattle.std.proofs.Common.{tests}
-use Rattle.std.proofs.lemmas.Iterator.Consumers.{map_from_collect}
-use Rattle.std.proofs.lemmas.Iterator.Splits.{YieldsList-from_slice_split}
-use Rattle.std.proofs.Common.{rules}
+use Rattle.std.proofs.{Common.{tests, rules}, lemmas.Iterator.{Consumers.map_from_collect, Splits.YieldsList-from_slice_split}}
 use Rattle.tn_cli.proofs.scripts.parts.Goals as goal
 
 pub returns : goal.returns

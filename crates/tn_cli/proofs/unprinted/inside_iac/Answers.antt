@@ -1,6 +1,5 @@
 use Rattle.std.proofs.Common.{subst, sym}
-use Rattle.tn_cli.specs.Unprinted.{Leads}
-use Rattle.tn_cli.specs.declared.unprinted.Stand.TheVariants.{Between, InsideIac}
+use Rattle.tn_cli.specs.{Unprinted.Leads, declared.unprinted.Stand.TheVariants.{Between, InsideIac}}
 use Rattle.tn_cli.proofs.Watching.{inside_iac_iac, cut_off}
 use Rattle.tn_cli.proofs.unprinted.inside_iac.Goals as goal
 

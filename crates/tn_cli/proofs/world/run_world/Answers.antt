@@ -1,9 +1,6 @@
-use Rattle.std.proofs.Common.{Some, Err, ap, ◌∙◌}
-use Rattle.std.proofs.lemmas.Result.{err_from_is_err_and}
-use Rattle.tn_cli.specs.Playing.{EndsWith, PrintsWhole, PrintsSome}
-use Rattle.tn_cli.specs.Scripts.{lines_of}
-use Rattle.tn_cli.proofs.Ends.{ends_well, ends_by_write, ends_at_line}
-use Rattle.tn_cli.proofs.Outputs.{appends_text, appends_front, ended}
+use Rattle.std.proofs.{Common.{Some, Err, ap, ◌∙◌}, lemmas.Result.err_from_is_err_and}
+use Rattle.tn_cli.specs.{Playing.{EndsWith, PrintsWhole, PrintsSome}, Scripts.lines_of}
+use Rattle.tn_cli.proofs.{Ends.{ends_well, ends_by_write, ends_at_line}, Outputs.{appends_text, appends_front, ended}}
 use Rattle.tn_cli.proofs.world.run_world.Goals as goal
 
 pub returns-in_err-write_whole-clause-ends : goal.returns-in_err-write_whole-clause-ends

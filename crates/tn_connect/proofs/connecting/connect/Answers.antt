@@ -1,7 +1,5 @@
-use Rattle.std.proofs.Common.{ap, ◌∙◌}
-use Rattle.std.proofs.lemmas.Result.{IfOk-weaker}
-use Rattle.std.specs.declared.net.tcp.TcpStream.{TcpStream}
-use Rattle.std.specs.declared.snapshot.Snapshot.{Snapshot}
+use Rattle.std.proofs.{Common.{ap, ◌∙◌}, lemmas.Result.IfOk-weaker}
+use Rattle.std.specs.declared.{net.tcp.TcpStream.TcpStream, snapshot.Snapshot.Snapshot}
 use Rattle.tn_connect.proofs.Reached.{ran_over}
 use Rattle.tn_connect.specs.Clients.{connection_of}
 use Rattle.tn_connect.proofs.connecting.connect.Goals as goal

@@ -1,8 +1,7 @@
 use Rattle.std.proofs.Common.{[], refl, sym, subst}
 use Rattle.tn_connect.specs.Talks.{kind_by, standard_settings}
 use Rattle.tn_discipline.specs.Canon.{Canon}
-use Rattle.tn_lines.specs.Kinds.{LeadsTo}
-use Rattle.tn_lines.specs.declared.any_lines.AnyLines.TheVariants.{Typed}
+use Rattle.tn_lines.specs.{Kinds.LeadsTo, declared.any_lines.AnyLines.TheVariants.Typed}
 use Rattle.tn_connect.proofs.talks.lines_of.Goals as goal
 
 pub returns-in_ok-lines-in-Terminal : goal.returns-in_ok-lines-in-Terminal

@@ -1,9 +1,7 @@
 use Rattle.std.proofs.Common.{◌≡◌, ℕ, List, Option, IfOk, option_map, subst, ◌∙◌}
 use Rattle.tn_connect.proofs.Keys.{keys_by}
 use Rattle.tn_connect.specs.Talks.{HoldsTalk}
-use Rattle.tn_sockets.specs.PlainKeys.{keys_left}
-use Rattle.tn_sockets.specs.Prompting.{closed}
-use Rattle.tn_sockets.specs.declared.escaping.Escaping.{Escaping}
+use Rattle.tn_sockets.specs.{PlainKeys.keys_left, Prompting.closed, declared.escaping.Escaping.Escaping}
 use Rattle.tn_connect.proofs.talks.talk_over.Goals as goal
 
 pub returns-clause-talked : goal.returns-clause-talked

@@ -1,10 +1,8 @@
-use Rattle.std.proofs.Common.{arith, refl, sym, ap, ◌≡◌, ◌∙◌, ◌<◌, [], ◌++◌, List, ℕ, append-nil, length, take}
+use Rattle.std.proofs.{Common.{arith, refl, sym, ap, ◌≡◌, ◌∙◌, ◌<◌, [], ◌++◌, List, ℕ, append-nil, length, take}, lemmas.List.{drop_all, length-set}}
 use Rattle.std.specs.Prelude.{option_to_list}
-use Rattle.std.proofs.lemmas.List.{drop_all, length-set}
-use Rattle.tn_connect.proofs.Texts.{one_more}
+use Rattle.tn_connect.proofs.{Texts.one_more, text_keys.keys_of.Goals.{in-Some, in-None}}
 use Rattle.tn_connect.specs.Texts.{keys_of_text}
 use Rattle.tn_sockets.proofs.Plain.{written}
-use Rattle.tn_connect.proofs.text_keys.keys_of.Goals.{in-Some, in-None}
 use Rattle.tn_connect.proofs.text_keys.keys_of.Goals as goal
 
 pub loop-place-init : goal.loop-place-init

@@ -1,9 +1,6 @@
 use Rattle.std.proofs.Common.{Ok, Contains, refl, sym, ◌∙◌, [], ◌∷◌, ◌++◌, subst}
-use Rattle.std.specs.Array.Iter.{array_into_iter_items}
-use Rattle.std.specs.Net.ToAddrs.{HostAddrs, host_addrs}
-use Rattle.std.specs.List.{filter}
-use Rattle.tn_network.specs.Asked.{AreRefused, RefuseAll}
-use Rattle.tn_network.specs.Dialing.{suits}
+use Rattle.std.specs.{Array.Iter.array_into_iter_items, Net.ToAddrs.{HostAddrs, host_addrs}, List.filter}
+use Rattle.tn_network.specs.{Asked.{AreRefused, RefuseAll}, Dialing.suits}
 use Rattle.tn_network.proofs.Tried.{none_left, refuse_more, taken, tried_one, tried_suited, one_suits, none_suits}
 use Rattle.tn_network.proofs.reaching.reach_by.Goals as goal
 

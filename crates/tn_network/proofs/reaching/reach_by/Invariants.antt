@@ -1,9 +1,6 @@
 use Rattle.std.proofs.Common.{◌≡◌, ◌++◌, List}
-use Rattle.std.specs.Net.ToAddrs.{host_addrs}
-use Rattle.std.specs.declared.net.socket_addr.SocketAddr.{SocketAddr}
-use Rattle.tn_network.specs.Asked.{RefuseAll}
-use Rattle.tn_network.specs.Dialing.{suits}
-use Rattle.std.specs.List.{filter}
+use Rattle.std.specs.{Net.ToAddrs.host_addrs, declared.net.socket_addr.SocketAddr.SocketAddr, List.filter}
+use Rattle.tn_network.specs.{Asked.RefuseAll, Dialing.suits}
 use Rattle.tn_network.proofs.reaching.reach_by.Given as goal
 
 -- the addresses that were passed, of which those that suit refused, the last with this error, and then those

@@ -1,11 +1,7 @@
 use Rattle.std.proofs.Common.{Bool, IfOk, List, ℕ, inl, inr, refl, subst}
-use Rattle.tn_connect.specs.Clients.{ConnectsBy, RunsClient, connection_of, foreseen, window_of}
-use Rattle.tn_connect.specs.declared.settings.KeySource.{KeySource}
-use Rattle.tn_network.specs.Asked.{ReachesBy}
-use Rattle.tn_network.specs.Dialing.{suits}
-use Rattle.tn_network.specs.declared.dialing.Dialing.{Dialing}
-use Rattle.tn_program.proofs.Origins.{foreseen_as}
-use Rattle.tn_program.proofs.ServicePorts.{any_port}
+use Rattle.tn_connect.specs.{Clients.{ConnectsBy, RunsClient, connection_of, foreseen, window_of}, declared.settings.KeySource.KeySource}
+use Rattle.tn_network.specs.{Asked.ReachesBy, Dialing.suits, declared.dialing.Dialing.Dialing}
+use Rattle.tn_program.proofs.{Origins.foreseen_as, ServicePorts.any_port}
 use Rattle.tn_session.specs.Facts.{Window}
 use Rattle.tn_streams.specs.Known.{KnownTyping}
 use Rattle.tn_program.proofs.program.run_connect.Goals as goal

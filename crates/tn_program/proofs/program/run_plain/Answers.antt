@@ -1,9 +1,6 @@
 use Rattle.std.proofs.Common.{inl, IfOk, List, ℕ, inr, refl, subst}
-use Rattle.tn_connect.specs.Clients.{ConnectsBy}
-use Rattle.tn_connect.specs.Talks.{RunsTalk, talked_over}
-use Rattle.tn_connect.specs.declared.settings.Plain.{Plain}
-use Rattle.tn_network.specs.Asked.{ReachesBy}
-use Rattle.tn_network.specs.Dialing.{suits}
+use Rattle.tn_connect.specs.{Clients.ConnectsBy, Talks.{RunsTalk, talked_over}, declared.settings.Plain.Plain}
+use Rattle.tn_network.specs.{Asked.ReachesBy, Dialing.suits}
 use Rattle.tn_program.proofs.ServicePorts.{any_port}
 use Rattle.tn_program.proofs.program.run_plain.Goals as goal
 

@@ -1,8 +1,6 @@
-use Rattle.std.proofs.Common.{◌≡◌, List, ℕ, ap, map, string_bytes, subst, sym, ◌∙◌}
-use Rattle.std.proofs.lemmas.Result.{IfErr-weaker}
+use Rattle.std.proofs.{Common.{◌≡◌, List, ℕ, ap, map, string_bytes, subst, sym, ◌∙◌}, lemmas.Result.IfErr-weaker}
 use Rattle.tn_program.proofs.Coming.{if_ok, does, refused}
-use Rattle.tn_program.specs.Statuses.{status_of}
-use Rattle.tn_program.specs.Told.{TellsAll, UnlessConnected}
+use Rattle.tn_program.specs.{Statuses.status_of, Told.{TellsAll, UnlessConnected}}
 use Rattle.tn_streams.specs.Known.{known_writing}
 use Rattle.tn_program.proofs.program.run_words.Goals as goal
 

@@ -1,10 +1,7 @@
-use Rattle.std.proofs.Common.{ℕ, subst, sym}
-use Rattle.std.proofs.lemmas.Result.{IfOk-weaker}
+use Rattle.std.proofs.{Common.{ℕ, subst, sym}, lemmas.Result.IfOk-weaker}
 use Rattle.tn_network.specs.Asked.{Accepts, AcceptsAll}
 use Rattle.tn_serve.proofs.Ending.{served_until}
-use Rattle.tn_serve.specs.Counted.{CountsSessions, HasEnded, facts_of, server_of}
-use Rattle.tn_serve.specs.Turns.{HearsAll}
-use Rattle.tn_serve.specs.declared.served.Served.{Served}
+use Rattle.tn_serve.specs.{Counted.{CountsSessions, HasEnded, facts_of, server_of}, Turns.HearsAll, declared.served.Served.Served}
 use Rattle.tn_serve.proofs.serving.serve_as.Goals as goal
 
 pub returns-clause-each : goal.returns-clause-each

@@ -1,15 +1,8 @@
-use Rattle.std.proofs.Common.{◌≡◌, ℕ, List, Option, Some, None, [], refl, subst}
-use Rattle.std.proofs.lemmas.Result.{IfOk-weaker}
-use Rattle.tn_discipline.specs.Characters.{standard_characters}
-use Rattle.tn_discipline.specs.Keys.{standard_flags}
-use Rattle.tn_discipline.specs.declared.characters.Chars.{Chars}
-use Rattle.tn_discipline.specs.declared.termios.Flags.{Flags}
+use Rattle.std.proofs.{Common.{◌≡◌, ℕ, List, Option, Some, None, [], refl, subst}, lemmas.Result.IfOk-weaker}
+use Rattle.tn_discipline.specs.{Characters.standard_characters, Keys.standard_flags, declared.{characters.Chars.Chars, termios.Flags.Flags}}
 use Rattle.tn_discipline.specs.declared.termios.Settings.{Settings}
-use Rattle.tn_serve.specs.Servers.{RunsWriting, attended}
-use Rattle.tn_serve.specs.declared.settings.SessionOptions.{SessionOptions}
-use Rattle.tn_session.specs.Facts.{JobFacts, SessionResult, job_facts, session_result}
-use Rattle.tn_session.specs.Makers.{begins}
-use Rattle.tn_session.specs.Session.{RunningSession}
+use Rattle.tn_serve.specs.{Servers.{RunsWriting, attended}, declared.settings.SessionOptions.SessionOptions}
+use Rattle.tn_session.specs.{Facts.{JobFacts, SessionResult, job_facts, session_result}, Makers.begins, Session.RunningSession}
 use Rattle.tn_sockets.specs.Logs.{logged}
 use Rattle.tn_serve.proofs.session.talk.Goals as goal
 

@@ -1,5 +1,4 @@
-use Rattle.std.proofs.Common.{◌≡◌, ◌∙◌, ℕ, List, ◌++◌, ◌∷◌, [], sym, ap, arith}
-use Rattle.std.proofs.lemmas.Bool.{ne_eqb}
+use Rattle.std.proofs.{Common.{◌≡◌, ◌∙◌, ℕ, List, ◌++◌, ◌∷◌, [], sym, ap, arith}, lemmas.Bool.ne_eqb}
 use Rattle.tn_lines.specs.LineEnds.{line_said}
 use Rattle.tn_services.proofs.Ends.{empty, fed, not_fed}
 use Rattle.tn_services.proofs.line_ends.with_end.Goals as goal

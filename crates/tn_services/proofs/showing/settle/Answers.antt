@@ -1,5 +1,4 @@
-use Rattle.std.proofs.Common.{◌≡◌, ◌+◌, ◌++◌, [], ◌∷◌, ℕ, List, refl, sym, ap, ◌∙◌, append_assoc, append-nil, take, get_or, arith}
-use Rattle.std.proofs.lemmas.List.{take_more}
+use Rattle.std.proofs.{Common.{◌≡◌, ◌+◌, ◌++◌, [], ◌∷◌, ℕ, List, refl, sym, ap, ◌∙◌, append_assoc, append-nil, take, get_or, arith}, lemmas.List.take_more}
 use Rattle.tn_services.specs.NewLines.{ends_by_return, settled, waiting}
 use Rattle.tn_services.proofs.NewLines.{at_most_one, byte_ends, byte_settles, ends_waiting, settled_waiting}
 use Rattle.tn_services.proofs.showing.settle.Goals as goal

@@ -1,5 +1,4 @@
-use Rattle.std.proofs.Common.{◌≡◌, ◌++◌, [], ◌∷◌, ℕ, Bool, true, false, List, sym, ap, ap₂, ◌∙◌, append_assoc, append-nil, length, arith}
-use Rattle.std.proofs.lemmas.Bool.{ne_eqb}
+use Rattle.std.proofs.{Common.{◌≡◌, ◌++◌, [], ◌∷◌, ℕ, Bool, true, false, List, sym, ap, ap₂, ◌∙◌, append_assoc, append-nil, length, arith}, lemmas.Bool.ne_eqb}
 use Rattle.tn_services.specs.NewLines.{ends_by_return, settled, waiting}
 use Rattle.tn_services.proofs.NewLines.{both_other, feed_waits_not, one_feed, one_other, one_return, other_waits_not, return_waits}
 use Rattle.tn_services.proofs.showing.settle_byte.Goals as goal

@@ -1,6 +1,5 @@
 use Rattle.std.proofs.Common.{◌≡◌, ◌≤◌, ◌+◌, length}
-use Rattle.std.specs.List.{count_by}
-use Rattle.std.specs.VecDeque.Iter.{deque_iter_rest}
+use Rattle.std.specs.{List.count_by, VecDeque.Iter.deque_iter_rest}
 use Rattle.tn_sockets.specs.Typing.{is_key}
 use Rattle.tn_sockets.proofs.kept.count_keys.Given as goal
 

@@ -1,9 +1,7 @@
-use Rattle.std.proofs.Common.{arith, refl, sym, ap, ◌≡◌, ◌∙◌, ◌<◌, [], ◌++◌, List, ℕ, append-nil, false, length, take}
-use Rattle.std.proofs.lemmas.List.{drop_all, length-set}
-use Rattle.tn_sockets.proofs.Plain.{no_more, one_more, written}
+use Rattle.std.proofs.{Common.{arith, refl, sym, ap, ◌≡◌, ◌∙◌, ◌<◌, [], ◌++◌, List, ℕ, append-nil, false, length, take}, lemmas.List.{drop_all, length-set}}
+use Rattle.tn_sockets.proofs.{Plain.{no_more, one_more, written}, plain_keys.keys_of.Goals.{in-Key, in-Command, in-Control, in-Nothing}}
 use Rattle.tn_sockets.specs.PlainKeys.{key_in, keys_left}
 use Rattle.tn_sockets.specs.declared.escaping.Typed.TheVariants as typed
-use Rattle.tn_sockets.proofs.plain_keys.keys_of.Goals.{in-Key, in-Command, in-Control, in-Nothing}
 use Rattle.tn_sockets.proofs.plain_keys.keys_of.Goals as goal
 
 pub loop-place-init : goal.loop-place-init

@@ -1,5 +1,4 @@
-use Rattle.std.proofs.Common.{◌≡◌, arith, take, drop, length, ◌-◌, length-drop}
-use Rattle.std.proofs.Math.Seq.{take-add}
+use Rattle.std.proofs.{Common.{◌≡◌, arith, take, drop, length, ◌-◌, length-drop}, Math.Seq.take-add}
 use Rattle.tn_sockets.proofs.Writing.{stops_at, stops_now, writes_all}
 use Rattle.tn_streams.proofs.lemmas.Writing.{appends_more, open_more, appends_kept, take_all, ok_writes}
 use Rattle.tn_sockets.proofs.sending.send_whole.Goals as goal

@@ -1,5 +1,4 @@
-use Rattle.std.proofs.Common.{arith, ap, refl, ◌∙◌}
-use Rattle.std.proofs.lemmas.Result.{IfOk-weaker}
+use Rattle.std.proofs.{Common.{arith, ap, refl, ◌∙◌}, lemmas.Result.IfOk-weaker}
 use Rattle.std.specs.Duration.{as_nanos}
 use Rattle.tn_sockets.specs.Times.{IsTimeText, instant_text}
 use Rattle.tn_sockets.proofs.times.since_1970.Goals as goal

@@ -1,5 +1,4 @@
-use Rattle.std.proofs.Common.{ℕ, true, List, ◌++◌, ap, get_or, arith}
-use Rattle.std.proofs.lemmas.List.{drop_more}
+use Rattle.std.proofs.{Common.{ℕ, true, List, ◌++◌, ap, get_or, arith}, lemmas.List.drop_more}
 use Rattle.tn_sockets.specs.Traces.{timed_lines}
 use Rattle.tn_sockets.proofs.Tracing.{none_left, one_more}
 use Rattle.tn_sockets.proofs.trace_lines.timed.Goals as goal

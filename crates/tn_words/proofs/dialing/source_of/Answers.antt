@@ -1,7 +1,6 @@
 use Rattle.std.proofs.Common.{codes}
 use Rattle.clap.specs.Words.{found_of, rows_of}
-use Rattle.tn_words.proofs.Asking.{lacks_by}
-use Rattle.tn_words.proofs.Given.{given_none, given_some, no_ip}
+use Rattle.tn_words.proofs.{Asking.lacks_by, Given.{given_none, given_some, no_ip}}
 use Rattle.tn_words.proofs.dialing.source_of.Goals as goal
 
 pub returns-in_default-clause-asked : goal.returns-in_default-clause-asked

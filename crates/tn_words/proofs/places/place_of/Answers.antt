@@ -1,7 +1,6 @@
 use Rattle.std.proofs.lemmas.Result.{err_from_is_err_and}
 use Rattle.clap.specs.Words.{found_of, rows_of}
-use Rattle.tn_words.proofs.Asking.{lacks_more}
-use Rattle.tn_words.proofs.Given.{no_port_at}
+use Rattle.tn_words.proofs.{Asking.lacks_more, Given.no_port_at}
 use Rattle.tn_words.proofs.places.place_of.Goals as goal
 
 pub returns-in_err-port-clause-lacks : goal.returns-in_err-port-clause-lacks

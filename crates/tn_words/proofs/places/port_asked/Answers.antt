@@ -1,7 +1,6 @@
 use Rattle.std.proofs.Common.{◌∙◌, ap, sym, option_map}
 use Rattle.clap.specs.Words.{found_of, rows_of}
-use Rattle.tn_words.proofs.Asking.{lacks_by}
-use Rattle.tn_words.proofs.Given.{no_number}
+use Rattle.tn_words.proofs.{Asking.lacks_by, Given.no_number}
 use Rattle.tn_words.proofs.places.port_asked.Goals as goal
 
 pub returns-in-None-clause-lacks : goal.returns-in-None-clause-lacks

@@ -1,5 +1,4 @@
-use Rattle.std.proofs.Common.{◌∙◌, sym, codes, true, false}
-use Rattle.std.proofs.lemmas.Str.Pattern.{starts_text, ends_text}
+use Rattle.std.proofs.{Common.{◌∙◌, sym, codes, true, false}, lemmas.Str.Pattern.{starts_text, ends_text}}
 use Rattle.tn_words.proofs.Addresses.{port_by}
 use Rattle.tn_words.proofs.settings.has_port.Goals as goal
 

@@ -1,7 +1,6 @@
 use Rattle.std.proofs.Common.{codes, ap, sym, ◌∙◌}
 use Rattle.clap.specs.Words.{found_of}
-use Rattle.tn_words.proofs.Asking.{lacks_by}
-use Rattle.tn_words.proofs.Given.{given_none, given_some}
+use Rattle.tn_words.proofs.{Asking.lacks_by, Given.{given_none, given_some}}
 use Rattle.tn_words.specs.Words.{chosen_characters}
 use Rattle.tn_words.proofs.words.characters_of.Goals as goal
 

@@ -1,9 +1,6 @@
-use Rattle.std.proofs.Common.{◌≡◌, ◌∙◌, false, true, sym, ap, is_some, string_bytes}
-use Rattle.std.proofs.lemmas.Result.{err_from_is_err_and}
+use Rattle.std.proofs.{Common.{◌≡◌, ◌∙◌, false, true, sym, ap, is_some, string_bytes}, lemmas.Result.err_from_is_err_and}
 use Rattle.clap.specs.Words.{found_of, rows_of}
-use Rattle.tn_words.proofs.Asking.{lacks_by, lacks_more}
-use Rattle.tn_words.proofs.Given.{has_none}
-use Rattle.tn_words.proofs.Parts.{connect_numbers_asked, connect_numbers_of}
+use Rattle.tn_words.proofs.{Asking.{lacks_by, lacks_more}, Given.has_none, Parts.{connect_numbers_asked, connect_numbers_of}}
 use Rattle.tn_words.proofs.words.connecting.Goals as goal
 
 pub returns-in_default-clause-lacks : goal.returns-in_default-clause-lacks

@@ -1,7 +1,6 @@
 use Rattle.std.proofs.Common.{◌∙◌, ap, sym, subst, is_some, Some}
 use Rattle.clap.specs.Words.{found_of, rows_of}
-use Rattle.tn_words.proofs.Asking.{lacks_by}
-use Rattle.tn_words.proofs.Given.{given_none, given_some, no_path}
+use Rattle.tn_words.proofs.{Asking.lacks_by, Given.{given_none, given_some, no_path}}
 use Rattle.tn_words.specs.Words.{IsPath}
 use Rattle.tn_words.proofs.words.path_of.Goals as goal
 

@@ -1,5 +1,4 @@
-use Rattle.std.proofs.Common.{ap, sym, subst, ◌∙◌, map}
-use Rattle.std.proofs.lemmas.Result.{IfOk-weaker, IfErr-weaker}
+use Rattle.std.proofs.{Common.{ap, sym, subst, ◌∙◌, map}, lemmas.Result.{IfOk-weaker, IfErr-weaker}}
 use Rattle.clap.specs.Words.{App, HasMatchesOf, app_of, fault_of, kind_of, is_simple_and_free}
 use Rattle.tn_words.proofs.Asking.{is_free_tn, refused_by, refuses_lacking, parse_asks}
 use Rattle.tn_words.proofs.words.read_words.Goals as goal

@@ -1,6 +1,5 @@
 use Rattle.std.proofs.Common.{◌∙◌, rules, sym}
-use Rattle.tn_words.proofs.Asking.{lacks_by}
-use Rattle.tn_words.proofs.Given.{has_none}
+use Rattle.tn_words.proofs.{Asking.lacks_by, Given.has_none}
 use Rattle.tn_words.proofs.words.serve_choices.Goals as goal
 
 pub returns-in_default-clause-lacks : goal.returns-in_default-clause-lacks

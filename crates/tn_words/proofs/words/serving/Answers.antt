@@ -1,8 +1,6 @@
-use Rattle.std.proofs.Common.{◌∙◌, sym, ap, Some, codes}
-use Rattle.std.proofs.lemmas.Result.{err_from_is_err_and}
+use Rattle.std.proofs.{Common.{◌∙◌, sym, ap, Some, codes}, lemmas.Result.err_from_is_err_and}
 use Rattle.clap.specs.Words.{found_of, rows_of}
-use Rattle.tn_words.proofs.Asking.{lacks_by, lacks_more}
-use Rattle.tn_words.proofs.Given.{given_none, given_some, has_none}
+use Rattle.tn_words.proofs.{Asking.{lacks_by, lacks_more}, Given.{given_none, given_some, has_none}}
 use Rattle.tn_words.proofs.Parts.{choices_asked, choices_of, serve_numbers_asked, serve_numbers_of}
 use Rattle.tn_words.proofs.words.serving.Goals as goal
 

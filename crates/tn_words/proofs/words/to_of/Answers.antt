@@ -1,8 +1,7 @@
 use Rattle.std.proofs.Common.{ap, subst, is_some, IfSome, Ok, codes, string_bytes}
 use Rattle.clap.specs.Words.{found_of, rows_of}
 use Rattle.tn_words.specs.Addresses.{WritesAddress}
-use Rattle.tn_words.proofs.Asking.{lacks_by}
-use Rattle.tn_words.proofs.Given.{given_none, given_some, no_address}
+use Rattle.tn_words.proofs.{Asking.lacks_by, Given.{given_none, given_some, no_address}}
 use Rattle.tn_words.proofs.words.to_of.Goals as goal
 
 pub returns-in_default-clause-asked : goal.returns-in_default-clause-asked

@@ -6,14 +6,12 @@ use denote.RawPtr.{Ptr}
 use denote.Struct.Struct.{exits_of}
 use denote.Struct.Owning.{shape, fields, to}
 use denote.Param.Send.{IsSend, AllSend, Quiet, owning_send, struct_send, sendable}
-use Rattle.std.specs.Prelude.{Option, Some, None}
-use Rattle.std.specs.Global.{Global}
+use Rattle.std.specs.{Prelude.{Option, Some, None}, Global.Global}
 use Rattle.std.proofs.Crossing as heap
 use Rattle.std.proofs.alloc.Global.TheSendSync as allocator
-use Rattle.tn_c.specs.Owning.{handle_owns}
+use Rattle.tn_c.specs.{Owning.handle_owns, contracts.handle.Handle.{the_row, the_type}}
 use Rattle.tn_c.specs.contracts.held.Held as Held
 use Rattle.tn_c.proofs.held.Held.TheSendSync.{the_send as held}
-use Rattle.tn_c.specs.contracts.handle.Handle.{the_row, the_type}
 
 quiet : {D X : Type 0} (to : D → X) (e : Exit X) → Quiet e → Quiet (hidden (under to e))
 quiet to unchanged q = λ x w. tt

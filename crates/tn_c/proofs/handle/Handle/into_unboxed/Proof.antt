@@ -31,18 +31,13 @@ use denote.Triple.Spec.{triple_of}
 use denote.Triple.Table.{entered}
 use denote.Triple.Walked.{says, Stays, stay_dropped, walk_of, ends_at, Goes-dropped, walk_Meets}
 use lib.Dec.{lit<}
-use Rattle.std.specs.Prelude.{Option, None, Some}
+use Rattle.std.specs.{Prelude.{Option, None, Some}, contracts.impls.GlobalAllocator.TheImpl.ghosts}
 use Rattle.std.specs.contracts.alloc.Global as Heap
-use Rattle.std.proofs.GlobalToken.{dealloc_token-Testable}
-use Rattle.std.proofs.ResultValues.{and_tt}
-use Rattle.std.proofs.option.Made.{Some-of, none_of}
-use Rattle.std.proofs.alloc.Calls.{token, handle_tells}
-use Rattle.std.proofs.BoxSteps.Form.{D, B, P, τ, owning, word, box_typed}
-use Rattle.std.proofs.BoxSteps.Steps.{box_out, box_in}
+use Rattle.std.proofs.{GlobalToken.dealloc_token-Testable, ResultValues.and_tt, option.Made.{Some-of, none_of}, alloc.Calls.{token, handle_tells}}
+use Rattle.std.proofs.BoxSteps.{Form.{D, B, P, τ, owning, word, box_typed}, Steps.{box_out, box_in}}
 use Rattle.tn_c.specs.contracts.held.Held as State
 use Rattle.tn_c.specs.contracts.handle.Handle as Handle
 use Rattle.tn_c.specs.contracts.unboxed.Unboxed as Unboxed
-use Rattle.std.specs.contracts.impls.GlobalAllocator.TheImpl.{ghosts}
 use Rattle.tn_c.proofs.AsBox.{E, FromHandle as From, opt_cases}
 use Rattle.tn_c.specs.contracts.handle.Handle.into_unboxed as F
 use Rattle.tn_c.specs.contracts.handle.Handle.into_unboxed.Key.{name as #self}

@@ -33,17 +33,14 @@ use denote.Triple.Spec.{triple_of}
 use denote.Triple.Statement.{Triple, Contract}
 use denote.Triple.Table.{entered}
 use denote.Triple.Walked.{says, Stays, stay_dropped, walk_of, ends_at, walk_Meets}
-use Rattle.std.proofs.alloc.Calls.{token, Goes-blank}
+use Rattle.std.proofs.{alloc.Calls.{token, Goes-blank}, BoxSteps.{Form.{Bx, D, R, P, B, args, box_ty, word, box_typed}, Steps.{box_out, box_in}}}
 use Rattle.std.specs.Box.Ownership.{box_owns}
-use Rattle.std.proofs.BoxSteps.Form.{Bx, D, R, P, B, args, box_ty, word, box_typed}
-use Rattle.std.proofs.BoxSteps.Steps.{box_out, box_in}
 use Rattle.std.specs.contracts.boxed.Box.from_raw as callee
 use Rattle.std.proofs.boxed.Box.from_raw.Symbol as symbol
 use Rattle.std.proofs.boxed.Box.from_raw.Met as callee_met
-use Rattle.tn_c.proofs.Unboxing.{Parts}
+use Rattle.tn_c.proofs.{Unboxing.Parts, unboxed.Unboxed.into_box.Statement.statement}
 use Rattle.tn_c.specs.contracts.unboxed.Unboxed.into_box as F
 use Rattle.tn_c.specs.contracts.unboxed.Unboxed.into_box.Key.{name as #self}
-use Rattle.tn_c.proofs.unboxed.Unboxed.into_box.Statement.{statement}
 use Rattle.tn_c.proofs.unboxed.Unboxed.into_box.Code as code
 
 -- what runs once `from_raw` has returned

@@ -35,17 +35,14 @@ use denote.Triple.Spec.{triple_of}
 use denote.Triple.Statement.{Triple, Contract}
 use denote.Triple.Table.{entered}
 use denote.Triple.Walked.{says, Stays, stay_dropped, walk_of, ends_at, walk_Meets}
-use Rattle.std.proofs.alloc.Calls.{token, handle_tells, Goes-blank}
+use Rattle.std.proofs.{alloc.Calls.{token, handle_tells, Goes-blank}, BoxSteps.{Form.{Bx, τ, R, P, B, word, box_typed}, Steps.{box_out, box_in}}}
 use Rattle.std.specs.Box.Ownership.{box_owns}
-use Rattle.std.proofs.BoxSteps.Form.{Bx, τ, R, P, B, word, box_typed}
-use Rattle.std.proofs.BoxSteps.Steps.{box_out, box_in}
 use Rattle.std.specs.contracts.boxed.Box.into_raw_with_allocator as callee
 use Rattle.std.proofs.boxed.Box.into_raw_with_allocator.Symbol as symbol
 use Rattle.std.proofs.boxed.Box.into_raw_with_allocator.Met as callee_met
-use Rattle.tn_c.proofs.Unboxing.{Parts, boxed, parted, dropping}
+use Rattle.tn_c.proofs.{Unboxing.{Parts, boxed, parted, dropping}, unboxed.Unboxed.of_box.Statement.statement}
 use Rattle.tn_c.specs.contracts.unboxed.Unboxed.of_box as F
 use Rattle.tn_c.specs.contracts.unboxed.Unboxed.of_box.Key.{name as #self}
-use Rattle.tn_c.proofs.unboxed.Unboxed.of_box.Statement.{statement}
 use Rattle.tn_c.proofs.unboxed.Unboxed.of_box.Code as code
 
 module _ (E : Bx) (glue : Dict) where

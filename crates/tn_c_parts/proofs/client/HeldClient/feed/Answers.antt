@@ -1,5 +1,4 @@
-use Rattle.tn_client.specs.Calls.{call_fault}
-use Rattle.tn_client.specs.declared.faults.ClientFault.TheVariants.{Failed, Memory}
+use Rattle.tn_client.specs.{Calls.call_fault, declared.faults.ClientFault.TheVariants.{Failed, Memory}}
 use Rattle.tn_c_parts.proofs.Refusing.{when_done, unless_done, for_fault, as_caused}
 use Rattle.tn_c_parts.proofs.client.HeldClient.feed.Goals as goal
 

@@ -1,5 +1,4 @@
-use Rattle.tn_client.specs.Events.{entered}
-use Rattle.tn_client.specs.declared.faults.ClientFault.TheVariants.{Memory}
+use Rattle.tn_client.specs.{Events.entered, declared.faults.ClientFault.TheVariants.Memory}
 use Rattle.tn_c_parts.proofs.Refusing.{when_done, for_fault, key_acts}
 use Rattle.tn_c_parts.proofs.client.HeldClient.new_line.Goals as goal
 

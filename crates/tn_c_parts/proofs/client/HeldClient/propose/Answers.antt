@@ -1,7 +1,5 @@
 use Rattle.std.proofs.Common.{refl}
-use Rattle.tn_client.specs.Calls.{End, propose_fault}
-use Rattle.tn_client.specs.Events.{proposed}
-use Rattle.tn_client.specs.declared.faults.ClientFault.TheVariants.{Memory}
+use Rattle.tn_client.specs.{Calls.{End, propose_fault}, Events.proposed, declared.faults.ClientFault.TheVariants.Memory}
 use Rattle.tn_c_parts.proofs.Refusing.{for_fault, call_acts, never_unknown}
 use Rattle.tn_c_parts.proofs.client.HeldClient.propose.Goals as goal
 

@@ -1,6 +1,5 @@
 use Rattle.std.proofs.Common.{ℕ, Option, subst}
-use Rattle.tn_c_parts.specs.ClientCalls.{ProposeCall}
-use Rattle.tn_c_parts.specs.Readings.{char_given}
+use Rattle.tn_c_parts.specs.{ClientCalls.ProposeCall, Readings.char_given}
 use Rattle.tn_c_parts.proofs.Refusing.{of_found}
 use Rattle.tn_c_parts.proofs.client.HeldClient.propose_function.Goals as goal
 

@@ -1,7 +1,5 @@
 use Rattle.std.proofs.Common.{refl}
-use Rattle.tn_client.specs.Calls.{call_fault}
-use Rattle.tn_client.specs.Events.{resized}
-use Rattle.tn_client.specs.declared.faults.ClientFault.TheVariants.{Memory}
+use Rattle.tn_client.specs.{Calls.call_fault, Events.resized, declared.faults.ClientFault.TheVariants.Memory}
 use Rattle.tn_c_parts.proofs.Refusing.{for_fault, call_acts}
 use Rattle.tn_c_parts.proofs.client.HeldClient.resize.Goals as goal
 

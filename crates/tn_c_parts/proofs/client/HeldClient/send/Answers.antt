@@ -1,7 +1,5 @@
 use Rattle.std.proofs.Common.{refl}
-use Rattle.tn_client.specs.Calls.{call_fault}
-use Rattle.tn_client.specs.Events.{sent}
-use Rattle.tn_client.specs.declared.faults.ClientFault.TheVariants.{Memory}
+use Rattle.tn_client.specs.{Calls.call_fault, Events.sent, declared.faults.ClientFault.TheVariants.Memory}
 use Rattle.tn_c_parts.proofs.Refusing.{for_fault, call_acts, never_unknown}
 use Rattle.tn_c_parts.proofs.client.HeldClient.send.Goals as goal
 

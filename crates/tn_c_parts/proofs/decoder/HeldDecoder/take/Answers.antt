@@ -1,5 +1,4 @@
-use Rattle.std.proofs.Common.{rules, arith}
-use Rattle.std.proofs.lemmas.Grind.{common_steps}
+use Rattle.std.proofs.{Common.{rules, arith}, lemmas.Grind.common_steps}
 use Rattle.tn_c_parts.proofs.decoder.HeldDecoder.take.Goals as goal
 
 pub returns : goal.returns

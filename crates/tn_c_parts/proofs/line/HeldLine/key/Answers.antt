@@ -1,7 +1,5 @@
 use Rattle.std.proofs.Common.{rules, [], ◌∷◌, inl, refl, subst}
-use Rattle.tn_discipline.specs.Advancing.{DropsExactly}
-use Rattle.tn_discipline.specs.Keys.{roles_of}
-use Rattle.tn_discipline.specs.declared.half_line.Effect.{Effect}
+use Rattle.tn_discipline.specs.{Advancing.DropsExactly, Keys.roles_of, declared.half_line.Effect.Effect}
 use Rattle.tn_c_parts.proofs.line.HeldLine.key.Goals as goal
 
 pub returns-in-Ok : goal.returns-in-Ok

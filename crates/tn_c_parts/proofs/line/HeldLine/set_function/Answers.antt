@@ -1,6 +1,5 @@
 use Rattle.std.proofs.Common.{ℕ, Option, subst}
-use Rattle.tn_c_parts.specs.LineCalls.{SetCharCall}
-use Rattle.tn_c_parts.specs.Readings.{char_given}
+use Rattle.tn_c_parts.specs.{LineCalls.SetCharCall, Readings.char_given}
 use Rattle.tn_c_parts.proofs.Refusing.{of_found}
 use Rattle.tn_c_parts.proofs.line.HeldLine.set_function.Goals as goal
 

@@ -1,6 +1,5 @@
 use Rattle.std.proofs.Common.{ℕ, Option, subst}
-use Rattle.tn_c_parts.specs.ServerCalls.{SetCharCall}
-use Rattle.tn_c_parts.specs.Readings.{char_given}
+use Rattle.tn_c_parts.specs.{ServerCalls.SetCharCall, Readings.char_given}
 use Rattle.tn_c_parts.proofs.Refusing.{of_found}
 use Rattle.tn_c_parts.proofs.server.HeldServer.set_function.Goals as goal
 

@@ -1,7 +1,5 @@
-use Rattle.std.proofs.Common.{◌≡◌, ◌<◌, ℕ, zero, suc, ◌-◌, length, drop, refl, arith}
-use Rattle.std.proofs.lemmas.List.{length-drop, length-take}
-use Rattle.tn_cli.proofs.Items.{types_nothing}
-use Rattle.tn_cli.proofs.Keys.{types_front}
+use Rattle.std.proofs.{Common.{◌≡◌, ◌<◌, ℕ, zero, suc, ◌-◌, length, drop, refl, arith}, lemmas.List.{length-drop, length-take}}
+use Rattle.tn_cli.proofs.{Items.types_nothing, Keys.types_front}
 use Rattle.tn_cli.proofs.typing.Typing.fill.Goals as goal
 
 some_of : (n : ℕ) → (n ≡ 0 → ⊥) → 0 < n

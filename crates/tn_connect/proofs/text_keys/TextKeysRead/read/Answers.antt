@@ -15,6 +15,6 @@ returns-then-came-eq0-clause-bytes g c =
     let is : c.args.self.now.is_text ≡ true = search rules in
     rw is (
       keys_consumed keys keys old new (take c.in_ok-came.came c.read-2.new.buf) [] got.0
-      (λ rest. ap (λ (k : ℕ). keys (take k c.read-2.new.buf ++ rest)) (sym c.if-came-eq0.true)),
+          (λ rest. ap (λ (k : ℕ). keys (take k c.read-2.new.buf ++ rest)) (sym c.if-came-eq0.true)),
       λ zero some. at_end keys new (no_text self.after_return) (got.1 c.if-came-eq0.true (search rules)),
     )

@@ -1,8 +1,6 @@
 use Rattle.std.proofs.Common.{None, refl, subst}
-use Rattle.tn_lines_client.proofs.Ending.{at_end, failed, none_left, reads_more, reads_none, writes_more, writes_none}
-use Rattle.tn_lines_client.proofs.Going.{begun}
-use Rattle.tn_lines_client.specs.Ending.{LeavesBy}
-use Rattle.tn_lines_client.specs.Logs.{bytes_in}
+use Rattle.tn_lines_client.proofs.{Ending.{at_end, failed, none_left, reads_more, reads_none, writes_more, writes_none}, Going.begun}
+use Rattle.tn_lines_client.specs.{Ending.LeavesBy, Logs.bytes_in}
 use Rattle.tn_lines_client.proofs.talk.Talk.run.Goals as goal
 
 pub returns-in-Some-2-clause-goes_on : goal.returns-in-Some-2-clause-goes_on

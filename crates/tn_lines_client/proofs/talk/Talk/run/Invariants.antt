@@ -1,7 +1,6 @@
 use Rattle.std.proofs.Common.{None, false}
 use Rattle.tn_lines.specs.Kinds.{Kind}
-use Rattle.tn_lines_client.specs.Ending.{LeavesBy, ReadsFail, WritesFail}
-use Rattle.tn_lines_client.specs.Talking.{Begins, GoesOn, streams}
+use Rattle.tn_lines_client.specs.{Ending.{LeavesBy, ReadsFail, WritesFail}, Talking.{Begins, GoesOn, streams}}
 use Rattle.tn_lines_client.proofs.talk.Talk.run.Given as goal
 
 -- the talk went on from where it began, and its user has not left

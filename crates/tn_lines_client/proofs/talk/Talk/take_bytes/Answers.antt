@@ -1,6 +1,5 @@
 use Rattle.std.proofs.Common.{refl}
-use Rattle.tn_lines_client.proofs.Going.{kept_more, bytes_more}
-use Rattle.tn_lines_client.proofs.Writing.{reads_zero}
+use Rattle.tn_lines_client.proofs.{Going.{kept_more, bytes_more}, Writing.reads_zero}
 use Rattle.tn_streams.proofs.lemmas.Writing.{keeps_same}
 use Rattle.tn_lines_client.proofs.talk.Talk.take_bytes.Goals as goal
 

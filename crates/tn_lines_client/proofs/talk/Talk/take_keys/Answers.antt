@@ -1,7 +1,5 @@
-use Rattle.std.proofs.Common.{refl, arith, ◌≤◌, length}
-use Rattle.std.proofs.lemmas.Result.{on_ok_weaker}
-use Rattle.tn_lines_client.proofs.Going.{kept_more, keys_more}
-use Rattle.tn_lines_client.proofs.Writing.{reads_zero}
+use Rattle.std.proofs.{Common.{refl, arith, ◌≤◌, length}, lemmas.Result.on_ok_weaker}
+use Rattle.tn_lines_client.proofs.{Going.{kept_more, keys_more}, Writing.reads_zero}
 use Rattle.tn_streams.proofs.lemmas.Writing.{keeps_same}
 use Rattle.tn_lines_client.proofs.talk.Talk.take_keys.Goals as goal
 

@@ -1,6 +1,5 @@
 use Rattle.std.proofs.Common.{refl}
-use Rattle.tn_lines_client.proofs.Going.{kept_more, told_more}
-use Rattle.tn_lines_client.proofs.Writing.{appends_zero}
+use Rattle.tn_lines_client.proofs.{Going.{kept_more, told_more}, Writing.appends_zero}
 use Rattle.tn_streams.proofs.lemmas.Writing.{keeps_same}
 use Rattle.tn_lines_client.proofs.talk.Talk.tell.Goals as goal
 

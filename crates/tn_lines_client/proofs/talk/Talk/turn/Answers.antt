@@ -1,6 +1,5 @@
 use Rattle.std.proofs.Common.{refl, true}
-use Rattle.tn_lines_client.proofs.Ending.{by_asking, by_bytes, by_keys, by_room, writes_none}
-use Rattle.tn_lines_client.proofs.Going.{waited}
+use Rattle.tn_lines_client.proofs.{Ending.{by_asking, by_bytes, by_keys, by_room, writes_none}, Going.waited}
 use Rattle.tn_lines_client.proofs.talk.Talk.turn.Goals as goal
 
 pub returns-in_ok-take_keys-in-Keys-clause-goes_on : goal.returns-in_ok-take_keys-in-Keys-clause-goes_on

@@ -1,11 +1,7 @@
 use Rattle.std.proofs.Common.{◌≡◌, ◌<◌, ℕ, arith, inl, subst, vec_items}
-use Rattle.tn_serve.proofs.Counting.{one_whole, one_faulted, whole_none, whole_one}
-use Rattle.tn_serve.specs.Ends.{whole_of}
-use Rattle.tn_serve.proofs.Hearing.{one_joined}
-use Rattle.tn_serve.specs.Counted.{Joined, facts_of, server_of}
-use Rattle.tn_serve.specs.Servers.{IsPromised}
-use Rattle.tn_serve.specs.declared.settings.SessionOptions.{SessionOptions}
+use Rattle.tn_serve.proofs.{Counting.{one_whole, one_faulted, whole_none, whole_one}, Hearing.one_joined}
 use Rattle.tn_serve.proofs.running.Running.join_at.Goals.{then-is_whole, else-is_whole}
+use Rattle.tn_serve.specs.{Ends.whole_of, Counted.{Joined, facts_of, server_of}, Servers.IsPromised, declared.settings.SessionOptions.SessionOptions}
 use Rattle.tn_serve.proofs.running.Running.join_at.Goals as goal
 
 pub returns-clause-ended : goal.returns-clause-ended

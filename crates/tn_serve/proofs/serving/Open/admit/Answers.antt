@@ -1,9 +1,7 @@
 use Rattle.std.proofs.Common.{ap, inr, subst, sym, vec_items, ◌∙◌}
 use Rattle.tn_roster.specs.Held.{Held}
-use Rattle.tn_serve.proofs.Hearing.{none_counted}
-use Rattle.tn_serve.proofs.Holding.{entered, no_place}
-use Rattle.tn_serve.specs.Counted.{HasEnded, facts_of, server_of}
-use Rattle.tn_serve.specs.Places.{AreHeld}
+use Rattle.tn_serve.proofs.{Hearing.none_counted, Holding.{entered, no_place}}
+use Rattle.tn_serve.specs.{Counted.{HasEnded, facts_of, server_of}, Places.AreHeld}
 use Rattle.tn_serve.proofs.serving.Open.admit.Goals as goal
 
 pub returns-in_default-clause-held : goal.returns-in_default-clause-held

@@ -1,8 +1,6 @@
 use Rattle.std.proofs.Common.{arith, vec_items, ◌∙◌}
-use Rattle.tn_serve.proofs.Hearing.{session_ended}
-use Rattle.tn_serve.proofs.Holding.{beside, has_left, is_joined}
-use Rattle.tn_serve.specs.Counted.{HasEnded, facts_of, server_of}
-use Rattle.tn_serve.specs.Turns.{live_of}
+use Rattle.tn_serve.proofs.{Hearing.session_ended, Holding.{beside, has_left, is_joined}}
+use Rattle.tn_serve.specs.{Counted.{HasEnded, facts_of, server_of}, Turns.live_of}
 use Rattle.tn_serve.proofs.serving.Open.end_at.Goals as goal
 
 pub returns-clause-heard : goal.returns-clause-heard

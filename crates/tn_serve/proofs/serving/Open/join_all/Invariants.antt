@@ -1,6 +1,5 @@
 use Rattle.std.proofs.Common.{◌≡◌, vec_items, vec_len}
-use Rattle.tn_serve.specs.Counted.{HasEnded, StillCounts, facts_of, server_of}
-use Rattle.tn_serve.specs.Turns.{StillHears, live_of}
+use Rattle.tn_serve.specs.{Counted.{HasEnded, StillCounts, facts_of, server_of}, Turns.{StillHears, live_of}}
 use Rattle.tn_serve.proofs.serving.Open.join_all.Given as goal
 
 abbrev pub invariant-loop-self : goal.invariant-loop-self

@@ -1,9 +1,6 @@
 use Rattle.std.proofs.Common.{ℕ, subst, sym, vec_items, ◌∙◌}
-use Rattle.tn_serve.proofs.Counting.{counts_from_none}
-use Rattle.tn_serve.proofs.Hearing.{hears_all}
-use Rattle.tn_serve.proofs.Holding.{none_held}
-use Rattle.tn_serve.specs.Counted.{HasEnded, facts_of, server_of}
-use Rattle.tn_serve.specs.Turns.{HearsAll}
+use Rattle.tn_serve.proofs.{Counting.counts_from_none, Hearing.hears_all, Holding.none_held}
+use Rattle.tn_serve.specs.{Counted.{HasEnded, facts_of, server_of}, Turns.HearsAll}
 use Rattle.tn_serve.proofs.serving.Open.run.Goals as goal
 
 pub returns-clause-each : goal.returns-clause-each

@@ -1,8 +1,5 @@
 use Rattle.std.proofs.Common.{◌≡◌, vec_items}
-use Rattle.tn_serve.specs.Counted.{HasEnded, StillCounts, facts_of, server_of}
-use Rattle.tn_serve.specs.Places.{AreHeld}
-use Rattle.tn_serve.specs.Services.{StillMakes}
-use Rattle.tn_serve.specs.Turns.{StillHears, live_of}
+use Rattle.tn_serve.specs.{Counted.{HasEnded, StillCounts, facts_of, server_of}, Places.AreHeld, Services.StillMakes, Turns.{StillHears, live_of}}
 use Rattle.tn_serve.proofs.serving.Open.serve_all.Given as goal
 
 abbrev pub invariant-loop : goal.invariant-loop

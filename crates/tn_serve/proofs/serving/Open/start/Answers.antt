@@ -1,8 +1,6 @@
 use Rattle.std.proofs.Common.{ℕ, ap, inr, subst, sym, ◌∙◌}
 use Rattle.tn_serve.proofs.Hearing.{jobs_made, jobs_refused, made_and_ended, not_asked, session_ended}
-use Rattle.tn_serve.specs.Counted.{HasEnded, facts_of, server_of}
-use Rattle.tn_serve.specs.Ends.{whole_of}
-use Rattle.tn_serve.specs.Turns.{HearsOfJobs, HearsOfNone}
+use Rattle.tn_serve.specs.{Counted.{HasEnded, facts_of, server_of}, Ends.whole_of, Turns.{HearsOfJobs, HearsOfNone}}
 use Rattle.tn_serve.proofs.serving.Open.start.Goals as goal
 
 pub returns-in_default-clause-none : goal.returns-in_default-clause-none

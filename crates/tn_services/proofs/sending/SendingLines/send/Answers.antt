@@ -1,8 +1,6 @@
 use Rattle.std.proofs.Common.{◌≡◌, ◌∙◌, Bool, List, ℕ, subst}
-use Rattle.tn_services.specs.Sending.{WritesBytes, way_after}
-use Rattle.tn_services.specs.declared.sending.Way.{Way}
-use Rattle.tn_streams.specs.Known.{KnownWriting}
-use Rattle.tn_streams.specs.Writing.{Writes, Tells}
+use Rattle.tn_services.specs.{Sending.{WritesBytes, way_after}, declared.sending.Way.Way}
+use Rattle.tn_streams.specs.{Known.KnownWriting, Writing.{Writes, Tells}}
 use Rattle.tn_services.proofs.sending.SendingLines.send.Goals as goal
 
 -- what was written is these bytes

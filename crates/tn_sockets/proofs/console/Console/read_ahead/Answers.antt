@@ -1,9 +1,6 @@
 use Rattle.std.proofs.Common.{[], ◌++◌, ap, List}
-use Rattle.tn_sockets.proofs.Giving.{kept_as, kept_only}
-use Rattle.tn_sockets.proofs.Passing.{keeps_same}
-use Rattle.tn_sockets.specs.Passing.{handed_on}
-use Rattle.tn_sockets.specs.declared.escaping.SessionInput.{SessionInput}
-use Rattle.tn_sockets.proofs.console.Console.read_ahead.Goals.{then-makes_room+in_ok-more, else-makes_room}
+use Rattle.tn_sockets.proofs.{Giving.{kept_as, kept_only}, Passing.keeps_same, console.Console.read_ahead.Goals.{then-makes_room+in_ok-more, else-makes_room}}
+use Rattle.tn_sockets.specs.{Passing.handed_on, declared.escaping.SessionInput.SessionInput}
 use Rattle.tn_sockets.proofs.console.Console.read_ahead.Goals as goal
 
 pub returns-clause-inputs : goal.returns-clause-inputs

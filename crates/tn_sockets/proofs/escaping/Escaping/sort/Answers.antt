@@ -1,11 +1,10 @@
 use Rattle.std.proofs.Common.{◌≡◌, true, [], ◌∷◌, is_ok, refl, ap, inr, sym, ◌∙◌, append-nil, arith, take}
 use Rattle.std.specs.VecDeque.{deque_len}
 use Rattle.tn_sockets.proofs.Sorting.{none_yet, obeys_more, one_more, commands_with, pushed, pushed_len}
-use Rattle.tn_sockets.specs.declared.escaping.EscapeCommand.TheVariants.{Close}
+use Rattle.tn_sockets.proofs.escaping.Escaping.sort.Goals.{in-Key, in-Control, in-Command, in-Nothing}
+use Rattle.tn_sockets.specs.{declared.escaping.EscapeCommand.TheVariants.Close, Typing.commands}
 use Rattle.tn_sockets.specs.declared.escaping.SessionInput.TheVariants as input
 use Rattle.tn_sockets.specs.declared.escaping.Typed.TheVariants as typed
-use Rattle.tn_sockets.specs.Typing.{commands}
-use Rattle.tn_sockets.proofs.escaping.Escaping.sort.Goals.{in-Key, in-Control, in-Command, in-Nothing}
 use Rattle.tn_sockets.proofs.escaping.Escaping.sort.Goals as goal
 
 pub loop-place-init : goal.loop-place-init

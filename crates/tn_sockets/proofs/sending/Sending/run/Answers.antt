@@ -2,8 +2,7 @@ use Rattle.std.proofs.Common.{ap, refl, ◌∙◌}
 use Rattle.crossbeam_channel.specs.Claims.{view}
 use Rattle.tn_queue.specs.Queue.{taken_more}
 use Rattle.tn_sockets.specs.Queue.{Piece}
-use Rattle.tn_sockets.proofs.Queued.{all_ended, all_more, broken, discarded, end_written}
-use Rattle.tn_sockets.proofs.Writing.{open_finished, open_sent}
+use Rattle.tn_sockets.proofs.{Queued.{all_ended, all_more, broken, discarded, end_written}, Writing.{open_finished, open_sent}}
 use Rattle.tn_sockets.proofs.sending.Sending.run.Goals as goal
 
 pub returns-then-not-is_given_up-clause-sent : goal.returns-then-not-is_given_up-clause-sent

@@ -1,6 +1,5 @@
-use Rattle.tn_sockets.proofs.Stamping.{passes}
+use Rattle.tn_sockets.proofs.{Stamping.passes, trace.Sides.pass.Goals.{in-Came+in_ok-text-in-Came, in-Went+in_ok-text-in-Went}}
 use Rattle.tn_sockets.proofs.trace.Sides.pass.Goals as goal
-use Rattle.tn_sockets.proofs.trace.Sides.pass.Goals.{in-Came+in_ok-text-in-Came, in-Went+in_ok-text-in-Went}
 
 pub returns-clause-came : goal.returns-clause-came
 returns-clause-came g c is = elim c.match-direction.branch [

@@ -1,6 +1,5 @@
 use Rattle.std.proofs.Common.{◌≡◌, ◌∙◌, ℕ, ◌<◌, List, length, get_or, codes, sym, ap, subst, arith, refl}
-use Rattle.tn_words.specs.Escapes.{IsControlOf, WritesEscape}
-use Rattle.tn_words.specs.declared.settings.Escape.{Escape}
+use Rattle.tn_words.specs.{Escapes.{IsControlOf, WritesEscape}, declared.settings.Escape.Escape}
 use Rattle.tn_words.specs.declared.settings.Escape.TheVariants as escape
 use Rattle.tn_words.proofs.settings.Escape.from_text.Goals as goal
 
