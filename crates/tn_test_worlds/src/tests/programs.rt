@@ -43,47 +43,47 @@ const ASKED: &[(&str, &str)] = &[
     ("tn world", "World"),
     (
         "tn serve --port 2323",
-        "Serve(ServeWords { host: \"127.0.0.1\", port: 2323, sessions: 8, per_host: 64, count: Some(1), \
-         until: None, ticks: 0, line_limit: Limit { bytes: 255 }, idle: 0, longest: 0, drain: 5, dial: 10, proxied: false, \
-         local: false, verbose: false, logfmt: false, metrics: None, to: None, line_end: Lf, ends_cut: false, sends_signals: false })",
+        "Serve(ServeWords { host: \"127.0.0.1\", socket: Socket { port: 2323, handed: None }, sessions: 8, per_host: None, count: Some(1), \
+         until: None, ticks: 0, line_limit: Limit { bytes: 255 }, idle: None, longest: 0, drain: 5, dial: 10, proxied: false, \
+         local: false, verbose: false, logfmt: false, metrics: None, banner: None, to: None, line_end: Lf, ends_cut: false, sends_signals: false })",
     ),
     (
         "tn serve --limit=64 --count 1000000 --ticks=1000 --host ::1 --line 4095 --idle 86400 \
          --until /run/end --drain 86400 --dial 1 --proxy --per-host 2 --longest=3600 --local --verbose --notes logfmt --metrics /m --port=2323 --to [::1]:7 --crlf \
          --line-cut end --signals send",
-        "Serve(ServeWords { host: \"::1\", port: 2323, sessions: 64, per_host: 2, count: Some(1000000), \
-         until: Some(\"/run/end\"), ticks: 1000, line_limit: Limit { bytes: 4095 }, idle: 86400, \
-         longest: 3600, drain: 86400, dial: 1, proxied: true, local: true, verbose: true, logfmt: true, metrics: Some(\"/m\"), to: Some(Address { host: \"::1\", port: 7 }), \
+        "Serve(ServeWords { host: \"::1\", socket: Socket { port: 2323, handed: None }, sessions: 64, per_host: Some(2), count: Some(1000000), \
+         until: Some(\"/run/end\"), ticks: 1000, line_limit: Limit { bytes: 4095 }, idle: Some(86400), \
+         longest: 3600, drain: 86400, dial: 1, proxied: true, local: true, verbose: true, logfmt: true, metrics: Some(\"/m\"), banner: None, to: Some(Address { host: \"::1\", port: 7 }), \
          line_end: CrLf, ends_cut: true, sends_signals: true })",
     ),
     (
         "tn serve --forever -p 7 --cr --to h:7 --line-cut=send",
-        "Serve(ServeWords { host: \"127.0.0.1\", port: 7, sessions: 8, per_host: 64, count: None, \
-         until: None, ticks: 0, line_limit: Limit { bytes: 255 }, idle: 0, longest: 0, drain: 5, dial: 10, proxied: false, \
-         local: false, verbose: false, logfmt: false, metrics: None, to: Some(Address { host: \"h\", port: 7 }), line_end: Cr, ends_cut: false, sends_signals: false })",
+        "Serve(ServeWords { host: \"127.0.0.1\", socket: Socket { port: 7, handed: None }, sessions: 8, per_host: None, count: None, \
+         until: None, ticks: 0, line_limit: Limit { bytes: 255 }, idle: None, longest: 0, drain: 5, dial: 10, proxied: false, \
+         local: false, verbose: false, logfmt: false, metrics: None, banner: None, to: Some(Address { host: \"h\", port: 7 }), line_end: Cr, ends_cut: false, sends_signals: false })",
     ),
     (
         "tn connect -p7 --width 65535 --height 0 --escape ^a -q 86400 -w 7 --timeout 5 -6 --bind ::1 --log l --quiet --keys standard --return crlf",
         "Connect(ConnectWords { host: \"127.0.0.1\", port: Number(7), width: Some(65535), height: Some(0), \
-         line_limit: Limit { bytes: 255 }, escape: Key(1), characters: Standard, returns: CrLf, trace: None, log: Some(\"l\"), wait: 86400, patience: 7, dialing: Dialing { family: Some(Ipv6), source: Some(::1), seconds: 5 }, \
+         line_limit: Limit { bytes: 255 }, escape: Key(1), characters: Standard, returns: CrLf, trace: None, log: Some(\"l\"), log_times: false, text: false, wait: 86400, patience: 7, dialing: Dialing { family: Some(Ipv6), source: Some(::1), seconds: 5 }, \
          quiet: true, plain: None })",
     ),
     (
         "tn connect example.org",
         "Connect(ConnectWords { host: \"example.org\", port: Number(23), width: None, height: None, \
-         line_limit: Limit { bytes: 255 }, escape: Key(29), characters: Own, returns: CrNul, trace: None, log: None, wait: 0, patience: 0, dialing: Dialing { family: None, source: None, seconds: 0 }, \
+         line_limit: Limit { bytes: 255 }, escape: Key(29), characters: Own, returns: CrNul, trace: None, log: None, log_times: false, text: false, wait: 0, patience: 0, dialing: Dialing { family: None, source: None, seconds: 0 }, \
          quiet: false, plain: None })",
     ),
     (
         "tn connect --escape none --port 7 ::1 --trace a/b",
         "Connect(ConnectWords { host: \"::1\", port: Number(7), width: None, height: None, \
-         line_limit: Limit { bytes: 255 }, escape: None, characters: Own, returns: CrNul, trace: Some(\"a/b\"), log: None, wait: 0, patience: 0, dialing: Dialing { family: None, source: None, seconds: 0 }, \
+         line_limit: Limit { bytes: 255 }, escape: None, characters: Own, returns: CrNul, trace: Some(\"a/b\"), log: None, log_times: false, text: false, wait: 0, patience: 0, dialing: Dialing { family: None, source: None, seconds: 0 }, \
          quiet: false, plain: None })",
     ),
     (
         "tn connect example.org smtp",
         "Connect(ConnectWords { host: \"example.org\", port: Service(\"smtp\"), width: None, height: None, \
-         line_limit: Limit { bytes: 255 }, escape: Key(29), characters: Own, returns: CrNul, trace: None, log: None, wait: 0, patience: 0, dialing: Dialing { family: None, source: None, seconds: 0 }, \
+         line_limit: Limit { bytes: 255 }, escape: Key(29), characters: Own, returns: CrNul, trace: None, log: None, log_times: false, text: false, wait: 0, patience: 0, dialing: Dialing { family: None, source: None, seconds: 0 }, \
          quiet: false, plain: None })",
     ),
     ("tn connect --port 7", AT_PORT_7),
@@ -96,7 +96,7 @@ const ASKED: &[(&str, &str)] = &[
 /// A connection to port 7 of this machine, without any option.
 const AT_PORT_7: &str =
     "Connect(ConnectWords { host: \"127.0.0.1\", port: Number(7), width: None, height: None, \
-     line_limit: Limit { bytes: 255 }, escape: Key(29), characters: Own, returns: CrNul, trace: None, log: None, wait: 0, patience: 0, dialing: Dialing { family: None, source: None, seconds: 0 }, quiet: false, \
+     line_limit: Limit { bytes: 255 }, escape: Key(29), characters: Own, returns: CrNul, trace: None, log: None, log_times: false, text: false, wait: 0, patience: 0, dialing: Dialing { family: None, source: None, seconds: 0 }, quiet: false, \
      plain: None })";
 
 #[test]
@@ -118,7 +118,6 @@ const REFUSED: &[&str] = &[
     "tn serve --port 7 --port 65536",
     "tn serve --port 7 --limit 0",
     "tn serve --port 7 --limit 65",
-    "tn serve --port 7 --per-host 0",
     "tn serve --port 7 --per-host 65",
     "tn serve --port 7 --longest -1",
     "tn serve --port 7 --longest 86401",
