@@ -9,6 +9,7 @@ mod characters;
 mod clients;
 mod codes;
 mod decode;
+mod editors;
 mod faults;
 mod hostile;
 mod jobs;

@@ -1,0 +1,75 @@
+-- The keys of a plain terminal that typed keys become.
+use Rattle.std.specs.Prelude.{◌≡◌, ℕ, ◌-◌, Bool, ◌||◌, ◌==◌, Option, Some, None, List, [], ◌∷◌, ◌++◌, length, replicate}
+use Rattle.std.specs.Prelude.{if◌then◌else◌}
+use Rattle.tn_discipline.specs.{Characters.Characters, Limits.max_counted, declared.keys.Role.Role}
+use Rattle.tn_discipline.specs.declared.keys.Role.TheVariants as role
+use Rattle.tn_editor.specs.{Grouping.{bytes_of, announced, before_word}, declared.edit_keys.EditRole.EditRole}
+use Rattle.tn_editor.specs.EditKeys.{Terminal, edit_role_of_key}
+use Rattle.tn_editor.specs.Edited.{Editing, nothing_typed, line_bytes, is_kept, edited_next}
+use Rattle.tn_editor.specs.declared.edit_keys.EditRole.TheVariants.{Plain, EraseWord, Reprint}
+
+-- how many ERASEs take back the last character; one if there is none
+abbrev pub erases_newest : List (List ℕ) → ℕ
+erases_newest [] = 1
+erases_newest (character ∷ before) = length character
+
+-- the ERASE character, if there is one
+abbrev pub erase_key : Option ℕ → ℕ → ℕ
+erase_key None key = key
+erase_key (Some erase) key = erase
+
+-- which key is typed at the plain terminal in place of this one
+abbrev pub becomes : Characters → EditRole → ℕ → ℕ
+becomes chars EraseWord key = erase_key chars.erase key
+becomes chars _ key = key
+
+module _ (t : Terminal) where
+  -- how many ERASEs take back the last word
+  abbrev pub erases_word : List (List ℕ) → ℕ
+  erases_word characters = length (bytes_of characters) - length (bytes_of (before_word t.keys.words characters))
+
+  -- the plain terminal drops it by itself
+  abbrev pub is_dropped_there : Editing → Bool
+  is_dropped_there e = length (line_bytes e) == max_counted t.canon.limit
+
+  -- how many times a key is typed at the plain terminal
+  abbrev pub times : Editing → EditRole → ℕ
+  times e (Plain (role.Ordinary byte)) = if is_kept t e byte || is_dropped_there e then 1 else 0
+  times e (Plain role.Erase) = erases_newest e.characters
+  times e EraseWord = erases_word e.characters
+  times e Reprint = 0
+  times e (Plain _) = 1
+
+  -- the keys that one typed key becomes
+  abbrev pub expanded_key : Editing → ℕ → List ℕ
+  expanded_key e key = let r = edit_role_of_key t key in replicate (times e r) (becomes t.canon.settings.chars r key)
+
+-- the keys that typed keys become
+abbrev pub expanded_from : Terminal → Editing → List ℕ → List ℕ
+expanded_from t e [] = []
+expanded_from t e (key ∷ keys) = expanded_key t e key ++ expanded_from t (edited_next t e (edit_role_of_key t key)) keys
+
+abbrev pub expanded : Terminal → List ℕ → List ℕ
+expanded t keys = expanded_from t nothing_typed keys
+
+-- the role at the plain terminal of each key that a key of this role becomes
+abbrev pub played : EditRole → Role
+played (Plain r) = r
+played EraseWord = role.Erase
+played Reprint = role.Erase
+
+-- the roles of a key that is typed n times; a carriage return that is dropped has none
+abbrev pub played_times : EditRole → ℕ → List Role
+played_times (Plain role.Ignored) n = []
+played_times r n = replicate n (played r)
+
+-- the roles at the plain terminal of what keys of these roles become
+abbrev pub expanded_roles : Terminal → Editing → List EditRole → List Role
+expanded_roles t e [] = []
+expanded_roles t e (r ∷ roles) = played_times r (times t e r) ++ expanded_roles t (edited_next t e r) roles
+
+-- a key that begins no character of several bytes, and is no editing key
+abbrev pub IsAsBefore : Terminal → EditRole → Type 0
+IsAsBefore t (Plain (role.Ordinary byte)) = announced t.keys.iutf8 byte ≡ 1
+IsAsBefore t (Plain _) = Unit {0}
+IsAsBefore t _ = ⊥

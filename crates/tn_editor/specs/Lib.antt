@@ -1,0 +1,7 @@
+pub mod Grouping
+pub mod EditKeys
+pub mod Edited
+pub mod Expanding
+pub mod EditedLines
+pub mod Following
+pub mod Whole

@@ -1,0 +1,178 @@
+//! The editor, which turns each typed key into keys of a plain terminal.
+
+ghost use Rattle.std.specs.Prelude.{◌≡◌, ℕ, [], IfOk};
+ghost use Rattle.tn_editor.specs.{EditKeys.Terminal, Edited.{Editing, edited_next, no_character}};
+ghost use Rattle.tn_editor.specs.{Expanding.{times, becomes}, Following.{Holds, LeadsTo, GoesOn, Becomes}};
+ghost use Rattle.tn_editor.specs.EditedLines.{is_taken, refused_next, line_next, times_typed, times_erased};
+ghost use Rattle.tn_editor.specs.EditedLines.{begun};
+ghost use Rattle.tn_discipline.specs.declared.keys.Role.TheVariants as role;
+ghost use Rattle.tn_editor.specs.declared.edit_keys.EditRole.TheVariants as edit_role;
+
+use crate::characters::{Character, announced, continues};
+use crate::edit_keys::{EditKeys, EditRole, edit_role};
+use crate::edited_line::EditedLine;
+use std::alloc::{AllocError, Global};
+use tn_codes::Func;
+use tn_discipline::{Chars, Limit, Role, Roles, Settings};
+
+/// A key of the plain terminal, and how many times it is typed there.
+#[derive(Clone, Copy, Debug, PartialEq, Eq)]
+pub struct Presses {
+    pub key: u8,
+    pub count: u16,
+}
+
+/// The editing keys of a user's terminal in front of a plain one.
+#[derive(Drop)]
+pub struct Editor {
+    roles: Roles,
+    keys: EditKeys,
+    line: EditedLine,
+    refused: Character,
+}
+
+impl Editor {
+    /// An editor with an empty line. It makes the room for a whole line once, and wants no memory later.
+    pub fn new(
+        alloc: Global,
+        settings: Settings,
+        keys: EditKeys,
+        limit: Limit,
+    ) -> Result<Editor, AllocError>
+        ensures keys { IfOk result (λ editor. editor.keys ≡ keys) }
+        ensures leads { (t : Terminal) → t.canon.settings ≡ settings → t.keys ≡ keys → t.canon.limit ≡ limit →
+            IfOk result (LeadsTo t []) }
+    {
+        Ok(Editor {
+            roles: Roles::new(alloc, settings)?,
+            keys,
+            line: EditedLine::new(alloc, limit)?,
+            refused: Character::none(),
+        })
+    }
+
+    /// Types a key, and returns what it becomes at the plain terminal. That terminal then gives the entries that
+    /// a terminal with the editing keys gives of the typed keys (`laws::expanded_keys_edit_the_line`).
+    pub fn key(&mut self, key: u8) -> Presses
+        ensures goes_on { GoesOn self.old key self.new }
+        ensures becomes { Becomes self.old key result }
+    {
+        let settings = self.roles.settings();
+        let role = edit_role(&settings.chars, &self.keys, self.roles.role(key));
+        Presses {
+            key: pressed(&settings.chars, role, key),
+            count: self.play(role),
+        }
+    }
+
+    // Types a key of this role, and returns how many times it is typed at the plain terminal.
+    fn play(&mut self, role: EditRole) -> u16
+        ensures sees { (t : Terminal) (e : Editing) → Holds t e self.old → Holds t (edited_next t e role) self.new }
+        ensures count { (t : Terminal) (e : Editing) → Holds t e self.old → result ≡ times t e role }
+    {
+        match role {
+            EditRole::Plain(plain) => self.play_plain(plain),
+            EditRole::EraseWord => self.erase_word(),
+            EditRole::Reprint => 0,
+        }
+    }
+
+    fn play_plain(&mut self, role: Role) -> u16
+        ensures sees { (t : Terminal) (e : Editing) → Holds t e self.old →
+            Holds t (edited_next t e (edit_role.Plain role)) self.new }
+        ensures count { (t : Terminal) (e : Editing) → Holds t e self.old →
+            result ≡ times t e (edit_role.Plain role) }
+    {
+        match role {
+            Role::Ordinary(byte) => self.type_byte(byte),
+            Role::Erase => self.erase(),
+            Role::Ignored | Role::Signal(_) => 1,
+            Role::Nl | Role::Eol(_) | Role::Eol2(_) | Role::Eof | Role::Kill => {
+                self.line.clear();
+                self.refused = Character::none();
+                1
+            }
+        }
+    }
+
+    fn type_byte(&mut self, byte: u8) -> u16
+        ensures roles { self.new.roles ≡ self.old.roles }
+        ensures keys { self.new.keys ≡ self.old.keys }
+        ensures limit { self.new.line.limit ≡ self.old.line.limit }
+        ensures characters { self.new.line.characters ≡ line_next self.old.keys.iutf8 self.old.line self.old.refused byte }
+        ensures refused { self.new.refused ≡ refused_next self.old.keys.iutf8 self.old.line self.old.refused byte }
+        ensures count { result ≡ times_typed self.old.keys.iutf8 self.old.line self.old.refused byte }
+    {
+        let iutf8 = self.keys.iutf8;
+        if self.takes(byte) {
+            self.line.join(iutf8, byte);
+            self.refused = Character::none();
+            return 1;
+        }
+        self.refused = if continues(iutf8, self.refused, byte) {
+            Character {
+                first: self.refused.first,
+                length: self.refused.length + 1,
+            }
+        } else {
+            Character {
+                first: byte,
+                length: 1,
+            }
+        };
+        // At a full line the plain terminal drops the byte by itself, with its bell.
+        u16::from(self.line.bytes() == self.line.limit().bytes() - 1)
+    }
+
+    // Whether there is room for the byte and for the whole character that it begins.
+    fn takes(&self, byte: u8) -> bool
+        ensures { result ≡ is_taken self.now.keys.iutf8 self.now.line self.now.refused byte }
+    {
+        let iutf8 = self.keys.iutf8;
+        let most = self.line.limit().bytes() - 1;
+        let wanted = if continues(iutf8, self.line.newest(), byte) {
+            1
+        } else {
+            announced(iutf8, byte)
+        };
+        let fits = self.line.bytes() + u16::from(wanted) <= most;
+        fits && !continues(iutf8, self.refused, byte)
+    }
+
+    fn erase(&mut self) -> u16
+        ensures sees { (t : Terminal) (e : Editing) → Holds t e self.old →
+            Holds t (edited_next t e (edit_role.Plain role.Erase)) self.new }
+        ensures count { (t : Terminal) (e : Editing) → Holds t e self.old →
+            result ≡ times t e (edit_role.Plain role.Erase) }
+    {
+        let newest = self.line.newest();
+        self.line.take_newest();
+        self.refused = Character::none();
+        if newest.length == 0 {
+            1
+        } else {
+            u16::from(newest.length)
+        }
+    }
+
+    fn erase_word(&mut self) -> u16
+        ensures sees { (t : Terminal) (e : Editing) → Holds t e self.old → Holds t (edited_next t e edit_role.EraseWord) self.new }
+        ensures count { (t : Terminal) (e : Editing) → Holds t e self.old → result ≡ times t e edit_role.EraseWord }
+    {
+        let before = self.line.bytes();
+        self.line.take_while(self.keys.words, true);
+        self.line.take_while(self.keys.words, false);
+        self.refused = Character::none();
+        before.saturating_sub(self.line.bytes())
+    }
+}
+
+// The key that is typed at the plain terminal.
+fn pressed(chars: &Chars, role: EditRole, key: u8) -> u8
+    ensures { result ≡ becomes chars.now role key }
+{
+    match (role, chars.get(Func::Ec)) {
+        (EditRole::EraseWord, Some(erase)) => erase,
+        _ => key,
+    }
+}

@@ -1,0 +1,50 @@
+//! Laws of the definitions.
+
+ghost use Rattle.std.specs.Prelude.{◌≡◌, ℕ, List, All, ◌∷◌};
+ghost use Rattle.tn_discipline.specs.{Canon.{typed_entries, typed_half}, Characters.AreAllowed};
+ghost use Rattle.tn_discipline.specs.Entries.{entries_of, half_of};
+ghost use Rattle.tn_editor.specs.declared.edit_keys.EditRole.{EditRole};
+ghost use Rattle.tn_editor.specs.EditKeys.{Terminal, edit_role_of_key};
+ghost use Rattle.tn_editor.specs.Edited.{Editing, nothing_typed, line_bytes, edited_all, edited_gains, edited_entries, edited_half};
+ghost use Rattle.tn_editor.specs.Whole.{IsCharacter, IsWholeOrNone, bytes_typed};
+ghost use Rattle.tn_editor.specs.Expanding.{expanded, IsAsBefore, expanded_roles};
+
+/// For every list of keys, the keys that they become give at a plain terminal the entries, and leave the half
+/// line, that they give and leave at a terminal with the editing keys.
+pub fn expanded_keys_edit_the_line()
+    ensures entries { (t : Terminal) (keys : List ℕ) → AreAllowed t.canon.settings.chars →
+        typed_entries t.canon (expanded t keys) ≡ edited_entries t keys }
+    ensures half { (t : Terminal) (keys : List ℕ) → AreAllowed t.canon.settings.chars →
+        typed_half t.canon (expanded t keys) ≡ edited_half t keys }
+{}
+
+/// For every list of roles, the roles that they become give at a plain terminal the entries, and leave the half
+/// line, that they give and leave at a terminal with the editing keys. The settings that gave each key its role
+/// may change within a line.
+pub fn expanded_roles_edit_the_line()
+    ensures entries { (t : Terminal) (roles : List EditRole) →
+        entries_of t.canon.limit (expanded_roles t nothing_typed roles) ≡ edited_gains t nothing_typed roles }
+    ensures half { (t : Terminal) (roles : List EditRole) →
+        half_of t.canon.limit (expanded_roles t nothing_typed roles)
+        ≡ line_bytes (edited_all t nothing_typed roles) }
+{}
+
+/// If no editing key is typed, and no character of several bytes, each key becomes itself.
+pub fn other_keys_are_as_before()
+    ensures { (t : Terminal) (keys : List ℕ) →
+        All (λ key. IsAsBefore t (edit_role_of_key t key)) keys → expanded t keys ≡ keys }
+{}
+
+/// If no editing key is typed, and no character of several bytes, a terminal with editing keys gives the entries
+/// of a plain one.
+pub fn without_editing_keys_it_is_plain()
+    ensures { (t : Terminal) (keys : List ℕ) → AreAllowed t.canon.settings.chars →
+        All (λ key. IsAsBefore t (edit_role_of_key t key)) keys →
+        edited_entries t keys ≡ typed_entries t.canon keys }
+{}
+
+/// A character is kept whole, or not at all.
+pub fn a_character_is_kept_whole_or_not_at_all()
+    ensures { (t : Terminal) (e : Editing) (first : ℕ) (more : List ℕ) → IsCharacter t first more →
+        IsWholeOrNone e.characters (first ∷ more) (edited_all t e (bytes_typed (first ∷ more))).characters }
+{}

@@ -1,0 +1,20 @@
+//! The editing keys of a user's terminal in front of a plain one. Each typed key becomes a key of the plain
+//! terminal, typed there not at all, once or several times: ERASE takes back a character of UTF-8, for which a
+//! plain terminal wants an ERASE a byte, WERASE takes back a word, and REPRINT only shows the line.
+//!
+//! ```
+//! let mut editor = Editor::new(alloc, Settings::standard(), edit_keys, Limit::standard())?;
+//! editor.key(0xc3); // the key 0xc3, once
+//! editor.key(0xa9); // the key 0xa9, once
+//! editor.key(0x7f); // the key 0x7f, twice
+//! ```
+#![tactic(auto)]
+
+pub use edit_keys::{EditKeys, EditRole, Words, edit_role};
+pub use editor::{Editor, Presses};
+
+mod characters;
+mod edit_keys;
+mod edited_line;
+mod editor;
+pub mod laws;
