@@ -5,8 +5,9 @@ use Rattle.std.specs.Prelude.{All}
 use Rattle.tn_discipline.specs.Limits.{max_counted}
 use Rattle.tn_discipline.specs.declared.keys.Role.TheVariants as role
 use Rattle.tn_editor.specs.{Grouping.{announced, look, is_between, continues, newest, before_newest, bytes_of, wanted}, EditKeys.{Terminal, edit_role_of_key}}
-use Rattle.tn_editor.specs.Edited.{Editing, no_character, nothing_typed, line_of_characters, line_bytes, is_refused, has_room, is_kept, edited_next}
+use Rattle.tn_editor.specs.Edited.{Editing, no_character, nothing_typed, with_characters, line_bytes, without_last, is_refused, has_room, is_kept, edited_next}
 use Rattle.tn_editor.specs.Expanding.{times, becomes, erases_newest, is_dropped_there, expanded_key, expanded_from, expanded, IsAsBefore}
+use Rattle.tn_editor.proofs.Bytes.{erased_front}
 use Rattle.tn_editor.specs.declared.{characters.Character.Character, edit_keys.EditRole.{EditRole, TheVariants.{Plain, EraseWord, Reprint}}}
 
 -- no byte is one more of this character
@@ -47,13 +48,19 @@ newest_is_whole iutf8 ((b ∷ c ∷ more) ∷ before) h = absurd (not_one (lengt
     not_one : (n : ℕ) → suc (suc n) ≡ 1 → ⊥
     not_one n is = omega (arith, is)
 
-rest_is_single : (iutf8 : Bool) (cs : List (List ℕ)) → AreSingle iutf8 cs → AreSingle iutf8 (before_newest cs)
-rest_is_single iutf8 [] h = h
-rest_is_single iutf8 (c ∷ before) h = h.2
+last_is_single : (iutf8 : Bool) (ahead : List ℕ) (cs : List (List ℕ)) → AreSingle iutf8 cs → AreSingle iutf8 (without_last ahead cs).characters
+last_is_single iutf8 ahead [] h = h
+last_is_single iutf8 ahead (c ∷ before) h = h.2
 
-rest_fits : (cs : List (List ℕ)) → length (bytes_of (before_newest cs)) ≤ length (bytes_of cs)
-rest_fits [] = omega arith
-rest_fits (c ∷ before) = omega (arith, length-append (bytes_of before) c)
+last_is_whole : (iutf8 : Bool) (ahead : List ℕ) (cs : List (List ℕ)) → IsWhole iutf8 (without_last ahead cs).refused
+last_is_whole iutf8 ahead [] = none_is_whole iutf8
+last_is_whole iutf8 ahead (c ∷ before) = none_is_whole iutf8
+
+last_fits : (ahead : List ℕ) (cs : List (List ℕ)) → length (line_bytes (without_last ahead cs)) ≤ length (ahead ++ bytes_of cs)
+last_fits ahead cs =
+    let p = erased_front ahead cs in
+    let left = line_bytes (without_last ahead cs) in
+    omega (arith, ap length p.is_whole, length-append left p.rest)
 
 erased_once : (iutf8 : Bool) (cs : List (List ℕ)) → AreSingle iutf8 cs → erases_newest cs ≡ 1
 erased_once iutf8 [] h = refl
@@ -100,12 +107,19 @@ module _ (t : Terminal) (e : Editing) (simple : IsSimple t e) where
       → (kept ≡ true → length (line_bytes e) + 1 ≤ max_counted t.canon.limit)
       → let joined = if joins then (newest e.characters ++ byte ∷ []) ∷ before_newest e.characters else (byte ∷ []) ∷ e.characters in
       let left : Character = if refused then record { first = e.refused.first; length = e.refused.length + 1 } else record { first = byte; length = 1 } in
-      IsSimple t (if kept then line_of_characters joined else record { characters = e.characters; refused = left })
+      IsSimple t (if kept then with_characters e joined else record { ahead = e.ahead; characters = e.characters; refused = left })
   byte_simple byte true refused false one j r room =
       record {
         single = (refl, one, simple.single);
         whole = none_is_whole t.keys.iutf8;
-        fits = omega (arith, room refl, length-append (line_bytes e) (byte ∷ []));
+        fits =
+            omega (
+              arith,
+              room refl,
+              length-append e.ahead (bytes_of e.characters),
+              length-append e.ahead (bytes_of e.characters ++ byte ∷ []),
+              length-append (bytes_of e.characters) (byte ∷ []),
+            );
       }
   byte_simple byte false false false one j r room =
       record { single = simple.single; whole = one_is_whole t.keys.iutf8 byte one; fits = simple.fits }
@@ -125,9 +139,9 @@ module _ (t : Terminal) (e : Editing) (simple : IsSimple t e) where
       (λ kept. room_of (length (line_bytes e)) (max_counted t.canon.limit) (sym (kept_by_room byte h) ∙ kept))
   still_simple (Plain role.Erase) h =
       record {
-        single = rest_is_single t.keys.iutf8 e.characters simple.single;
-        whole = none_is_whole t.keys.iutf8;
-        fits = omega (arith, simple.fits, rest_fits e.characters);
+        single = last_is_single t.keys.iutf8 e.ahead e.characters simple.single;
+        whole = last_is_whole t.keys.iutf8 e.ahead e.characters;
+        fits = omega (arith, simple.fits, last_fits e.ahead e.characters);
       }
   still_simple (Plain (role.Signal sig)) h = simple
   still_simple (Plain role.Ignored) h = simple

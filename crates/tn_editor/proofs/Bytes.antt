@@ -1,10 +1,10 @@
 -- The bytes of characters, and what ERASEs leave of them.
-use Rattle.std.proofs.Common.{◌≡◌, ◌≤◌, ℕ, zero, suc, ◌-◌, Bool, true, false, List, [], ◌∷◌, ◌++◌, length, take, replicate, refl, sym, ap, ◌∙◌, if◌then◌else◌}
-use Rattle.std.proofs.{Common.{arith, append-nil, append_assoc, length-append, length-take}, lemmas.List.{take_all, take_at, take-take}}
+use Rattle.std.proofs.Common.{◌≡◌, ◌≤◌, ℕ, zero, suc, ◌-◌, Bool, true, false, List, [], ◌∷◌, ◌++◌, length, take, drop, replicate, refl, sym, ap, ◌∙◌, if◌then◌else◌}
+use Rattle.std.proofs.{Common.{arith, append-nil, append_assoc, length-append, length-take, take-append-drop}, lemmas.List.{take_all, take_at, take-take}}
 use Rattle.tn_discipline.specs.Steps.{front, half_all, gain_all}
 use Rattle.tn_discipline.specs.declared.keys.Role.TheVariants as role
 use Rattle.tn_editor.specs.Grouping.{announced, look, newest, before_newest, bytes_of, continues, with_byte, wanted, past, parts_words, before_word}
-use Rattle.tn_editor.specs.declared.edit_keys.Words.{Words}
+use Rattle.tn_editor.specs.{Edited.{line_bytes, without_last, without_word}, declared.edit_keys.Words.Words}
 
 bytes_newest : (cs : List (List ℕ)) → bytes_of (before_newest cs) ++ newest cs ≡ bytes_of cs
 bytes_newest [] = refl
@@ -55,7 +55,6 @@ erases_take limit (suc n) half =
     ∙ take-take (length (front half) - n) (length half - 1) half (omega (arith, length-take (length half - 1) half))
     ∙ ap (λ k. take k half) (omega (arith, length-take (length half - 1) half))
 
--- as many as there are bytes after the front leave the front
 pub erases_leave : (limit n : ℕ) (xs ys : List ℕ) → n ≡ length ys → half_all limit (xs ++ ys) (replicate n role.Erase) ≡ xs
 erases_leave limit n xs ys is =
     erases_take limit n (xs ++ ys) ∙ take_at xs ys (length (xs ++ ys) - n) (omega (arith, is, length-append xs ys))
@@ -63,6 +62,40 @@ erases_leave limit n xs ys is =
 pub erases_give_nothing : (limit n : ℕ) (half : List ℕ) → gain_all limit half (replicate n role.Erase) ≡ []
 erases_give_nothing limit zero half = refl
 erases_give_nothing limit (suc n) half = erases_give_nothing limit n (front half)
+
+-- so many as there are bytes after the front leave the front
+pub erases_to : (limit : ℕ) (whole front : List ℕ) → Front whole front
+    → half_all limit whole (replicate (length whole - length front) role.Erase) ≡ front
+erases_to limit whole front p =
+    ap (λ bytes. half_all limit bytes (replicate (length whole - length front) role.Erase)) p.is_whole
+    ∙ erases_leave limit (length whole - length front) front p.rest (omega (arith, ap length p.is_whole, length-append front p.rest))
+
+-- BYTES AHEAD
+pub joined_after : (iutf8 : Bool) (ahead : List ℕ) (cs : List (List ℕ)) (byte : ℕ)
+    → ahead ++ bytes_of (with_byte iutf8 cs byte) ≡ (ahead ++ bytes_of cs) ++ byte ∷ []
+joined_after iutf8 ahead cs byte =
+    ap (λ bytes. ahead ++ bytes) (bytes_joined iutf8 cs byte) ∙ sym (append_assoc ahead (bytes_of cs) (byte ∷ []))
+
+front_after : (ahead xs ys : List ℕ) → Front xs ys → Front (ahead ++ xs) (ahead ++ ys)
+front_after ahead xs ys p =
+    record { rest = p.rest; is_whole = ap (λ bytes. ahead ++ bytes) p.is_whole ∙ sym (append_assoc ahead ys p.rest) }
+
+front_ahead : (ahead : List ℕ) → Front (ahead ++ []) (front ahead ++ [])
+front_ahead ahead =
+    let rest = drop (length ahead - 1) ahead in
+    record {
+      rest = rest;
+      is_whole = append-nil ahead ∙ sym (take-append-drop (length ahead - 1) ahead) ∙ ap (λ bytes. bytes ++ rest) (sym (append-nil (front ahead)));
+    }
+
+pub erased_front : (ahead : List ℕ) (cs : List (List ℕ)) → Front (ahead ++ bytes_of cs) (line_bytes (without_last ahead cs))
+erased_front ahead [] = front_ahead ahead
+erased_front ahead (c ∷ before) = front_after ahead (bytes_of before ++ c) (bytes_of before) (record { rest = c; is_whole = refl })
+
+pub word_erased_front : (w : Words) (ahead : List ℕ) (cs : List (List ℕ)) → Front (ahead ++ bytes_of cs) (line_bytes (without_word w ahead cs))
+word_erased_front w ahead [] = front_ahead ahead
+word_erased_front w ahead (c ∷ before) =
+    front_after ahead (bytes_of (c ∷ before)) (bytes_of (before_word w (c ∷ before))) (word_front w (c ∷ before))
 
 -- ROOM
 one_by_test : (a b c : Bool) → 1 ≤ (if a then 2 else (if b then 3 else (if c then 4 else 1)))

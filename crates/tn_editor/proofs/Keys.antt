@@ -10,17 +10,17 @@ use Rattle.tn_editor.specs.{EditKeys.{Terminal, is_present, edit_role, edit_role
 use Rattle.tn_editor.specs.{Edited.Editing, Expanding.{times, becomes, erase_key, expanded_key, played_times}}
 
 -- THE ERASE CHARACTER
-not_ten : (byte : ℕ) → IsFalse (is_reserved byte) → (byte == 10) ≡ false
+pub not_ten : (byte : ℕ) → IsFalse (is_reserved byte) → (byte == 10) ≡ false
 not_ten byte h = grind arith
 
 not_thirteen : (byte : ℕ) → IsFalse (is_reserved byte) → (byte == 13) ≡ false
 not_thirteen byte h = grind arith
 
-mapped_to_itself : (flags : Flags) (byte : ℕ) → IsFalse (is_reserved byte) → mapped_key flags byte ≡ Some byte
+pub mapped_to_itself : (flags : Flags) (byte : ℕ) → IsFalse (is_reserved byte) → mapped_key flags byte ≡ Some byte
 mapped_to_itself flags byte h = rw (not_ten byte h, not_thirteen byte h)
 
 -- no other character is the ERASE character
-unset_by : (value : Option ℕ) (byte : ℕ) → (value ≡ Some byte → ⊥) → is_set_to value byte ≡ false
+pub unset_by : (value : Option ℕ) (byte : ℕ) → (value ≡ Some byte → ⊥) → is_set_to value byte ≡ false
 unset_by value byte unlike = by_test (is_set_to value byte) refl
   where
     by_test : (b : Bool) → is_set_to value byte ≡ b → is_set_to value byte ≡ false
@@ -80,10 +80,11 @@ module _ (t : Terminal) (allowed : AreAllowed t.canon.settings.chars) (e : Editi
       (of_role t.canon.settings key (role.Ordinary byte) is)
 
   by_role : (r : Role) → role_of_key t.canon.settings key ≡ r
-      → let er = edit_role t.canon.settings.chars t.keys r in
+      → let er = edit_role t.canon.settings t.keys r in
       roles_of t.canon.settings (replicate (times t e er) (becomes t.canon.settings.chars er key)) ≡ played_times er (times t e er)
   by_role (role.Ordinary byte) is =
-      ordinary_by_tests byte (is_set_to t.keys.werase byte && is_present t.canon.settings.chars.erase) (is_set_to t.keys.rprnt byte) is refl
+      ordinary_by_tests byte (is_set_to t.keys.werase byte && is_present t.canon.settings.chars.erase)
+      (is_set_to t.keys.rprnt byte && t.canon.settings.flags.echo) is refl
   by_role role.Ignored is = none_at_all t.canon.settings key 1 (of_role t.canon.settings key role.Ignored is)
   by_role role.Erase is =
       repeated t.canon.settings key (times t e (Plain role.Erase)) role.Erase (of_role t.canon.settings key role.Erase is)

@@ -1,16 +1,16 @@
 -- What typed keys become edits the line.
 use Rattle.std.proofs.Common.{◌≡◌, ◌≤◌, ℕ, ◌+◌, ◌==◌, nat_le, Bool, true, false, not, ◌&&◌, ◌||◌, List, [], ◌∷◌, ◌++◌, length, map, replicate, refl, sym, ap, ◌∙◌}
 use Rattle.std.proofs.Common.{if◌then◌else◌, arith, append-nil, append_assoc, length-append}
-use Rattle.tn_discipline.specs.{Canon.{typed_entries, typed_half}, Keys.{role_of_key, roles_of, roles_from}, Steps.{half_next, gain_next, half_all, gain_all}}
+use Rattle.tn_discipline.specs.{Canon.{typed_entries, typed_half}, Keys.{role_of_key, roles_of, roles_from}, Steps.{front, half_next, gain_next, half_all, gain_all}}
 use Rattle.tn_discipline.specs.{Characters.AreAllowed, Entries.{entries_of, half_of}, Limits.max_counted, declared.{keys.Role.Role, reads.Entry.Entry}}
 use Rattle.tn_discipline.specs.declared.keys.Role.TheVariants as role
 use Rattle.tn_discipline.proofs.lemmas.{Histories.{half-all, entries-all}, KeyRoles.{roles_of-one, roles_of-append}}
-use Rattle.tn_editor.specs.{Grouping.{bytes_of, before_newest, with_byte, wanted, before_word}, EditKeys.{Terminal, edit_role, edit_role_of_key, edit_roles_of}}
-use Rattle.tn_editor.specs.Edited.{Editing, nothing_typed, line_of_characters, line_bytes, is_refused, has_room, is_kept, with_refused, edited_next}
+use Rattle.tn_editor.specs.{Grouping.{bytes_of, with_byte, wanted}, EditKeys.{Terminal, edit_role, edit_role_of_key, edit_roles_of}}
+use Rattle.tn_editor.specs.Edited.{Editing, after_half, nothing_typed, with_characters, line_bytes, without_last, word_erased, is_refused, has_room, is_kept, with_refused, edited_next}
 use Rattle.tn_editor.specs.{Edited.{edited_gain, edited_all, edited_gains, edited, edited_entries, edited_half}, declared.edit_keys.EditRole.EditRole}
 use Rattle.tn_editor.specs.Expanding.{times, erases_newest, erases_word, is_dropped_there, expanded_key, expanded_from, expanded, played_times, expanded_roles}
 use Rattle.tn_editor.specs.declared.edit_keys.EditRole.TheVariants.{Plain, EraseWord, Reprint}
-use Rattle.tn_editor.proofs.{Bytes.{bytes_joined, word_front, erases_leave, erases_give_nothing, wanted_some}, Keys.roles_of_expanded}
+use Rattle.tn_editor.proofs.{Bytes.{joined_after, word_erased_front, erases_leave, erases_to, erases_give_nothing, wanted_some}, Keys.roles_of_expanded}
 
 -- MORE ROLES
 half_all-append : (limit : ℕ) (xs ys : List Role) (half : List ℕ) → half_all limit half (xs ++ ys) ≡ half_all limit (half_all limit half xs) ys
@@ -41,10 +41,10 @@ module _ (t : Terminal) (e : Editing) where
 
   byte_half : (byte : ℕ) (k d : Bool) → (k ≡ true → d ≡ false) → is_dropped_there t e ≡ d
       → half_all t.canon.limit (line_bytes e) (replicate (if k || d then 1 else 0) (role.Ordinary byte))
-      ≡ line_bytes (if k then line_of_characters (with_byte t.keys.iutf8 e.characters byte) else record { characters = e.characters; refused = with_refused t e byte })
+      ≡ line_bytes (if k then with_characters e (with_byte t.keys.iutf8 e.characters byte) else record { ahead = e.ahead; characters = e.characters; refused = with_refused t e byte })
   byte_half byte true true apart is = let no_way : true ≡ false = apart refl in cc
   byte_half byte true false apart is =
-      ap (λ (b : Bool). if b then line_bytes e else line_bytes e ++ byte ∷ []) is ∙ sym (bytes_joined t.keys.iutf8 e.characters byte)
+      ap (λ (b : Bool). if b then line_bytes e else line_bytes e ++ byte ∷ []) is ∙ sym (joined_after t.keys.iutf8 e.ahead e.characters byte)
   byte_half byte false true apart is = ap (λ (b : Bool). if b then line_bytes e else line_bytes e ++ byte ∷ []) is
   byte_half byte false false apart is = refl
 
@@ -56,22 +56,25 @@ module _ (t : Terminal) (e : Editing) where
   byte_gain byte true = append-nil _ ∙ nothing_gained (is_dropped_there t e)
   byte_gain byte false = refl
 
-  erased_newest : (cs : List (List ℕ)) → half_all t.canon.limit (bytes_of cs) (replicate (erases_newest cs) role.Erase) ≡ bytes_of (before_newest cs)
-  erased_newest [] = refl
-  erased_newest (c ∷ before) = erases_leave t.canon.limit (length c) (bytes_of before) c refl
+  one_erased : (ahead : List ℕ) → front (ahead ++ []) ≡ front ahead ++ []
+  one_erased ahead = ap front (append-nil ahead) ∙ sym (append-nil (front ahead))
 
-  erased_word : (cs : List (List ℕ)) → half_all t.canon.limit (bytes_of cs) (replicate (erases_word t cs) role.Erase) ≡ bytes_of (before_word t.keys.words cs)
-  erased_word cs =
-      let after = bytes_of (before_word t.keys.words cs) in
-      let front = word_front t.keys.words cs in
-      ap (λ bytes. half_all t.canon.limit bytes (replicate (erases_word t cs) role.Erase)) front.is_whole
-      ∙ erases_leave t.canon.limit (erases_word t cs) after front.rest (omega (arith, ap length front.is_whole, length-append after front.rest))
+  erased_newest : (ahead : List ℕ) (cs : List (List ℕ))
+      → half_all t.canon.limit (ahead ++ bytes_of cs) (replicate (erases_newest cs) role.Erase) ≡ line_bytes (without_last ahead cs)
+  erased_newest ahead [] = one_erased ahead
+  erased_newest ahead (c ∷ before) =
+      ap (λ bytes. half_all t.canon.limit bytes (replicate (length c) role.Erase)) (sym (append_assoc ahead (bytes_of before) c))
+      ∙ erases_leave t.canon.limit (length c) (ahead ++ bytes_of before) c refl
+
+  erased_word : half_all t.canon.limit (line_bytes e) (replicate (erases_word t e) role.Erase) ≡ line_bytes (word_erased t.keys.words e)
+  erased_word =
+      erases_to t.canon.limit (line_bytes e) (line_bytes (word_erased t.keys.words e)) (word_erased_front t.keys.words e.ahead e.characters)
 
   -- what a key becomes does what the key does
   step_half : (r : EditRole) → half_all t.canon.limit (line_bytes e) (played_times r (times t e r)) ≡ line_bytes (edited_next t e r)
   step_half (Plain (role.Ordinary byte)) = byte_half byte (is_kept t e byte) (is_dropped_there t e) (kept_is_not_dropped byte) refl
-  step_half (Plain role.Erase) = erased_newest e.characters
-  step_half EraseWord = erased_word e.characters
+  step_half (Plain role.Erase) = erased_newest e.ahead e.characters
+  step_half EraseWord = erased_word
   step_half Reprint = refl
   step_half (Plain role.Ignored) = refl
   step_half (Plain role.Kill) = refl
@@ -84,7 +87,7 @@ module _ (t : Terminal) (e : Editing) where
   step_gain : (r : EditRole) → gain_all t.canon.limit (line_bytes e) (played_times r (times t e r)) ≡ edited_gain e r
   step_gain (Plain (role.Ordinary byte)) = byte_gain byte (is_kept t e byte || is_dropped_there t e)
   step_gain (Plain role.Erase) = erases_give_nothing t.canon.limit (erases_newest e.characters) (line_bytes e)
-  step_gain EraseWord = erases_give_nothing t.canon.limit (erases_word t e.characters) (line_bytes e)
+  step_gain EraseWord = erases_give_nothing t.canon.limit (erases_word t e) (line_bytes e)
   step_gain Reprint = refl
   step_gain (Plain role.Ignored) = refl
   step_gain (Plain role.Kill) = refl
@@ -118,16 +121,30 @@ module _ (t : Terminal) where
       ∙ ap (λ half. edited_gain e r ++ gain_all t.canon.limit half more) (step_half t e r)
       ∙ ap (λ gain. edited_gain e r ++ gain) (role_gains roles next)
 
-  pub same_half_by_role : (roles : List EditRole)
-      → half_of t.canon.limit (expanded_roles t nothing_typed roles) ≡ line_bytes (edited_all t nothing_typed roles)
-  same_half_by_role roles = half-all t.canon.limit [] (expanded_roles t nothing_typed roles) ∙ role_halves roles nothing_typed
+  -- after what was typed before
+  pub same_half_by_role : (before : List Role) (roles : List EditRole)
+      → let e = after_half (half_of t.canon.limit before) in
+      half_of t.canon.limit (before ++ expanded_roles t e roles) ≡ line_bytes (edited_all t e roles)
+  same_half_by_role before roles =
+      let half = half_of t.canon.limit before in
+      let more = expanded_roles t (after_half half) roles in
+      half-all t.canon.limit before more
+      ∙ ap (λ h. half_all t.canon.limit h more) (sym (append-nil half))
+      ∙ role_halves roles (after_half half)
 
-  pub same_entries_by_role : (roles : List EditRole)
-      → entries_of t.canon.limit (expanded_roles t nothing_typed roles) ≡ edited_gains t nothing_typed roles
-  same_entries_by_role roles = entries-all t.canon.limit [] (expanded_roles t nothing_typed roles) ∙ role_gains roles nothing_typed
+  pub same_entries_by_role : (before : List Role) (roles : List EditRole)
+      → let e = after_half (half_of t.canon.limit before) in
+      entries_of t.canon.limit (before ++ expanded_roles t e roles) ≡ entries_of t.canon.limit before ++ edited_gains t e roles
+  same_entries_by_role before roles =
+      let half = half_of t.canon.limit before in
+      let more = expanded_roles t (after_half half) roles in
+      let entries = entries_of t.canon.limit before in
+      entries-all t.canon.limit before more
+      ∙ ap (λ h. entries ++ gain_all t.canon.limit h more) (sym (append-nil half))
+      ∙ ap (λ gain. entries ++ gain) (role_gains roles (after_half half))
 
   abbrev of_edit : Role → EditRole
-  of_edit r = edit_role t.canon.settings.chars t.keys r
+  of_edit r = edit_role t.canon.settings t.keys r
 
   left_by_key : (e : Editing) (r : Role) (roles : List Role)
       → edited_all t e (map of_edit (roles_from r ++ roles)) ≡ edited_all t (edited_next t e (of_edit r)) (map of_edit roles)
@@ -146,7 +163,7 @@ module _ (t : Terminal) where
       roles_of-append t.canon.settings (key ∷ []) keys
       ∙ ap (λ roles. roles ++ roles_of t.canon.settings keys) (sym (roles_of-one t.canon.settings key))
 
-  all_by_key : (e : Editing) (key : ℕ) (keys : List ℕ)
+  pub all_by_key : (e : Editing) (key : ℕ) (keys : List ℕ)
       → edited_all t e (edit_roles_of t (key ∷ keys)) ≡ edited_all t (edited_next t e (edit_role_of_key t key)) (edit_roles_of t keys)
   all_by_key e key keys =
       ap (λ roles. edited_all t e (map of_edit roles)) (key_first key keys)

@@ -1,30 +1,54 @@
 -- What a terminal with editing keys makes of typed keys: its half line is a list of characters (POSIX.1-2017,
 -- XBD 11.1.9: ERASE deletes the last character in the line).
 use Rattle.std.specs.Prelude.{ℕ, ◌+◌, Bool, not, ◌&&◌, nat_le, List, [], ◌∷◌, ◌++◌, length, if◌then◌else◌}
-use Rattle.tn_discipline.specs.{Limits.max_counted, Steps.gain_after, declared.reads.Entry.Entry}
+use Rattle.tn_discipline.specs.{Limits.max_counted, Steps.{front, gain_after}, declared.reads.Entry.Entry}
 use Rattle.tn_discipline.specs.declared.keys.Role.TheVariants as role
-use Rattle.tn_editor.specs.Grouping.{continues, before_newest, bytes_of, with_byte, wanted, before_word}
+use Rattle.tn_editor.specs.Grouping.{continues, bytes_of, with_byte, wanted, before_word}
 use Rattle.tn_editor.specs.{EditKeys.{Terminal, edit_roles_of}, declared.characters.Character.Character}
+use Rattle.tn_editor.specs.declared.edit_keys.Words.{Words}
 use Rattle.tn_editor.specs.declared.edit_keys.EditRole.{EditRole, TheVariants.{Plain, EraseWord, Reprint}}
 
--- the characters of the half line, from the last to the first, and what came of a character that the line had
--- no room for, while more of it may come
+-- The half line: the bytes ahead, which were typed before and of which nothing is known, and the characters after
+-- them, from the last to the first. With them what came of a character for which the line had no room, while more
+-- of it may come.
 pub record Editing : Type 0 where
+  pub ahead : List ℕ
   pub characters : List (List ℕ)
   pub refused : Character
 
 abbrev pub no_character : Character
 no_character = record { first = 0; length = 0 }
 
-abbrev pub nothing_typed : Editing
-nothing_typed = record { characters = []; refused = no_character }
+-- these bytes are ahead, and no character is there
+abbrev pub after_half : List ℕ → Editing
+after_half half = record { ahead = half; characters = []; refused = no_character }
 
-abbrev pub line_of_characters : List (List ℕ) → Editing
-line_of_characters characters = record { characters = characters; refused = no_character }
+abbrev pub nothing_typed : Editing
+nothing_typed = after_half []
+
+abbrev pub with_characters : Editing → List (List ℕ) → Editing
+with_characters e characters = record { ahead = e.ahead; characters = characters; refused = no_character }
 
 -- the half line as bytes
 abbrev pub line_bytes : Editing → List ℕ
-line_bytes e = bytes_of e.characters
+line_bytes e = e.ahead ++ bytes_of e.characters
+
+-- without the last character; if there is none, without the last byte
+abbrev pub without_last : List ℕ → List (List ℕ) → Editing
+without_last ahead [] = after_half (front ahead)
+without_last ahead (character ∷ before) = record { ahead = ahead; characters = before; refused = no_character }
+
+abbrev pub erased : Editing → Editing
+erased e = without_last e.ahead e.characters
+
+-- without the last word; if there is no character, without the last byte
+abbrev pub without_word : Words → List ℕ → List (List ℕ) → Editing
+without_word words ahead [] = after_half (front ahead)
+without_word words ahead (character ∷ before) =
+    record { ahead = ahead; characters = before_word words (character ∷ before); refused = no_character }
+
+abbrev pub word_erased : Words → Editing → Editing
+word_erased words e = without_word words e.ahead e.characters
 
 module _ (t : Terminal) where
   -- the byte is more of a character that was refused
@@ -48,14 +72,14 @@ module _ (t : Terminal) where
   -- what an ordinary byte leaves
   abbrev pub typed_byte : Editing → ℕ → Editing
   typed_byte e byte =
-      if is_kept e byte then line_of_characters (with_byte t.keys.iutf8 e.characters byte)
-      else record { characters = e.characters; refused = with_refused e byte }
+      if is_kept e byte then with_characters e (with_byte t.keys.iutf8 e.characters byte)
+      else record { ahead = e.ahead; characters = e.characters; refused = with_refused e byte }
 
   -- what one more key leaves
   abbrev pub edited_next : Editing → EditRole → Editing
   edited_next e (Plain (role.Ordinary byte)) = typed_byte e byte
-  edited_next e (Plain role.Erase) = line_of_characters (before_newest e.characters)
-  edited_next e EraseWord = line_of_characters (before_word t.keys.words e.characters)
+  edited_next e (Plain role.Erase) = erased e
+  edited_next e EraseWord = word_erased t.keys.words e
   edited_next e Reprint = e
   edited_next e (Plain (role.Signal sig)) = e
   edited_next e (Plain role.Ignored) = e

@@ -3,10 +3,9 @@ use Rattle.std.specs.Prelude.{◌≡◌, ℕ, ◌-◌, Bool, ◌||◌, ◌==◌,
 use Rattle.std.specs.Prelude.{if◌then◌else◌}
 use Rattle.tn_discipline.specs.{Characters.Characters, Limits.max_counted, declared.keys.Role.Role}
 use Rattle.tn_discipline.specs.declared.keys.Role.TheVariants as role
-use Rattle.tn_editor.specs.{Grouping.{bytes_of, announced, before_word}, declared.edit_keys.EditRole.EditRole}
-use Rattle.tn_editor.specs.EditKeys.{Terminal, edit_role_of_key}
-use Rattle.tn_editor.specs.Edited.{Editing, nothing_typed, line_bytes, is_kept, edited_next}
-use Rattle.tn_editor.specs.declared.edit_keys.EditRole.TheVariants.{Plain, EraseWord, Reprint}
+use Rattle.tn_editor.specs.{Grouping.announced, EditKeys.{Terminal, edit_role_of_key}}
+use Rattle.tn_editor.specs.declared.edit_keys.EditRole.{EditRole, TheVariants.{Plain, EraseWord, Reprint}}
+use Rattle.tn_editor.specs.Edited.{Editing, nothing_typed, line_bytes, word_erased, is_kept, edited_next}
 
 -- how many ERASEs take back the last character; one if there is none
 abbrev pub erases_newest : List (List ℕ) → ℕ
@@ -25,8 +24,8 @@ becomes chars _ key = key
 
 module _ (t : Terminal) where
   -- how many ERASEs take back the last word
-  abbrev pub erases_word : List (List ℕ) → ℕ
-  erases_word characters = length (bytes_of characters) - length (bytes_of (before_word t.keys.words characters))
+  abbrev pub erases_word : Editing → ℕ
+  erases_word e = length (line_bytes e) - length (line_bytes (word_erased t.keys.words e))
 
   -- the plain terminal drops it by itself
   abbrev pub is_dropped_there : Editing → Bool
@@ -36,7 +35,7 @@ module _ (t : Terminal) where
   abbrev pub times : Editing → EditRole → ℕ
   times e (Plain (role.Ordinary byte)) = if is_kept t e byte || is_dropped_there e then 1 else 0
   times e (Plain role.Erase) = erases_newest e.characters
-  times e EraseWord = erases_word e.characters
+  times e EraseWord = erases_word e
   times e Reprint = 0
   times e (Plain _) = 1
 

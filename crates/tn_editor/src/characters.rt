@@ -1,7 +1,7 @@
 //! The characters of a half line.
 
 ghost use Rattle.std.specs.Prelude.{◌≡◌, ◌<◌, ◌≤◌, true};
-ghost use Rattle.tn_editor.specs.Edited.{no_character};
+ghost use Rattle.tn_editor.specs.{Edited.no_character, EditedLines.times_erased};
 ghost use Rattle.tn_editor.specs.Grouping.{announced, continues, parts_words, is_word_byte};
 
 use crate::edit_keys::Words;
@@ -21,6 +21,17 @@ impl Character {
         Character {
             first: 0,
             length: 0,
+        }
+    }
+
+    /// How many ERASEs take the character back at a plain terminal. It is one if there is no character.
+    pub(crate) fn erases(self) -> u16
+        ensures { result ≡ times_erased self }
+    {
+        if self.length == 0 {
+            1
+        } else {
+            u16::from(self.length)
         }
     }
 }
@@ -44,6 +55,7 @@ pub(crate) fn announced(iutf8: bool, byte: u8) -> u8
 /// Whether the byte goes on with this character.
 pub(crate) fn continues(iutf8: bool, character: Character, byte: u8) -> bool
     ensures value { result ≡ continues iutf8 character byte }
+    ensures some { result ≡ true → 1 ≤ character.length }
     ensures few { result ≡ true → character.length < 4 }
 {
     let is_more = 0x80 <= byte && byte <= 0xbf;

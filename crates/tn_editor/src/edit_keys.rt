@@ -4,7 +4,7 @@ ghost use Rattle.std.specs.Prelude.{◌≡◌};
 ghost use Rattle.tn_editor.specs.EditKeys.{edit_role};
 
 use tn_codes::Func;
-use tn_discipline::{Chars, Role};
+use tn_discipline::{Role, Settings};
 
 /// The characters that part words.
 #[derive(Clone, Copy, Debug, PartialEq, Eq)]
@@ -41,15 +41,15 @@ pub enum EditRole {
 }
 
 /// The role of a key that has this role at a plain terminal. A special character of that terminal keeps its
-/// meaning, and without an ERASE character there is no WERASE.
-pub fn edit_role(chars: &Chars, keys: &EditKeys, role: Role) -> EditRole
-    ensures { result ≡ edit_role chars.now keys.now role }
+/// meaning. There is no WERASE without an ERASE character, and no REPRINT while ECHO is off.
+pub(crate) fn edit_role(settings: &Settings, keys: &EditKeys, role: Role) -> EditRole
+    ensures { result ≡ edit_role settings.now keys.now role }
 {
     match role {
         Role::Ordinary(byte) => {
-            if keys.werase == Some(byte) && chars.get(Func::Ec).is_some() {
+            if keys.werase == Some(byte) && settings.chars.get(Func::Ec).is_some() {
                 EditRole::EraseWord
-            } else if keys.rprnt == Some(byte) {
+            } else if keys.rprnt == Some(byte) && settings.flags.echo {
                 EditRole::Reprint
             } else {
                 EditRole::Plain(role)

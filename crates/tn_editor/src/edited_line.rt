@@ -1,8 +1,9 @@
 //! The half line, in characters.
 
-ghost use Rattle.std.specs.Prelude.{◌≡◌, ◌<◌, ◌≤◌, ◌+◌, [], ◌∷◌, IfOk};
-ghost use Rattle.tn_editor.specs.Grouping.{past};
-ghost use Rattle.tn_editor.specs.EditedLines.{newest_look, rest_of, weigh, AreSome, begun, grown, joined, is_parting};
+ghost use Rattle.std.specs.Prelude.{◌≡◌, ◌<◌, ◌≤◌, ◌+◌, [], ◌∷◌, ◌++◌, length, take, IfOk};
+ghost use Rattle.tn_editor.specs.{Grouping.past, EditedLines.{cut_to, is_parting}};
+ghost use Rattle.tn_editor.specs.EditedLines.{HeldLine, newest_look, rest_of, weigh, AreSome, begun, grown};
+ghost use Rattle.tn_editor.specs.EditedLines.{line_length, line_joined, line_erased, line_word_erased};
 
 use crate::characters::{Character, continues, parts_words};
 use crate::edit_keys::Words;
@@ -10,45 +11,64 @@ use std::alloc::{AllocError, Global};
 use std::marker::Model;
 use tn_discipline::Limit;
 
-/// The characters of a half line: of each the first byte, and how many bytes it has.
+/// A half line: how many bytes are ahead, of which nothing is known, and the bytes after them in characters.
 #[derive(Debug, Drop)]
 pub(crate) struct EditedLine {
+    ahead: u16,
+    held: Vec<u8>,
     characters: Vec<Character>,
-    bytes: u16,
     limit: Limit,
 }
 
 impl Model for EditedLine {
-    ghost use Rattle.std.specs.Prelude.{◌≡◌, ◌<◌, ◌≤◌, reverse, vec_capacity};
-    ghost use Rattle.tn_editor.specs.EditedLines.{CharacterLine, weigh, AreSome};
+    ghost use Rattle.std.specs.Prelude.{◌≡◌, ◌<◌, ◌≤◌, ◌+◌, reverse, vec_len, vec_capacity};
+    ghost use Rattle.tn_editor.specs.EditedLines.{HeldLine, weigh, AreSome};
 
-    ghost Value = { CharacterLine };
+    ghost Value = { HeldLine };
 
-    ghost view = { λ s. record { characters = reverse s.characters.items; limit = s.limit } };
+    ghost view = { λ l. record {
+      ahead = l.ahead;
+      held = l.held.items;
+      characters = reverse l.characters.items;
+      limit = l.limit;
+    } };
 
-    ghost invariant = { λ s. (weigh (reverse s.characters.items) ≡ s.bytes)
-        × AreSome (reverse s.characters.items)
-        × (s.bytes < s.limit) × (s.limit ≤ vec_capacity s.characters) };
+    ghost invariant = { λ l. (weigh (reverse l.characters.items) ≡ vec_len l.held)
+        × AreSome (reverse l.characters.items)
+        × (l.ahead + vec_len l.held < l.limit)
+        × (l.limit ≤ vec_capacity l.held) × (l.limit ≤ vec_capacity l.characters) };
 }
 
 impl EditedLine {
     /// An empty line. It makes the room for a whole line once.
     pub(crate) fn new(alloc: Global, limit: Limit) -> Result<EditedLine, AllocError>
-        ensures { IfOk result (λ s. s ≡ record { characters = []; limit = limit }) }
+        ensures { IfOk result (λ l. l ≡ record { ahead = 0; held = []; characters = []; limit = limit }) }
     {
+        let room = usize::from(limit.bytes());
         Ok(EditedLine {
-            characters: Vec::with_capacity(alloc, usize::from(limit.bytes()))?,
-            bytes: 0,
+            ahead: 0,
+            held: Vec::with_capacity(alloc, room)?,
+            characters: Vec::with_capacity(alloc, room)?,
             limit,
         })
     }
 
-    /// How many bytes the half line has.
+    /// How many bytes the half line has, with those ahead.
     pub(crate) fn bytes(&self) -> u16
-        ensures value { result ≡ weigh self.now.characters }
+        ensures value { result ≡ line_length self.now }
         ensures within { result < self.now.limit }
     {
-        self.bytes
+        // Nothing is done here; the proof that the sum fits begins with what every limit is.
+        let _limit = self.limit.bytes();
+        self.ahead + self.held.len() as u16
+    }
+
+    /// The bytes after those ahead.
+    pub(crate) fn held(&self) -> &[u8]
+        ensures value { result.now ≡ self.now.held }
+        ensures whole { weigh self.now.characters ≡ length self.now.held }
+    {
+        self.held.as_slice()
     }
 
     pub(crate) fn limit(&self) -> Limit
@@ -61,6 +81,7 @@ impl EditedLine {
     pub(crate) fn newest(&self) -> Character
         ensures value { result ≡ newest_look self.now.characters }
         ensures some { AreSome self.now.characters }
+        ensures whole { weigh self.now.characters ≡ length self.now.held }
     {
         match self.characters.last() {
             Some(character) => *character,
@@ -71,66 +92,115 @@ impl EditedLine {
         }
     }
 
-    /// Takes the last character away, if there is one.
-    pub(crate) fn take_newest(&mut self)
-        ensures characters { self.new.characters ≡ rest_of self.old.characters }
-        ensures limit { self.new.limit ≡ self.old.limit }
+    /// Takes the last character away, or the last byte ahead if there is no character.
+    pub(crate) fn erase(&mut self)
+        ensures { self.new ≡ line_erased self.old }
     {
-        if let Some(character) = self.characters.pop() {
-            self.bytes -= u16::from(character.length);
+        match self.characters.pop() {
+            Some(character) => {
+                let left = self.held.len() - usize::from(character.length);
+                self.held.truncate(left);
+            },
+            None => self.ahead = self.ahead.saturating_sub(1),
         }
     }
 
-    /// Takes all characters away.
-    pub(crate) fn clear(&mut self)
-        ensures { self.new ≡ record { characters = []; limit = self.old.limit } }
+    /// Takes the last word away, or the last byte ahead if there is no character.
+    pub(crate) fn erase_word(&mut self, words: Words)
+        ensures { self.new ≡ line_word_erased words self.old }
     {
+        if self.newest().length == 0 {
+            self.erase();
+        } else {
+            self.take_word(words);
+        }
+    }
+
+    fn take_word(&mut self, words: Words)
+        requires { 1 ≤ (newest_look self.old.characters).length }
+        ensures { self.new ≡ line_word_erased words self.old }
+    {
+        self.take_while(words, true);
+        self.take_while(words, false);
+    }
+
+    /// Takes the whole half line away.
+    pub(crate) fn clear(&mut self)
+        ensures { self.new ≡ record { ahead = 0; held = []; characters = []; limit = self.old.limit } }
+    {
+        self.ahead = 0;
+        self.held.clear();
         self.characters.clear();
-        self.bytes = 0;
+    }
+
+    /// Takes all away but so many bytes ahead.
+    pub(crate) fn resume(&mut self, ahead: u16)
+        requires { ahead < self.old.limit }
+        ensures { self.new ≡ record { ahead = ahead; held = []; characters = []; limit = self.old.limit } }
+    {
+        self.ahead = ahead;
+        self.held.clear();
+        self.characters.clear();
     }
 
     /// Types a byte for which there is room.
     pub(crate) fn join(&mut self, iutf8: bool, byte: u8)
-        requires { weigh self.old.characters + 1 < self.old.limit }
-        ensures characters { self.new.characters ≡ joined iutf8 self.old.characters byte }
-        ensures limit { self.new.limit ≡ self.old.limit }
+        requires { line_length self.old + 1 < self.old.limit }
+        ensures { self.new ≡ line_joined iutf8 self.old byte }
     {
-        let newest = self.newest();
-        let character = if continues(iutf8, newest, byte) {
-            self.take_newest();
-            Character {
+        if continues(iutf8, self.newest(), byte) {
+            self.grow(byte);
+        } else {
+            self.begin(byte);
+        }
+    }
+
+    fn begin(&mut self, byte: u8)
+        requires { line_length self.old + 1 < self.old.limit }
+        ensures { self.new ≡ record {
+          ahead = self.old.ahead;
+          held = self.old.held ++ byte ∷ [];
+          characters = begun byte ∷ self.old.characters;
+          limit = self.old.limit;
+        } }
+    {
+        self.characters.push_reserved(Character {
+            first: byte,
+            length: 1,
+        });
+        self.held.push_reserved(byte);
+    }
+
+    fn grow(&mut self, byte: u8)
+        requires room { line_length self.old + 1 < self.old.limit }
+        requires some { 1 ≤ (newest_look self.old.characters).length }
+        requires few { (newest_look self.old.characters).length < 4 }
+        ensures { self.new ≡ record {
+          ahead = self.old.ahead;
+          held = self.old.held ++ byte ∷ [];
+          characters = grown (newest_look self.old.characters) ∷ rest_of self.old.characters;
+          limit = self.old.limit;
+        } }
+    {
+        if let Some(newest) = self.characters.pop() {
+            self.characters.push_reserved(Character {
                 first: newest.first,
                 length: newest.length + 1,
-            }
-        } else {
-            Character {
-                first: byte,
-                length: 1,
-            }
-        };
-        self.begin(character);
+            });
+            self.held.push_reserved(byte);
+        }
     }
 
-    fn begin(&mut self, character: Character)
-        requires some { 1 ≤ character.length }
-        requires room { weigh self.old.characters + character.length < self.old.limit }
-        ensures characters { self.new.characters ≡ character ∷ self.old.characters }
-        ensures limit { self.new.limit ≡ self.old.limit }
+    // Takes the last characters away up to the first that does not part words, or up to the first that does.
+    fn take_while(&mut self, words: Words, parting: bool)
+        ensures { self.new ≡ cut_to self.old (past (is_parting parting words) self.old.characters) }
     {
-        self.characters.push_reserved(character);
-        self.bytes += u16::from(character.length);
-    }
-
-    /// Takes the last characters away up to the first that does not part words, or up to the first that does.
-    pub(crate) fn take_while(&mut self, words: Words, parting: bool)
-        ensures characters { self.new.characters ≡ past (is_parting parting words) self.old.characters }
-        ensures limit { self.new.limit ≡ self.old.limit }
-    {
+        let _whole = self.held();
         for _ in 0..self.characters.len() {
             if parts_words(words, self.newest()) != parting {
                 return;
             }
-            self.take_newest();
+            self.erase();
         }
     }
 }

@@ -1,10 +1,10 @@
 //! The editor, which turns each typed key into keys of a plain terminal.
 
-ghost use Rattle.std.specs.Prelude.{◌≡◌, ℕ, [], IfOk};
-ghost use Rattle.tn_editor.specs.{EditKeys.Terminal, Edited.{Editing, edited_next, no_character}};
-ghost use Rattle.tn_editor.specs.{Expanding.{times, becomes}, Following.{Holds, LeadsTo, GoesOn, Becomes}};
-ghost use Rattle.tn_editor.specs.EditedLines.{is_taken, refused_next, line_next, times_typed, times_erased};
-ghost use Rattle.tn_editor.specs.EditedLines.{begun};
+ghost use Rattle.std.specs.Prelude.{◌≡◌, ◌<◌, ℕ, List, [], ◌++◌, length, IfOk};
+ghost use Rattle.tn_editor.specs.{EditKeys.{Terminal, edit_role_of_key}, Expanding.{times, becomes}};
+ghost use Rattle.tn_editor.specs.Edited.{Editing, after_half, nothing_typed, line_bytes, edited_next, no_character};
+ghost use Rattle.tn_editor.specs.{Following.{Holds, GoesOn, Becomes}, EditedLines.{begun, is_taken}};
+ghost use Rattle.tn_editor.specs.{EditedLines.{refused_next, line_next, times_typed}};
 ghost use Rattle.tn_discipline.specs.declared.keys.Role.TheVariants as role;
 ghost use Rattle.tn_editor.specs.declared.edit_keys.EditRole.TheVariants as edit_role;
 
@@ -25,10 +25,10 @@ pub struct Presses {
 /// The editing keys of a user's terminal in front of a plain one.
 #[derive(Drop)]
 pub struct Editor {
-    roles: Roles,
-    keys: EditKeys,
-    line: EditedLine,
-    refused: Character,
+    pub(crate) roles: Roles,
+    pub(crate) keys: EditKeys,
+    pub(crate) line: EditedLine,
+    pub(crate) refused: Character,
 }
 
 impl Editor {
@@ -39,9 +39,8 @@ impl Editor {
         keys: EditKeys,
         limit: Limit,
     ) -> Result<Editor, AllocError>
-        ensures keys { IfOk result (λ editor. editor.keys ≡ keys) }
-        ensures leads { (t : Terminal) → t.canon.settings ≡ settings → t.keys ≡ keys → t.canon.limit ≡ limit →
-            IfOk result (LeadsTo t []) }
+        ensures { (t : Terminal) → t.canon.settings ≡ settings → t.keys ≡ keys → t.canon.limit ≡ limit →
+            IfOk result (Holds t nothing_typed) }
     {
         Ok(Editor {
             roles: Roles::new(alloc, settings)?,
@@ -51,6 +50,42 @@ impl Editor {
         })
     }
 
+    /// Sets the settings of the plain terminal and the editing keys. The half line stays as it is: characters that
+    /// were typed before stay characters. No memory is wanted.
+    pub fn set(&mut self, settings: Settings, keys: EditKeys)
+        ensures { (t u : Terminal) (e : Editing) → Holds t e self.old →
+            u.canon.settings ≡ settings → u.keys ≡ keys → u.canon.limit ≡ t.canon.limit → Holds u e self.new }
+    {
+        self.roles.set(settings);
+        self.keys = keys;
+    }
+
+    /// Begins after a half line of so many bytes, which were typed before. Nothing is known of these bytes: ERASE and
+    /// WERASE take back one of them if no other character is left, and KILL takes back all. A half line of as many
+    /// bytes as the limit, or of more, counts as a full one.
+    pub fn resume(&mut self, ahead: u16)
+        ensures { (t : Terminal) (e : Editing) (half : List ℕ) → Holds t e self.old →
+            length half ≡ ahead → ahead < t.canon.limit → Holds t (after_half half) self.new }
+    {
+        let most = self.line.limit().bytes() - 1;
+        self.line.resume(ahead.min(most));
+        self.refused = Character::none();
+    }
+
+    /// The half line, without the bytes ahead.
+    pub fn half_line(&self) -> &[u8]
+        ensures { (t : Terminal) (e : Editing) → Holds t e self.now → line_bytes e ≡ e.ahead ++ result.now }
+    {
+        self.line.held()
+    }
+
+    /// The role of a key that is typed next.
+    pub fn role(&self, key: u8) -> EditRole
+        ensures { (t : Terminal) (e : Editing) → Holds t e self.now → result ≡ edit_role_of_key t key }
+    {
+        edit_role(&self.roles.settings(), &self.keys, self.roles.role(key))
+    }
+
     /// Types a key, and returns what it becomes at the plain terminal. That terminal then gives the entries that
     /// a terminal with the editing keys gives of the typed keys (`laws::expanded_keys_edit_the_line`).
     pub fn key(&mut self, key: u8) -> Presses
@@ -58,7 +93,7 @@ impl Editor {
         ensures becomes { Becomes self.old key result }
     {
         let settings = self.roles.settings();
-        let role = edit_role(&settings.chars, &self.keys, self.roles.role(key));
+        let role = self.role(key);
         Presses {
             key: pressed(&settings.chars, role, key),
             count: self.play(role),
@@ -67,7 +102,7 @@ impl Editor {
 
     // Types a key of this role, and returns how many times it is typed at the plain terminal.
     fn play(&mut self, role: EditRole) -> u16
-        ensures sees { (t : Terminal) (e : Editing) → Holds t e self.old → Holds t (edited_next t e role) self.new }
+        ensures holds { (t : Terminal) (e : Editing) → Holds t e self.old → Holds t (edited_next t e role) self.new }
         ensures count { (t : Terminal) (e : Editing) → Holds t e self.old → result ≡ times t e role }
     {
         match role {
@@ -78,7 +113,7 @@ impl Editor {
     }
 
     fn play_plain(&mut self, role: Role) -> u16
-        ensures sees { (t : Terminal) (e : Editing) → Holds t e self.old →
+        ensures holds { (t : Terminal) (e : Editing) → Holds t e self.old →
             Holds t (edited_next t e (edit_role.Plain role)) self.new }
         ensures count { (t : Terminal) (e : Editing) → Holds t e self.old →
             result ≡ times t e (edit_role.Plain role) }
@@ -98,8 +133,7 @@ impl Editor {
     fn type_byte(&mut self, byte: u8) -> u16
         ensures roles { self.new.roles ≡ self.old.roles }
         ensures keys { self.new.keys ≡ self.old.keys }
-        ensures limit { self.new.line.limit ≡ self.old.line.limit }
-        ensures characters { self.new.line.characters ≡ line_next self.old.keys.iutf8 self.old.line self.old.refused byte }
+        ensures line { self.new.line ≡ line_next self.old.keys.iutf8 self.old.line self.old.refused byte }
         ensures refused { self.new.refused ≡ refused_next self.old.keys.iutf8 self.old.line self.old.refused byte }
         ensures count { result ≡ times_typed self.old.keys.iutf8 self.old.line self.old.refused byte }
     {
@@ -140,28 +174,24 @@ impl Editor {
     }
 
     fn erase(&mut self) -> u16
-        ensures sees { (t : Terminal) (e : Editing) → Holds t e self.old →
+        ensures holds { (t : Terminal) (e : Editing) → Holds t e self.old →
             Holds t (edited_next t e (edit_role.Plain role.Erase)) self.new }
         ensures count { (t : Terminal) (e : Editing) → Holds t e self.old →
             result ≡ times t e (edit_role.Plain role.Erase) }
     {
-        let newest = self.line.newest();
-        self.line.take_newest();
+        let count = self.line.newest().erases();
+        self.line.erase();
         self.refused = Character::none();
-        if newest.length == 0 {
-            1
-        } else {
-            u16::from(newest.length)
-        }
+        count
     }
 
     fn erase_word(&mut self) -> u16
-        ensures sees { (t : Terminal) (e : Editing) → Holds t e self.old → Holds t (edited_next t e edit_role.EraseWord) self.new }
+        ensures holds { (t : Terminal) (e : Editing) → Holds t e self.old →
+            Holds t (edited_next t e edit_role.EraseWord) self.new }
         ensures count { (t : Terminal) (e : Editing) → Holds t e self.old → result ≡ times t e edit_role.EraseWord }
     {
         let before = self.line.bytes();
-        self.line.take_while(self.keys.words, true);
-        self.line.take_while(self.keys.words, false);
+        self.line.erase_word(self.keys.words);
         self.refused = Character::none();
         before.saturating_sub(self.line.bytes())
     }

@@ -1,13 +1,13 @@
 //! Laws of the definitions.
 
-ghost use Rattle.std.specs.Prelude.{◌≡◌, ℕ, List, All, ◌∷◌};
+ghost use Rattle.std.specs.Prelude.{◌≡◌, ℕ, List, All, [], ◌∷◌, ◌++◌};
 ghost use Rattle.tn_discipline.specs.{Canon.{typed_entries, typed_half}, Characters.AreAllowed};
-ghost use Rattle.tn_discipline.specs.Entries.{entries_of, half_of};
-ghost use Rattle.tn_editor.specs.declared.edit_keys.EditRole.{EditRole};
-ghost use Rattle.tn_editor.specs.EditKeys.{Terminal, edit_role_of_key};
-ghost use Rattle.tn_editor.specs.Edited.{Editing, nothing_typed, line_bytes, edited_all, edited_gains, edited_entries, edited_half};
-ghost use Rattle.tn_editor.specs.Whole.{IsCharacter, IsWholeOrNone, bytes_typed};
-ghost use Rattle.tn_editor.specs.Expanding.{expanded, IsAsBefore, expanded_roles};
+ghost use Rattle.tn_discipline.specs.{Entries.{entries_of, half_of}, declared.keys.Role.Role};
+ghost use Rattle.tn_editor.specs.{EditKeys.{Terminal, edit_role_of_key}, declared.edit_keys.EditRole.EditRole};
+ghost use Rattle.tn_editor.specs.Edited.{Editing, after_half, line_bytes, edited_next, edited_all, edited_gains};
+ghost use Rattle.tn_editor.specs.Edited.{edited, edited_entries, edited_half};
+ghost use Rattle.tn_editor.specs.{Whole.{IsCharacter, IsWholeOrNone, bytes_typed}, Expanding.{expanded, expanded_key}};
+ghost use Rattle.tn_editor.specs.Expanding.{IsAsBefore, expanded_roles};
 
 /// For every list of keys, the keys that they become give at a plain terminal the entries, and leave the half
 /// line, that they give and leave at a terminal with the editing keys.
@@ -19,14 +19,24 @@ pub fn expanded_keys_edit_the_line()
 {}
 
 /// For every list of roles, the roles that they become give at a plain terminal the entries, and leave the half
-/// line, that they give and leave at a terminal with the editing keys. The settings that gave each key its role
-/// may change within a line.
+/// line, that they give and leave at a terminal with the editing keys; also after a half line that other keys left
+/// there. The settings that gave each key its role may change within a line.
 pub fn expanded_roles_edit_the_line()
-    ensures entries { (t : Terminal) (roles : List EditRole) →
-        entries_of t.canon.limit (expanded_roles t nothing_typed roles) ≡ edited_gains t nothing_typed roles }
-    ensures half { (t : Terminal) (roles : List EditRole) →
-        half_of t.canon.limit (expanded_roles t nothing_typed roles)
-        ≡ line_bytes (edited_all t nothing_typed roles) }
+    ensures entries { (t : Terminal) (before : List Role) (roles : List EditRole) →
+        let e = after_half (half_of t.canon.limit before) in
+        entries_of t.canon.limit (before ++ expanded_roles t e roles)
+        ≡ entries_of t.canon.limit before ++ edited_gains t e roles }
+    ensures half { (t : Terminal) (before : List Role) (roles : List EditRole) →
+        let e = after_half (half_of t.canon.limit before) in
+        half_of t.canon.limit (before ++ expanded_roles t e roles) ≡ line_bytes (edited_all t e roles) }
+{}
+
+/// One more key goes on from what the keys before it left.
+pub fn keys_are_typed_one_by_one()
+    ensures edited { (t : Terminal) (keys : List ℕ) (key : ℕ) →
+        edited t (keys ++ key ∷ []) ≡ edited_next t (edited t keys) (edit_role_of_key t key) }
+    ensures expanded { (t : Terminal) (keys : List ℕ) (key : ℕ) →
+        expanded t (keys ++ key ∷ []) ≡ expanded t keys ++ expanded_key t (edited t keys) key }
 {}
 
 /// If no editing key is typed, and no character of several bytes, each key becomes itself.

@@ -10,7 +10,7 @@
 //! ```
 #![tactic(auto)]
 
-pub use edit_keys::{EditKeys, EditRole, Words, edit_role};
+pub use edit_keys::{EditKeys, EditRole, Words};
 pub use editor::{Editor, Presses};
 
 mod characters;

@@ -6,5 +6,4 @@ pub push_reserved-requires : goal.push_reserved-requires
 push_reserved-requires c =
     let i = c.self.invariant in
     let few = few_listed c.self.inside.characters.items i.1 in
-    let room = c.requires.room in
-    omega (arith, few, i.0, i.2, i.3)
+    omega (arith, few, i.0, c.requires, i.4)

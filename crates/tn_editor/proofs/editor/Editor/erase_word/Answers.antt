@@ -1,27 +1,18 @@
-use Rattle.std.proofs.Common.{ap, ◌∙◌, ◌-◌, length}
-use Rattle.tn_editor.specs.Grouping.{bytes_of, before_word}
-use Rattle.tn_editor.proofs.Holding.{word_seen, weigh_seen}
+use Rattle.std.proofs.Common.{◌∙◌}
+use Rattle.tn_editor.proofs.Holding.{word_times, word_left, no_word}
 use Rattle.tn_editor.proofs.editor.Editor.erase_word.Goals as goal
 
-pub returns-clause-sees : goal.returns-clause-sees
-returns-clause-sees c =
+pub returns-clause-holds : goal.returns-clause-holds
+returns-clause-holds c =
     λ t e s. record {
       settings = s.settings;
       keys = s.keys;
-      limit = c.take_while-2.ensures.limit ∙ c.take_while.ensures.limit ∙ s.limit;
-      characters =
-          word_seen t e c.args.self.now c.take_while.new.self.characters c.take_while-2.new.self.characters s c.take_while.ensures.characters
-          c.take_while-2.ensures.characters;
-      refused = c.none-self.ensures;
+      line = c.erase_word.ensures ∙ word_left t e c.args.self.now s;
+      refused = c.none-self.ensures ∙ no_word t.keys.words e.ahead e.characters;
     }
 
 pub returns-clause-count : goal.returns-clause-count
 returns-clause-count c =
     λ t e s.
-    let after =
-    word_seen t e c.args.self.now c.take_while.new.self.characters c.take_while-2.new.self.characters s c.take_while.ensures.characters
-    c.take_while-2.ensures.characters in
-    c.saturating_sub.ensures
-    ∙ ap (λ n. n - c.bytes.result) (weigh_seen c.args.self.now.line.characters e.characters c.bytes-before.result c.bytes-before.ensures.value s.characters)
-    ∙ ap (λ n. length (bytes_of e.characters) - n)
-    (weigh_seen c.take_while-2.new.self.characters (before_word t.keys.words e.characters) c.bytes.result c.bytes.ensures.value after)
+    word_times t e c.args.self.now s c.erase_word.new.self c.bytes-before.result c.bytes.result c.saturating_sub.result c.bytes-before.ensures.value
+    c.erase_word.ensures c.bytes.ensures.value c.saturating_sub.ensures
