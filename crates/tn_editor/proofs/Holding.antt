@@ -3,10 +3,10 @@ use Rattle.std.proofs.Common.{◌≡◌, ◌≤◌, ℕ, ◌+◌, ◌-◌, ◌==
 use Rattle.std.proofs.{Common.{ap, ◌∙◌, subst, if◌then◌else◌, arith, length-append, length-take}, lemmas.List.take_at}
 use Rattle.tn_discipline.specs.{Keys.role_of_key, Limits.max_counted, Steps.front, declared.termios.Settings.Settings}
 use Rattle.tn_discipline.specs.declared.keys.Role.TheVariants as role
-use Rattle.tn_editor.specs.Grouping.{look, is_between, announced, continues, newest, before_newest, bytes_of, with_byte, wanted, past, before_word}
+use Rattle.tn_editor.specs.Grouping.{look, is_between, announced, continues, newest, before_newest, bytes_of, with_byte, past, before_word}
 use Rattle.tn_editor.specs.{EditKeys.{Terminal, edit_role, edit_role_of_key}, Edited.{is_kept, with_refused, typed_byte, edited_next}, Following.Holds}
 use Rattle.tn_editor.specs.Edited.{Editing, no_character, after_half, with_characters, line_bytes, without_last, without_word, erased, word_erased, is_refused}
-use Rattle.tn_editor.specs.{Expanding.{times, erases_newest, erases_word}, declared.{characters.Character.Character, edit_keys.EditKeys.EditKeys}}
+use Rattle.tn_editor.specs.{Expanding.{times, erases_newest}, declared.{characters.Character.Character, edit_keys.EditKeys.EditKeys}}
 use Rattle.tn_editor.specs.EditedLines.{HeldLine, as_held, line_length, newest_look, rest_of, weigh, AreSome, begun, grown, joined, line_joined, is_parting}
 use Rattle.tn_editor.specs.EditedLines.{line_erased, line_word_erased, left_of, room_for, is_taken, refused_next, line_next, times_typed, times_erased}
 use Rattle.tn_editor.specs.declared.{edit_keys.{EditRole.TheVariants.{Plain, EraseWord}, Words.Words}, editor.Editor.Editor}

@@ -5,3 +5,4 @@ pub mod AsBefore
 pub mod EditedLines
 pub mod Holding
 pub mod Whole
+pub mod Recalling

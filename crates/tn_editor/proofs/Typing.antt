@@ -1,6 +1,6 @@
 -- What typed keys become edits the line.
 use Rattle.std.proofs.Common.{◌≡◌, ◌≤◌, ℕ, ◌+◌, ◌==◌, nat_le, Bool, true, false, not, ◌&&◌, ◌||◌, List, [], ◌∷◌, ◌++◌, length, map, replicate, refl, sym, ap, ◌∙◌}
-use Rattle.std.proofs.Common.{if◌then◌else◌, arith, append-nil, append_assoc, length-append}
+use Rattle.std.proofs.Common.{if◌then◌else◌, arith, append-nil, append_assoc}
 use Rattle.tn_discipline.specs.{Canon.{typed_entries, typed_half}, Keys.{role_of_key, roles_of, roles_from}, Steps.{front, half_next, gain_next, half_all, gain_all}}
 use Rattle.tn_discipline.specs.{Characters.AreAllowed, Entries.{entries_of, half_of}, Limits.max_counted, declared.{keys.Role.Role, reads.Entry.Entry}}
 use Rattle.tn_discipline.specs.declared.keys.Role.TheVariants as role

@@ -5,3 +5,4 @@ pub mod Expanding
 pub mod EditedLines
 pub mod Following
 pub mod Whole
+pub mod Recalling

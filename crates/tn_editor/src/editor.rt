@@ -1,10 +1,10 @@
 //! The editor, which turns each typed key into keys of a plain terminal.
 
-ghost use Rattle.std.specs.Prelude.{◌≡◌, ◌<◌, ℕ, List, [], ◌++◌, length, IfOk};
+ghost use Rattle.std.specs.Prelude.{◌≡◌, ◌<◌, ℕ, List, [], ◌++◌, length, true, Some, All, IfOk, IfSome};
 ghost use Rattle.tn_editor.specs.{EditKeys.{Terminal, edit_role_of_key}, Expanding.{times, becomes}};
 ghost use Rattle.tn_editor.specs.Edited.{Editing, after_half, nothing_typed, line_bytes, edited_next, no_character};
 ghost use Rattle.tn_editor.specs.{Following.{Holds, GoesOn, Becomes}, EditedLines.{begun, is_taken}};
-ghost use Rattle.tn_editor.specs.{EditedLines.{refused_next, line_next, times_typed}};
+ghost use Rattle.tn_editor.specs.{EditedLines.{refused_next, line_next, times_typed}, Recalling.IsItself};
 ghost use Rattle.tn_discipline.specs.declared.keys.Role.TheVariants as role;
 ghost use Rattle.tn_editor.specs.declared.edit_keys.EditRole.TheVariants as edit_role;
 
@@ -25,10 +25,10 @@ pub struct Presses {
 /// The editing keys of a user's terminal in front of a plain one.
 #[derive(Drop)]
 pub struct Editor {
-    pub(crate) roles: Roles,
-    pub(crate) keys: EditKeys,
-    pub(crate) line: EditedLine,
-    pub(crate) refused: Character,
+    roles: Roles,
+    keys: EditKeys,
+    line: EditedLine,
+    refused: Character,
 }
 
 impl Editor {
@@ -84,6 +84,34 @@ impl Editor {
         ensures { (t : Terminal) (e : Editing) → Holds t e self.now → result ≡ edit_role_of_key t key }
     {
         edit_role(&self.roles.settings(), &self.keys, self.roles.role(key))
+    }
+
+    /// The KILL character, if it and the bytes of this line, typed as keys, leave the line in place of the half line
+    /// (`laws::an_earlier_line_comes_back`): each byte joins a line as it is.
+    pub fn recalls(&self, line: &[u8]) -> Option<u8>
+        ensures kill { (t : Terminal) (e : Editing) → Holds t e self.now →
+            IfSome result (λ kill. t.canon.settings.chars.kill ≡ Some kill) }
+        ensures line { (t : Terminal) (e : Editing) → Holds t e self.now →
+            IfSome result (λ _. All (IsItself t) line.now) }
+    {
+        for byte in line {
+            if !self.is_itself(*byte) {
+                return None;
+            }
+        }
+        self.kill()
+    }
+
+    fn is_itself(&self, byte: u8) -> bool
+        ensures { (t : Terminal) (e : Editing) → Holds t e self.now → result ≡ true → IsItself t byte }
+    {
+        joins(self.role(byte), byte)
+    }
+
+    fn kill(&self) -> Option<u8>
+        ensures { (t : Terminal) (e : Editing) → Holds t e self.now → result ≡ t.canon.settings.chars.kill }
+    {
+        self.roles.settings().chars.get(Func::El)
     }
 
     /// Types a key, and returns what it becomes at the plain terminal. That terminal then gives the entries that
@@ -195,6 +223,13 @@ impl Editor {
         self.refused = Character::none();
         before.saturating_sub(self.line.bytes())
     }
+}
+
+// Whether a key of this role joins the line with this byte.
+fn joins(found: EditRole, byte: u8) -> bool
+    ensures { result ≡ true → found ≡ edit_role.Plain (role.Ordinary byte) }
+{
+    found == EditRole::Plain(Role::Ordinary(byte))
 }
 
 // The key that is typed at the plain terminal.

@@ -1,12 +1,13 @@
 //! Laws of the definitions.
 
-ghost use Rattle.std.specs.Prelude.{◌≡◌, ℕ, List, All, [], ◌∷◌, ◌++◌};
+ghost use Rattle.std.specs.Prelude.{◌≡◌, ℕ, Some, List, All, [], ◌∷◌, ◌++◌};
 ghost use Rattle.tn_discipline.specs.{Canon.{typed_entries, typed_half}, Characters.AreAllowed};
 ghost use Rattle.tn_discipline.specs.{Entries.{entries_of, half_of}, declared.keys.Role.Role};
-ghost use Rattle.tn_editor.specs.{EditKeys.{Terminal, edit_role_of_key}, declared.edit_keys.EditRole.EditRole};
+ghost use Rattle.tn_editor.specs.{EditKeys.{Terminal, edit_role_of_key, edit_roles_of}, declared.edit_keys.EditRole.EditRole};
 ghost use Rattle.tn_editor.specs.Edited.{Editing, after_half, line_bytes, edited_next, edited_all, edited_gains};
 ghost use Rattle.tn_editor.specs.Edited.{edited, edited_entries, edited_half};
 ghost use Rattle.tn_editor.specs.{Whole.{IsCharacter, IsWholeOrNone, bytes_typed}, Expanding.{expanded, expanded_key}};
+ghost use Rattle.tn_editor.specs.{Recalling.{IsItself, recalling}, Expanding.expanded_from};
 ghost use Rattle.tn_editor.specs.Expanding.{IsAsBefore, expanded_roles};
 
 /// For every list of keys, the keys that they become give at a plain terminal the entries, and leave the half
@@ -37,6 +38,19 @@ pub fn keys_are_typed_one_by_one()
         edited t (keys ++ key ∷ []) ≡ edited_next t (edited t keys) (edit_role_of_key t key) }
     ensures expanded { (t : Terminal) (keys : List ℕ) (key : ℕ) →
         expanded t (keys ++ key ∷ []) ≡ expanded t keys ++ expanded_key t (edited t keys) key }
+{}
+
+/// KILL, and then the bytes of a line that was typed before, bring this line back, if each of its bytes joins a line
+/// as it is. These keys become themselves.
+pub fn an_earlier_line_comes_back()
+    ensures half { (t : Terminal) (e : Editing) (keys : List ℕ) (kill : ℕ) →
+        AreAllowed t.canon.settings.chars → t.canon.settings.chars.kill ≡ Some kill →
+        All (IsItself t) (edited_half t keys) →
+        line_bytes (edited_all t e (edit_roles_of t (recalling kill (edited_half t keys)))) ≡ edited_half t keys }
+    ensures keys { (t : Terminal) (e : Editing) (keys : List ℕ) (kill : ℕ) →
+        AreAllowed t.canon.settings.chars → t.canon.settings.chars.kill ≡ Some kill →
+        All (IsItself t) (edited_half t keys) →
+        expanded_from t e (recalling kill (edited_half t keys)) ≡ recalling kill (edited_half t keys) }
 {}
 
 /// If no editing key is typed, and no character of several bytes, each key becomes itself.

@@ -8,13 +8,20 @@
 //! editor.key(0xa9); // the key 0xa9, once
 //! editor.key(0x7f); // the key 0x7f, twice
 //! ```
+//!
+//! `History` keeps the lines that were typed before, and `Arrows` recognizes the keys that ask for them. Only the
+//! history wants memory after the start.
 #![tactic(auto)]
 
+pub use cursor_keys::{Arrow, Arrows, Pressed};
 pub use edit_keys::{EditKeys, EditRole, Words};
 pub use editor::{Editor, Presses};
+pub use history::History;
 
 mod characters;
+mod cursor_keys;
 mod edit_keys;
 mod edited_line;
 mod editor;
+mod history;
 pub mod laws;

@@ -4,15 +4,17 @@
 use super::play_all;
 use std::alloc::Global;
 use tn_discipline::{Effect, Limit, Line, Settings};
-use tn_editor::{EditKeys, Editor, Words};
+use tn_editor::{Arrows, EditKeys, Editor, History, Words};
 use tn_test_models::page;
-use tn_test_models::page::{Page, Stage};
+use tn_test_models::page::{Page, Stage, size_of};
 
 #[derive(Drop)]
 struct Editing {
     alloc: Global,
     editor: Editor,
     line: Line,
+    history: History,
+    arrows: Arrows,
 }
 
 fn editor(alloc: Global, words: Words) -> Option<Editor> {
@@ -31,6 +33,8 @@ impl Stage for Editing {
             alloc,
             editor: editor(alloc, Words::Symbols)?,
             line: Line::new(alloc, Limit::standard()).ok()?,
+            history: History::new(alloc),
+            arrows: Arrows::new(),
         })
     }
 
@@ -38,6 +42,21 @@ impl Stage for Editing {
         match words.verb {
             "blanks" => return self.renew(),
             "held" => page.bytes("held", self.line.held()),
+            "half" => page.bytes("half", self.editor.half_line()),
+            "resume" => self.editor.resume(size_of(words.first)),
+            "silent" => self.silence(),
+            "keep" => return self.history.keep(self.editor.half_line()).is_err(),
+            "up" => return self.up(page),
+            "down" => {
+                page.say(&self.history.down());
+                self.recall(page);
+            },
+            "bytes" => {
+                for byte in &words.bytes(self.alloc) {
+                    page.say(&self.arrows.take(*byte));
+                }
+            },
+            "nothing-follows" => page.say(&self.arrows.give_up()),
             _ => {
                 for key in &words.bytes(self.alloc) {
                     self.type_one(words.verb, *key, page);
@@ -58,6 +77,44 @@ impl Editing {
             },
             None => true,
         }
+    }
+
+    // Nothing is shown any more, and there is no WERASE.
+    fn silence(&mut self) {
+        let mut settings = Settings::standard();
+        settings.flags.echo = false;
+        let keys = EditKeys {
+            werase: None,
+            rprnt: Some(0x12),
+            iutf8: true,
+            words: Words::Symbols,
+        };
+        self.editor.set(settings, keys);
+    }
+
+    fn up(&mut self, page: &mut Page) -> bool {
+        match self.history.up(self.editor.half_line()) {
+            Ok(went) => {
+                page.say(&went);
+                self.recall(page);
+                false
+            },
+            Err(_) => true,
+        }
+    }
+
+    // Puts the line that the user looks at in place of the half line.
+    fn recall(&mut self, page: &mut Page) {
+        let Ok(line) = Vec::from_slice(self.alloc, self.history.line()) else {
+            return;
+        };
+        if let Some(kill) = self.editor.recalls(&line) {
+            self.type_one("keys", kill, page);
+            for key in &line {
+                self.type_one("keys", *key, page);
+            }
+        }
+        page.bytes("held", self.line.held());
     }
 
     fn type_one(&mut self, verb: &str, key: u8, page: &mut Page) {
@@ -107,6 +164,29 @@ const SCRIPTS: &[(&str, &str)] = &[
     (
         "keys 252x61.c3a90a; keys 253x61.c3a90a; keys 254x61.c3a90a; keys 254x61; presses 62",
         "text 252x61.c3a90a; text 253x61.0a; text 254x61.0a; 1",
+    ),
+    // Of bytes that were typed before nothing is known.
+    (
+        "resume 3; presses c3a97f7f17157f17; half; resume 254; presses 61",
+        "1; 1; 2; 1; 1; 1; 1; 0; half; 1",
+    ),
+    // Settings change within a line; REPRINT is data if nothing is shown.
+    (
+        "keys 61c3a9; silent; presses 17127f7f7f; half",
+        "1; 1; 1; 1; 2; half 61",
+    ),
+    // An earlier line is typed again after KILL.
+    (
+        "keys 61c3a9; keep; keys 0d; keys 62; keep; keep; keys 0d; keys 63; up; up; up; down; down; down",
+        "text 61c3a90a; text 620a; true; held 62; true; held 61c3a9; false; held 61c3a9; true; held 62; \
+         true; held 63; false; held 63",
+    ),
+    // Cursor keys come cut anywhere; other bytes are passed on.
+    (
+        "bytes 611b5b; bytes 411b4f441b1b5b1b; nothing-follows; bytes 1b4f78",
+        "Bytes([Some(97), None, None]); Waits; Waits; Arrow(Up); Waits; Waits; Arrow(Left); Waits; \
+         Bytes([Some(27), None, None]); Waits; Bytes([Some(27), Some(91), None]); \
+         [Some(27), None, None]; Waits; Waits; Bytes([Some(27), Some(79), Some(120)])",
     ),
 ];
 

@@ -1,7 +1,6 @@
-use Rattle.std.proofs.Common.{◌≡◌, ℕ, sym, ap, ◌∙◌, subst, replicate}
+use Rattle.std.proofs.Common.{◌≡◌, ℕ, ap, ◌∙◌, subst, replicate}
 use Rattle.tn_discipline.specs.declared.termios.Settings.{Settings}
-use Rattle.tn_editor.specs.{EditKeys.{Terminal, edit_role_of_key}, Edited.{Editing, edited_next}, Expanding.{times, becomes}, Following.Holds}
-use Rattle.tn_editor.specs.declared.edit_keys.EditRole.{EditRole}
+use Rattle.tn_editor.specs.{EditKeys.edit_role_of_key, Edited.edited_next, Expanding.{times, becomes}, Following.Holds, declared.edit_keys.EditRole.EditRole}
 use Rattle.tn_editor.proofs.editor.Editor.key.Goals as goal
 
 pub returns-clause-goes_on : goal.returns-clause-goes_on
