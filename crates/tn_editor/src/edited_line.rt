@@ -71,6 +71,18 @@ impl EditedLine {
         self.held.as_slice()
     }
 
+    /// How many bytes are ahead.
+    pub(crate) fn ahead(&self) -> u16
+        ensures { result ≡ self.now.ahead }
+    {
+        self.ahead
+    }
+
+    /// The characters of the bytes that are held, from the first to the last.
+    pub(crate) fn characters(&self) -> &[Character] {
+        self.characters.as_slice()
+    }
+
     pub(crate) fn limit(&self) -> Limit
         ensures { result ≡ self.now.limit }
     {

@@ -25,10 +25,10 @@ pub struct Presses {
 /// The editing keys of a user's terminal in front of a plain one.
 #[derive(Drop)]
 pub struct Editor {
-    roles: Roles,
-    keys: EditKeys,
-    line: EditedLine,
-    refused: Character,
+    pub(crate) roles: Roles,
+    pub(crate) keys: EditKeys,
+    pub(crate) line: EditedLine,
+    pub(crate) refused: Character,
 }
 
 impl Editor {

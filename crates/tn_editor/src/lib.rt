@@ -9,17 +9,20 @@
 //! editor.key(0x7f); // the key 0x7f, twice
 //! ```
 //!
-//! `History` keeps the lines that were typed before, and `Arrows` recognizes the keys that ask for them. Only the
-//! history wants memory after the start.
+//! The editor draws nothing: `Drawn` is the half line on a screen. `History` keeps the lines that were typed before,
+//! and `Arrows` recognizes the keys that ask for them. Only the history and what is drawn want memory.
 #![tactic(auto)]
 
 pub use cursor_keys::{Arrow, Arrows, Pressed};
+pub use drawing::Drawn;
 pub use edit_keys::{EditKeys, EditRole, Words};
 pub use editor::{Editor, Presses};
 pub use history::History;
 
 mod characters;
+mod columns;
 mod cursor_keys;
+mod drawing;
 mod edit_keys;
 mod edited_line;
 mod editor;

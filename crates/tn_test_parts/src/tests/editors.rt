@@ -2,9 +2,9 @@
 //! Linux with IUTF8 gives the same lines, but at the limit it leaves a part of a character.
 
 use super::play_all;
-use std::alloc::Global;
+use std::alloc::{AllocError, Global};
 use tn_discipline::{Effect, Limit, Line, Settings};
-use tn_editor::{Arrows, EditKeys, Editor, History, Words};
+use tn_editor::{Arrows, Drawn, EditKeys, Editor, History, Words};
 use tn_test_models::page;
 use tn_test_models::page::{Page, Stage, size_of};
 
@@ -193,4 +193,81 @@ const SCRIPTS: &[(&str, &str)] = &[
 #[test]
 fn keys_are_edited_before_a_plain_terminal(rt: HostRuntime) {
     play_all::<Editing>(&rt, rt.alloc(), SCRIPTS);
+}
+
+#[derive(Drop)]
+struct Drawing {
+    alloc: Global,
+    editor: Editor,
+    drawn: Drawn,
+}
+
+impl Stage for Drawing {
+    fn open(alloc: Global) -> Option<Drawing> {
+        Some(Drawing {
+            alloc,
+            editor: editor(alloc, Words::Symbols)?,
+            drawn: Drawn::new(alloc, Limit::standard(), true, 10).ok()?,
+        })
+    }
+
+    fn step(&mut self, words: page::Words<'_>, page: &mut Page) -> bool {
+        let mut out = Vec::new(self.alloc);
+        let refused = match words.verb {
+            "output" => {
+                self.drawn.shown(&words.bytes(self.alloc));
+                Ok(())
+            },
+            "away" => self.drawn.away(&mut out),
+            "resume" => {
+                self.editor.resume(size_of(words.first));
+                self.drawn.again(&self.editor, &mut out)
+            },
+            "again" => self.drawn.again(&self.editor, &mut out),
+            _ => self.type_all(&words.bytes(self.alloc), &mut out),
+        };
+        page.tell(words.verb, &mut out);
+        refused.is_err()
+    }
+}
+
+impl Drawing {
+    fn type_all(&mut self, keys: &[u8], out: &mut Vec<u8>) -> Result<(), AllocError> {
+        for key in keys {
+            let role = self.editor.role(*key);
+            let _presses = self.editor.key(*key);
+            self.drawn.key(&self.editor, role, out)?;
+        }
+        Ok(())
+    }
+}
+
+const DRAWN: &[(&str, &str)] = &[
+    // A control character takes two columns, a tab as many as there are to the next stop, and a part of a character
+    // none.
+    (
+        "keys 61017f; keys 09; keys 7f; keys c3; keys a9; keys 7f",
+        "keys 615e41082008082008; keys 20202020202020; keys 082008082008082008082008082008082008082008; \
+         keys c3a9; keys 082008",
+    ),
+    // What stands on several rows is taken away, and shown again after the output.
+    (
+        "output 3e20; keys 8x61.62; away; output 78; again",
+        "keys 6161616161616161200d62; away 1b5b410d1b5b431b5b431b5b4a; again 61616161616161200d6162",
+    ),
+    // REPRINT shows the line again, KILL takes it away, and a new line ends it.
+    (
+        "keys 6112; keys 15; keys 03; keys 610d",
+        "keys 615e520d0a61; keys 082008; keys 5e43; keys 610d0a",
+    ),
+    // Of a byte that was typed before a column is rubbed out.
+    (
+        "output 3e20616263; resume 3; keys 647f7f; keys 15; keys 65",
+        "keys 64082008082008; keys 082008082008; keys 65",
+    ),
+];
+
+#[test]
+fn what_is_typed_is_drawn(rt: HostRuntime) {
+    play_all::<Drawing>(&rt, rt.alloc(), DRAWN);
 }
