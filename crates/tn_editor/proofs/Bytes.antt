@@ -63,7 +63,7 @@ pub erases_give_nothing : (limit n : ℕ) (half : List ℕ) → gain_all limit h
 erases_give_nothing limit zero half = refl
 erases_give_nothing limit (suc n) half = erases_give_nothing limit n (front half)
 
--- so many as there are bytes after the front leave the front
+-- an ERASE for each byte after the front leaves the front
 pub erases_to : (limit : ℕ) (whole front : List ℕ) → Front whole front
     → half_all limit whole (replicate (length whole - length front) role.Erase) ≡ front
 erases_to limit whole front p =

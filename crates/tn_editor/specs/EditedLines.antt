@@ -74,7 +74,7 @@ cut_to line characters =
 abbrev pub line_before : HeldLine → HeldLine
 line_before line = record line { ahead = line.ahead - 1 }
 
--- the character parts words, or doesn't
+-- the character parts words, or does not
 abbrev pub is_parting : Bool → Words → Character → Bool
 is_parting true w character = parts_words w character
 is_parting false w character = not (parts_words w character)

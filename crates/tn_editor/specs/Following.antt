@@ -10,12 +10,12 @@ pub record Holds (t : Terminal) (e : Editing) (editor : Editor) : Type 0 where
   pub line : editor.line ≡ as_held t.canon.limit e
   pub refused : editor.refused ≡ e.refused
 
--- at whatever terminal, and after whatever was typed, the new editor holds what this key leaves
+-- at every terminal, and after all that may have been typed there, the new editor holds what this key leaves
 abbrev pub GoesOn : Editor → ℕ → Editor → Type 0
 GoesOn old key new =
     (t : Terminal) (e : Editing) → Holds t e old → Holds t (edited_next t e (edit_role_of_key t key)) new
 
--- at whatever terminal, and after whatever was typed, these presses are what this key becomes
+-- at every terminal, and after all that may have been typed there, these presses are what this key becomes
 abbrev pub Becomes : Editor → ℕ → Presses → Type 0
 Becomes old key presses =
     (t : Terminal) (e : Editing) → Holds t e old → replicate presses.count presses.key ≡ expanded_key t e key

@@ -22,7 +22,7 @@ abbrev pub look : List ℕ → Character
 look [] = record { first = 0; length = 0 }
 look (first ∷ more) = record { first = first; length = length (first ∷ more) }
 
--- the byte is one more of a character of which so many bytes came; any other byte begins one
+-- the byte goes on with a character that began so; any other byte begins one
 abbrev pub continues : Bool → Character → ℕ → Bool
 continues iutf8 character byte =
     is_between 128 191 byte && (nat_lt 0 character.length && nat_lt character.length (announced iutf8 character.first))
@@ -54,7 +54,7 @@ wanted iutf8 characters byte = if continues iutf8 (look (newest characters)) byt
 abbrev pub is_word_byte : ℕ → Bool
 is_word_byte byte = is_between 48 57 byte || is_between 65 90 byte || is_between 97 122 byte || byte == 95
 
--- the character parts words: a space or a tab does, or whatever of ASCII is no letter, digit or underline
+-- the character parts words: a space or a tab does, or all of ASCII but letters, digits and the underline
 abbrev pub parts_words : Words → Character → Bool
 parts_words words.Blanks character = character.first == 32 || character.first == 9
 parts_words words.Symbols character = nat_lt character.first 128 && not (is_word_byte character.first)

@@ -6,7 +6,7 @@ use unicode_width::UnicodeWidthChar;
 #[derive(Clone, Copy, PartialEq, Eq)]
 enum Begun {
     Nothing,
-    // A character with this code so far, and so many bytes to come.
+    // A character with this code so far, and this number of bytes to come.
     Character(u32, u8),
     // ESC
     Escape,
@@ -43,7 +43,7 @@ impl Column {
         self.begun = Begun::Nothing;
     }
 
-    /// Takes a byte that is shown in a window of so many columns.
+    /// Takes a byte that is shown in a window with this number of columns.
     pub(crate) fn take(&mut self, window: usize, byte: u8) {
         let begun = self.begun;
         self.begun = Begun::Nothing;

@@ -31,7 +31,7 @@ pub struct Drawn {
 /// How a character is drawn.
 #[derive(Clone, Copy, PartialEq, Eq)]
 enum Look {
-    // Its own bytes, over so many columns.
+    // Its own bytes, over this number of columns.
     Own(usize),
     Tab,
     // A circumflex and this byte.
@@ -44,8 +44,8 @@ enum Look {
 }
 
 impl Drawn {
-    /// An empty line, at the left edge of a window of so many columns; 0 stands for a window without an edge. Control
-    /// characters are drawn as `^X` if ECHOCTL says so, else as they are.
+    /// An empty line, at the left edge of a window of `window` columns; 0 stands for a window without an edge. Control
+    /// characters are drawn as `^X` if ECHOCTL is on, else as they are.
     ///
     /// # Errors
     ///
@@ -202,7 +202,7 @@ impl Drawn {
         self.draw(editor, out)
     }
 
-    // Rubs the last characters out, up to so many. Where a combining one goes, the one before it is drawn again.
+    // Rubs out all but this number of characters. If a combining one goes, the one before it is drawn again.
     fn rub_out(&mut self, count: usize, out: &mut Vec<u8>) -> Result<(), AllocError> {
         let mut left = count;
         if self.widths.get(count) == Some(&0) {

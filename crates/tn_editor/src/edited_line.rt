@@ -145,7 +145,7 @@ impl EditedLine {
         self.characters.clear();
     }
 
-    /// Takes all away but so many bytes ahead.
+    /// Takes all away, and leaves this number of bytes ahead.
     pub(crate) fn resume(&mut self, ahead: u16)
         requires { ahead < self.old.limit }
         ensures { self.new ≡ record { ahead = ahead; held = []; characters = []; limit = self.old.limit } }

@@ -33,6 +33,10 @@ pub struct Editor {
 
 impl Editor {
     /// An editor with an empty line. It makes the room for a whole line once, and wants no memory later.
+    ///
+    /// # Errors
+    ///
+    /// - Out of memory: there is no room for a line, or for the roles of the keys.
     pub fn new(
         alloc: Global,
         settings: Settings,
@@ -60,9 +64,9 @@ impl Editor {
         self.keys = keys;
     }
 
-    /// Begins after a half line of so many bytes, which were typed before. Nothing is known of these bytes: ERASE and
-    /// WERASE take back one of them if no other character is left, and KILL takes back all. A half line of as many
-    /// bytes as the limit, or of more, counts as a full one.
+    /// Begins after a half line of `ahead` bytes, which were typed before. Nothing is known of these bytes: ERASE and
+    /// WERASE take back one of them if no other character is left, and KILL takes back all. If they are as many as
+    /// the limit, or more, the line counts as full.
     pub fn resume(&mut self, ahead: u16)
         ensures { (t : Terminal) (e : Editing) (half : List ℕ) → Holds t e self.old →
             length half ≡ ahead → ahead < t.canon.limit → Holds t (after_half half) self.new }

@@ -32,7 +32,7 @@ impl History {
     }
 
     /// Keeps a line, without its closing byte. An empty line, and one that is the newest already, is left out.
-    /// Without memory for it nothing is kept. The next `up` gives the newest line.
+    /// The next `up` gives the newest line.
     ///
     /// # Errors
     ///
@@ -94,7 +94,7 @@ impl History {
         }
     }
 
-    // Lets the oldest lines go until there is room for so many bytes more.
+    // Lets the oldest lines go until there is room for this number of bytes.
     fn make_room(&mut self, bytes: usize) {
         for _ in 0..self.lines.len() {
             let is_short = self.lines.len() < MOST_LINES;
