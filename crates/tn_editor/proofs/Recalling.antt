@@ -190,10 +190,6 @@ module _ (t : Terminal) where
         ap (λ (r : EditRole). replicate (times t e r) (becomes t.canon.settings.chars r kill) ++ expanded_from t (edited_next t e r) line) kills
         ∙ ap (λ rest. kill ∷ rest) (itself_expanded line nothing_typed all (line_comes keys).kept)
 
-pub some_itself : (value found : Option ℕ) → found ≡ value → IfSome found (λ byte. value ≡ Some byte)
-some_itself value None h = tt
-some_itself value (Some byte) h = sym h
-
 pub always : (found : Option ℕ) (P : Type 0) → P → IfSome found (λ _. P)
 always None P p = tt
 always (Some byte) P p = p

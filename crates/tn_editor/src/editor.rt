@@ -1,6 +1,6 @@
 //! The editor, which turns each typed key into keys of a plain terminal.
 
-ghost use Rattle.std.specs.Prelude.{◌≡◌, ◌<◌, ℕ, List, [], ◌++◌, length, true, Some, All, IfOk, IfSome};
+ghost use Rattle.std.specs.Prelude.{◌≡◌, ◌<◌, ◌↔◌, ℕ, List, [], ◌++◌, length, true, All, IfOk, IfSome};
 ghost use Rattle.tn_editor.specs.{EditKeys.{Terminal, edit_role_of_key}, Expanding.{times, becomes}};
 ghost use Rattle.tn_editor.specs.Edited.{Editing, after_half, nothing_typed, line_bytes, edited_next, no_character};
 ghost use Rattle.tn_editor.specs.{Following.{Holds, GoesOn, Becomes}, EditedLines.{begun, is_taken}};
@@ -90,11 +90,11 @@ impl Editor {
         edit_role(&self.roles.settings(), &self.keys, self.roles.role(key))
     }
 
-    /// The KILL character, if it and the bytes of this line, typed as keys, leave the line in place of the half line
-    /// (`laws::an_earlier_line_comes_back`): each byte joins a line as it is.
+    /// The KILL character, if there is one, and if each byte of this line joins a line as it is: KILL and these bytes,
+    /// typed as keys, then leave the line in place of the half line (`laws::an_earlier_line_comes_back`).
     pub fn recalls(&self, line: &[u8]) -> Option<u8>
         ensures kill { (t : Terminal) (e : Editing) → Holds t e self.now →
-            IfSome result (λ kill. t.canon.settings.chars.kill ≡ Some kill) }
+            All (IsItself t) line.now → result ≡ t.canon.settings.chars.kill }
         ensures line { (t : Terminal) (e : Editing) → Holds t e self.now →
             IfSome result (λ _. All (IsItself t) line.now) }
     {
@@ -107,7 +107,7 @@ impl Editor {
     }
 
     fn is_itself(&self, byte: u8) -> bool
-        ensures { (t : Terminal) (e : Editing) → Holds t e self.now → result ≡ true → IsItself t byte }
+        ensures { (t : Terminal) (e : Editing) → Holds t e self.now → (result ≡ true) ↔ IsItself t byte }
     {
         joins(self.role(byte), byte)
     }
@@ -231,7 +231,7 @@ impl Editor {
 
 // Whether a key of this role joins the line with this byte.
 fn joins(found: EditRole, byte: u8) -> bool
-    ensures { result ≡ true → found ≡ edit_role.Plain (role.Ordinary byte) }
+    ensures { (result ≡ true) ↔ (found ≡ edit_role.Plain (role.Ordinary byte)) }
 {
     found == EditRole::Plain(Role::Ordinary(byte))
 }
