@@ -1,15 +1,15 @@
 -- What typed keys become edits the line.
 use Rattle.std.proofs.Common.{◌≡◌, ◌≤◌, ℕ, ◌+◌, ◌==◌, nat_le, Bool, true, false, not, ◌&&◌, ◌||◌, List, [], ◌∷◌, ◌++◌, length, map, replicate, refl, sym, ap, ◌∙◌}
 use Rattle.std.proofs.Common.{if◌then◌else◌, arith, append-nil, append_assoc}
-use Rattle.tn_discipline.specs.{Canon.{typed_entries, typed_half}, Keys.{role_of_key, roles_of, roles_from}, Steps.{front, half_next, gain_next, half_all, gain_all}}
+use Rattle.tn_discipline.specs.{Canon.{Canon, typed_entries, typed_half}, Keys.{role_of_key, roles_of, roles_from}, Steps.{front, half_next, gain_next, half_all, gain_all}}
 use Rattle.tn_discipline.specs.{Characters.AreAllowed, Entries.{entries_of, half_of}, Limits.max_counted, declared.{keys.Role.Role, reads.Entry.Entry}}
 use Rattle.tn_discipline.specs.declared.keys.Role.TheVariants as role
 use Rattle.tn_discipline.proofs.lemmas.{Histories.{half-all, entries-all}, KeyRoles.{roles_of-one, roles_of-append}}
-use Rattle.tn_editor.specs.{Grouping.{bytes_of, with_byte, wanted}, EditKeys.{Terminal, edit_role, edit_role_of_key, edit_roles_of}}
-use Rattle.tn_editor.specs.Edited.{Editing, after_half, nothing_typed, with_characters, line_bytes, without_last, word_erased, is_refused, has_room, is_kept, with_refused, edited_next}
-use Rattle.tn_editor.specs.{Edited.{edited_gain, edited_all, edited_gains, edited, edited_entries, edited_half}, declared.edit_keys.EditRole.EditRole}
-use Rattle.tn_editor.specs.Expanding.{times, erases_newest, erases_word, is_dropped_there, expanded_key, expanded_from, expanded, played_times, expanded_roles}
-use Rattle.tn_editor.specs.declared.edit_keys.EditRole.TheVariants.{Plain, EraseWord, Reprint}
+use Rattle.tn_editor.specs.{Grouping.{bytes_of, with_byte, wanted}, declared.edit_keys.EditRole.{EditRole, TheVariants.{Plain, EraseWord, Reprint}}}
+use Rattle.tn_editor.specs.{EditKeys.{Terminal, edit_role, edit_role_of_key, edit_roles_of}, Changing.{Typed, under, typed_all, typed_gains, expanded_roles}}
+use Rattle.tn_editor.specs.Edited.{Editing, after_half, nothing_typed, with_characters, line_bytes, without_last, word_erased, is_refused, has_room, is_kept}
+use Rattle.tn_editor.specs.Edited.{with_refused, edited_next, edited_gain, edited_all, edited_gains, edited, edited_entries, edited_half}
+use Rattle.tn_editor.specs.Expanding.{times, erases_newest, erases_word, is_dropped_there, expanded_key, expanded_from, expanded, played_times}
 use Rattle.tn_editor.proofs.{Bytes.{joined_after, word_erased_front, erases_leave, erases_to, erases_give_nothing, wanted_some}, Keys.roles_of_expanded}
 
 -- MORE ROLES
@@ -97,52 +97,56 @@ module _ (t : Terminal) (e : Editing) where
   step_gain (Plain (role.Eol2 byte)) = refl
   step_gain (Plain (role.Signal sig)) = refl
 
--- ALL KEYS
-module _ (t : Terminal) where
-  -- by their roles
-  role_halves : (roles : List EditRole) (e : Editing)
-      → half_all t.canon.limit (line_bytes e) (expanded_roles t e roles) ≡ line_bytes (edited_all t e roles)
-  role_halves [] e = refl
-  role_halves (r ∷ roles) e =
-      let next = edited_next t e r in
-      half_all-append t.canon.limit (played_times r (times t e r)) (expanded_roles t next roles) (line_bytes e)
-      ∙ ap (λ half. half_all t.canon.limit half (expanded_roles t next roles)) (step_half t e r)
-      ∙ role_halves roles next
+-- KEYS WHILE SETTINGS CHANGE
+module _ (canon : Canon) where
+  typed_halves : (typed : List Typed) (e : Editing)
+      → half_all canon.limit (line_bytes e) (expanded_roles canon e typed) ≡ line_bytes (typed_all canon e typed)
+  typed_halves [] e = refl
+  typed_halves (key ∷ typed) e =
+      let t = under canon key.keys in
+      let next = edited_next t e key.role in
+      let more = expanded_roles canon next typed in
+      half_all-append canon.limit (played_times key.role (times t e key.role)) more (line_bytes e)
+      ∙ ap (λ half. half_all canon.limit half more) (step_half t e key.role)
+      ∙ typed_halves typed next
 
-  role_gains : (roles : List EditRole) (e : Editing)
-      → gain_all t.canon.limit (line_bytes e) (expanded_roles t e roles) ≡ edited_gains t e roles
-  role_gains [] e = refl
-  role_gains (r ∷ roles) e =
-      let next = edited_next t e r in
-      let first = played_times r (times t e r) in
-      let more = expanded_roles t next roles in
-      gain_all-append t.canon.limit first more (line_bytes e)
-      ∙ ap (λ gain. gain ++ gain_all t.canon.limit (half_all t.canon.limit (line_bytes e) first) more) (step_gain t e r)
-      ∙ ap (λ half. edited_gain e r ++ gain_all t.canon.limit half more) (step_half t e r)
-      ∙ ap (λ gain. edited_gain e r ++ gain) (role_gains roles next)
+  all_gains : (typed : List Typed) (e : Editing)
+      → gain_all canon.limit (line_bytes e) (expanded_roles canon e typed) ≡ typed_gains canon e typed
+  all_gains [] e = refl
+  all_gains (key ∷ typed) e =
+      let t = under canon key.keys in
+      let next = edited_next t e key.role in
+      let first = played_times key.role (times t e key.role) in
+      let more = expanded_roles canon next typed in
+      gain_all-append canon.limit first more (line_bytes e)
+      ∙ ap (λ gain. gain ++ gain_all canon.limit (half_all canon.limit (line_bytes e) first) more) (step_gain t e key.role)
+      ∙ ap (λ half. edited_gain e key.role ++ gain_all canon.limit half more) (step_half t e key.role)
+      ∙ ap (λ gain. edited_gain e key.role ++ gain) (all_gains typed next)
 
   -- after what was typed before
-  pub same_half_by_role : (before : List Role) (roles : List EditRole)
-      → let e = after_half (half_of t.canon.limit before) in
-      half_of t.canon.limit (before ++ expanded_roles t e roles) ≡ line_bytes (edited_all t e roles)
-  same_half_by_role before roles =
-      let half = half_of t.canon.limit before in
-      let more = expanded_roles t (after_half half) roles in
-      half-all t.canon.limit before more
-      ∙ ap (λ h. half_all t.canon.limit h more) (sym (append-nil half))
-      ∙ role_halves roles (after_half half)
+  pub same_half_by_role : (before : List Role) (typed : List Typed)
+      → let e = after_half (half_of canon.limit before) in
+      half_of canon.limit (before ++ expanded_roles canon e typed) ≡ line_bytes (typed_all canon e typed)
+  same_half_by_role before typed =
+      let half = half_of canon.limit before in
+      let more = expanded_roles canon (after_half half) typed in
+      half-all canon.limit before more
+      ∙ ap (λ h. half_all canon.limit h more) (sym (append-nil half))
+      ∙ typed_halves typed (after_half half)
 
-  pub same_entries_by_role : (before : List Role) (roles : List EditRole)
-      → let e = after_half (half_of t.canon.limit before) in
-      entries_of t.canon.limit (before ++ expanded_roles t e roles) ≡ entries_of t.canon.limit before ++ edited_gains t e roles
-  same_entries_by_role before roles =
-      let half = half_of t.canon.limit before in
-      let more = expanded_roles t (after_half half) roles in
-      let entries = entries_of t.canon.limit before in
-      entries-all t.canon.limit before more
-      ∙ ap (λ h. entries ++ gain_all t.canon.limit h more) (sym (append-nil half))
-      ∙ ap (λ gain. entries ++ gain) (role_gains roles (after_half half))
+  pub same_entries_by_role : (before : List Role) (typed : List Typed)
+      → let e = after_half (half_of canon.limit before) in
+      entries_of canon.limit (before ++ expanded_roles canon e typed) ≡ entries_of canon.limit before ++ typed_gains canon e typed
+  same_entries_by_role before typed =
+      let half = half_of canon.limit before in
+      let more = expanded_roles canon (after_half half) typed in
+      let entries = entries_of canon.limit before in
+      entries-all canon.limit before more
+      ∙ ap (λ h. entries ++ gain_all canon.limit h more) (sym (append-nil half))
+      ∙ ap (λ gain. entries ++ gain) (all_gains typed (after_half half))
 
+-- ALL KEYS
+module _ (t : Terminal) where
   abbrev of_edit : Role → EditRole
   of_edit r = edit_role t.canon.settings t.keys r
 

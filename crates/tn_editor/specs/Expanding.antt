@@ -62,11 +62,6 @@ abbrev pub played_times : EditRole → ℕ → List Role
 played_times (Plain role.Ignored) n = []
 played_times r n = replicate n (played r)
 
--- the roles at the plain terminal of what keys of these roles become
-abbrev pub expanded_roles : Terminal → Editing → List EditRole → List Role
-expanded_roles t e [] = []
-expanded_roles t e (r ∷ roles) = played_times r (times t e r) ++ expanded_roles t (edited_next t e r) roles
-
 -- a key that begins no character of several bytes, and is no editing key
 abbrev pub IsAsBefore : Terminal → EditRole → Type 0
 IsAsBefore t (Plain (role.Ordinary byte)) = announced t.keys.iutf8 byte ≡ 1

@@ -3,6 +3,7 @@ pub mod EditKeys
 pub mod Edited
 pub mod Expanding
 pub mod EditedLines
+pub mod Changing
 pub mod Following
 pub mod Whole
 pub mod Recalling

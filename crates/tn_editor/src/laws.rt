@@ -1,14 +1,14 @@
 //! Laws of the definitions.
 
 ghost use Rattle.std.specs.Prelude.{◌≡◌, ℕ, Some, List, All, [], ◌∷◌, ◌++◌};
-ghost use Rattle.tn_discipline.specs.{Canon.{typed_entries, typed_half}, Characters.AreAllowed};
+ghost use Rattle.tn_discipline.specs.{Canon.{Canon, typed_entries, typed_half}, Characters.AreAllowed};
 ghost use Rattle.tn_discipline.specs.{Entries.{entries_of, half_of}, declared.keys.Role.Role};
-ghost use Rattle.tn_editor.specs.{EditKeys.{Terminal, edit_role_of_key, edit_roles_of}, declared.edit_keys.EditRole.EditRole};
-ghost use Rattle.tn_editor.specs.Edited.{Editing, after_half, line_bytes, edited_next, edited_all, edited_gains};
+ghost use Rattle.tn_editor.specs.{EditKeys.{Terminal, edit_role_of_key, edit_roles_of}};
+ghost use Rattle.tn_editor.specs.Edited.{Editing, after_half, line_bytes, edited_next, edited_all};
 ghost use Rattle.tn_editor.specs.Edited.{edited, edited_entries, edited_half};
 ghost use Rattle.tn_editor.specs.{Whole.{IsCharacter, IsWholeOrNone, bytes_typed}, Expanding.{expanded, expanded_key}};
 ghost use Rattle.tn_editor.specs.{Recalling.{IsItself, recalling}, Expanding.expanded_from};
-ghost use Rattle.tn_editor.specs.Expanding.{IsAsBefore, expanded_roles};
+ghost use Rattle.tn_editor.specs.{Expanding.IsAsBefore, Changing.{Typed, typed_all, typed_gains, expanded_roles}};
 
 /// For every list of keys, the keys that they become give at a plain terminal the entries, and leave the half
 /// line, that they give and leave at a terminal with the editing keys.
@@ -19,17 +19,17 @@ pub fn expanded_keys_edit_the_line()
         typed_half t.canon (expanded t keys) ≡ edited_half t keys }
 {}
 
-/// For every list of roles, the roles that they become give at a plain terminal the entries, and leave the half
-/// line, that they give and leave at a terminal with the editing keys; also after a half line that other keys left
-/// there. The settings that gave each key its role may change within a line.
+/// For every list of roles, each typed while some editing keys were set, the roles that they become give at a plain
+/// terminal the entries, and leave the half line, that they give and leave at a terminal with the editing keys; also
+/// after a half line that other keys left there. So all settings may change within a line.
 pub fn expanded_roles_edit_the_line()
-    ensures entries { (t : Terminal) (before : List Role) (roles : List EditRole) →
-        let e = after_half (half_of t.canon.limit before) in
-        entries_of t.canon.limit (before ++ expanded_roles t e roles)
-        ≡ entries_of t.canon.limit before ++ edited_gains t e roles }
-    ensures half { (t : Terminal) (before : List Role) (roles : List EditRole) →
-        let e = after_half (half_of t.canon.limit before) in
-        half_of t.canon.limit (before ++ expanded_roles t e roles) ≡ line_bytes (edited_all t e roles) }
+    ensures entries { (canon : Canon) (before : List Role) (typed : List Typed) →
+        let e = after_half (half_of canon.limit before) in
+        entries_of canon.limit (before ++ expanded_roles canon e typed)
+        ≡ entries_of canon.limit before ++ typed_gains canon e typed }
+    ensures half { (canon : Canon) (before : List Role) (typed : List Typed) →
+        let e = after_half (half_of canon.limit before) in
+        half_of canon.limit (before ++ expanded_roles canon e typed) ≡ line_bytes (typed_all canon e typed) }
 {}
 
 /// One more key goes on from what the keys before it left.
