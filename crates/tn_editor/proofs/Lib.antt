@@ -1,8 +1,6 @@
+pub mod lemmas
 pub mod Bytes
 pub mod Keys
-pub mod Typing
-pub mod AsBefore
 pub mod EditedLines
 pub mod Holding
 pub mod Whole
-pub mod Recalling

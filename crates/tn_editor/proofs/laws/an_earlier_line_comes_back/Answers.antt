@@ -1,4 +1,4 @@
-use Rattle.tn_editor.proofs.Recalling.{half_comes_back, keys_come_back}
+use Rattle.tn_editor.proofs.lemmas.Recalling.{half_comes_back, keys_come_back}
 use Rattle.tn_editor.proofs.laws.an_earlier_line_comes_back.Goals as goal
 
 pub returns-clause-half : goal.returns-clause-half

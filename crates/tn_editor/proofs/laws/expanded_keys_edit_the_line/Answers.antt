@@ -1,4 +1,4 @@
-use Rattle.tn_editor.proofs.Typing.{same_entries, same_half}
+use Rattle.tn_editor.proofs.lemmas.Typing.{same_entries, same_half}
 use Rattle.tn_editor.proofs.laws.expanded_keys_edit_the_line.Goals as goal
 
 pub returns-clause-entries : goal.returns-clause-entries

@@ -1,4 +1,4 @@
-use Rattle.tn_editor.proofs.Typing.{same_entries_by_role, same_half_by_role}
+use Rattle.tn_editor.proofs.lemmas.Typing.{same_entries_by_role, same_half_by_role}
 use Rattle.tn_editor.proofs.laws.expanded_roles_edit_the_line.Goals as goal
 
 pub returns-clause-entries : goal.returns-clause-entries

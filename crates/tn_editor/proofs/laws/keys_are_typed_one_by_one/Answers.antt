@@ -1,4 +1,4 @@
-use Rattle.tn_editor.proofs.Typing.{edited_push, expanded_push}
+use Rattle.tn_editor.proofs.lemmas.Typing.{edited_push, expanded_push}
 use Rattle.tn_editor.proofs.laws.keys_are_typed_one_by_one.Goals as goal
 
 pub returns-clause-edited : goal.returns-clause-edited

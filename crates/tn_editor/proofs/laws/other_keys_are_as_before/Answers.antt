@@ -1,4 +1,4 @@
-use Rattle.tn_editor.proofs.AsBefore.{themselves}
+use Rattle.tn_editor.proofs.lemmas.AsBefore.{themselves}
 use Rattle.tn_editor.proofs.laws.other_keys_are_as_before.Goals as goal
 
 pub returns : goal.returns

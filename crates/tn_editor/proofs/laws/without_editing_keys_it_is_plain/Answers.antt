@@ -1,6 +1,6 @@
 use Rattle.std.proofs.Common.{sym, ap, ◌∙◌}
 use Rattle.tn_discipline.specs.Canon.{typed_entries}
-use Rattle.tn_editor.proofs.{AsBefore.themselves, Typing.same_entries}
+use Rattle.tn_editor.proofs.{lemmas.AsBefore.themselves, lemmas.Typing.same_entries}
 use Rattle.tn_editor.proofs.laws.without_editing_keys_it_is_plain.Goals as goal
 
 pub returns : goal.returns

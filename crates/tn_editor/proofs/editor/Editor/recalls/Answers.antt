@@ -1,6 +1,6 @@
 use Rattle.std.proofs.{Common.{take, get_or, subst, arith, All}, lemmas.List.{take_more, take_all, Elements.All-push}}
 use Rattle.tn_editor.specs.Recalling.{IsItself}
-use Rattle.tn_editor.proofs.Recalling.{always}
+use Rattle.tn_editor.proofs.lemmas.Recalling.{always}
 use Rattle.tn_editor.proofs.editor.Editor.recalls.Goals as goal
 
 pub loop-byte-preserved : goal.loop-byte-preserved

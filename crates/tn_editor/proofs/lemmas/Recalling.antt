@@ -11,7 +11,7 @@ use Rattle.tn_editor.specs.{EditKeys.{edit_role, edit_role_of_key, edit_roles_of
 use Rattle.tn_editor.specs.Edited.{without_last, without_word, is_refused, has_room, is_kept, with_refused, edited_next, edited_all, edited, edited_half}
 use Rattle.tn_editor.specs.{Expanding.{times, becomes, is_dropped_there, expanded_key, expanded_from}, Whole.bytes_typed, Recalling.{IsItself, recalling}}
 use Rattle.tn_editor.specs.declared.edit_keys.{EditRole.{EditRole, TheVariants.{Plain, EraseWord, Reprint}}, Words.Words}
-use Rattle.tn_editor.proofs.{Keys.{unset_by, mapped_to_itself, not_ten}, Typing.{both_of, all_by_key}}
+use Rattle.tn_editor.proofs.{Keys.{unset_by, mapped_to_itself, not_ten}, lemmas.Typing.{both_of, all_by_key}}
 
 -- THE KILL CHARACTER
 kill_of_mapped : (settings : Settings) (byte : ℕ) → AreAllowed settings.chars → settings.chars.kill ≡ Some byte → role_of_mapped settings byte ≡ role.Kill
