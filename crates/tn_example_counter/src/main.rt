@@ -14,7 +14,7 @@ use std::sync::{Arc, Mutex, Wait};
 use std::{io, thread};
 use tn_discipline::{Entry, Text};
 use tn_jobs::{After, Job, Reaction};
-use tn_serve::{Call, Finished, Host, Service, Serving, serve_on};
+use tn_serve::{Call, Finished, Host, Never, Service, Serving, serve_on};
 use tn_session::Maker;
 
 fn main(rt: HostRuntime) -> io::Result<()> {
@@ -32,6 +32,7 @@ fn main(rt: HostRuntime) -> io::Result<()> {
             alloc,
             &listener,
             serving,
+            Never,
             Polling { rt, poll },
             &Discard,
         )

@@ -12,7 +12,7 @@ use std::net::{Ipv4Addr, TcpListener, TcpStream};
 use std::{io, thread};
 use tn_discipline::{Entry, Text};
 use tn_jobs::{After, Job, Reaction};
-use tn_serve::{Call, Finished, Service, Serving, serve_on};
+use tn_serve::{Call, Finished, Never, Service, Serving, serve_on};
 use tn_session::Maker;
 
 fn main(rt: HostRuntime) -> io::Result<()> {
@@ -21,7 +21,7 @@ fn main(rt: HostRuntime) -> io::Result<()> {
     let mut client = TcpStream::connect(&rt, listener.local_addr()?)?;
     let serving = Serving::standard();
     let server = thread::spawn(&rt, move || -> bool {
-        serve_on(rt, alloc, &listener, serving, Quoters, &Discard).is_ok()
+        serve_on(rt, alloc, &listener, serving, Never, Quoters, &Discard).is_ok()
     })?;
     io::copy(&mut rt.stdin(), &mut client)?;
     io::copy(&mut client, &mut rt.stdout())?;

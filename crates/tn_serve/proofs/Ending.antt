@@ -1,12 +1,6 @@
 -- When a server has served what it was asked for.
 use Rattle.std.proofs.Common.{◌≡◌, ◌≤◌, inl, inr, ℕ, true, Result, Ok, Err, IfOk, sym, subst, ◌∙◌}
-use Rattle.tn_serve.specs.{Ends.{AreEnough, ServesAll, ServesUntil}, declared.{acceptor.Accepted.Accepted, fault.ServeFault.ServeFault, served.Served.Served}}
-
--- where nothing tells so, all were accepted
-pub only_all : (count : ℕ) (result : Result Served ServeFault) → IfOk result (ServesUntil count ⊥) → IfOk result (ServesAll count)
-only_all count (Ok served) (inl all) = all
-only_all count (Ok served) (inr few) = absurd few.1
-only_all count (Err fault) is = tt
+use Rattle.tn_serve.specs.{Ends.{AreEnough, ServesUntil}, declared.{acceptor.Accepted.Accepted, fault.ServeFault.ServeFault, served.Served.Served}}
 
 pub enough : (count : ℕ) (told : Type 0) (accepted : Accepted) (served : Served) → served.accepted ≡ accepted.count → (accepted.is_told ≡ true → told)
     → AreEnough count accepted

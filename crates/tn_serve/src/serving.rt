@@ -2,7 +2,7 @@
 
 ghost use Rattle.std.specs.Prelude.{◌≡◌, ◌⊎◌, ◌<◌, ◌≤◌, ◌+◌, ◌^◌, ◌-◌, true, IsTrue, IfOk, IfSome, IfNone};
 ghost use Rattle.std.specs.Prelude.{[], IsErrOf, Ok, vec_items, vec_len};
-ghost use Rattle.tn_serve.specs.{Causes.{FailsBy, IsCaused}, Ends.{AreEnough, ServesAll, ServesUntil}};
+ghost use Rattle.tn_serve.specs.{Causes.{FailsBy, IsCaused}, Ends.{AreEnough, ServesUntil}};
 ghost use Rattle.tn_serve.specs.Counted.{CountsSessions, HasEnded, StillCounts, facts_of, server_of};
 ghost use Rattle.tn_serve.specs.Places.{AreHeld, AreHeldBeside, HasNoPlace, RunsAll, RunsOver, count_from};
 ghost use Rattle.tn_serve.specs.Services.{MakesOnly, StillMakes, TurnsAway, WasTurnedAway};
@@ -28,7 +28,7 @@ use crate::session::Session;
 use crate::settings::Serving;
 use crate::traffic::{Noted, Passed, Traffic};
 use crate::turned::TurnedAway;
-use crate::until::{Never, Until};
+use crate::until::Until;
 use crossbeam_channel::{Receiver, RecvTimeoutError, Sender};
 use log::Log;
 use std::alloc::Global;
@@ -86,16 +86,23 @@ where
     serve_as::<H, U, V, L, Brand>(rt, alloc, &listener, serving, until, service, log)
 }
 
-/// The same, over an existing listener, where nothing ends it before its count.
-pub fn serve_on<H: Host + Network, V: Service + Drop, L: Log>(
+/// Serves an existing listener, as `serve` does one of its own, until so many connections were accepted, or
+/// `until` reports that no more are to come, and all their sessions have ended.
+pub fn serve_on<H, U, V, L>(
     rt: H,
     alloc: Global,
     listener: &TcpListener,
     serving: Serving,
+    until: U,
     service: V,
     log: &L,
 ) -> Result<Served, ServeFault>
-    ensures all { IfOk result (ServesAll serving.count) }
+where
+    H: Host + Network,
+    U: Until + Drop + Send + 'static,
+    V: Service + Drop,
+    L: Log,
+    ensures all { IfOk result (ServesUntil serving.count (U.ends until)) }
     ensures each { IfOk result (λ served. CountsSessions (server_of
         (facts_of V.Job.fresh V.Jobs.gives V.Job.reacts V.Job.steps V.Job.refuses) V.Jobs.left serving.options
         (V.makes service) (WasTurnedAway (H.dismisses rt))) served.whole served.faulted served.refused) }
@@ -107,7 +114,7 @@ pub fn serve_on<H: Host + Network, V: Service + Drop, L: Log>(
     ensures limit { IsErrOf result ServeFault.Limit → ¬ IsLimit serving.sessions }
     ensures bad_limit { (¬ IsLimit serving.sessions) → IsErrOf result ServeFault.Limit }
 {
-    serve_as::<H, Never, V, L, Brand>(rt, alloc, listener, serving, Never, service, log)
+    serve_as::<H, U, V, L, Brand>(rt, alloc, listener, serving, until, service, log)
 }
 
 // The same, for contracts that know the options of its sessions.

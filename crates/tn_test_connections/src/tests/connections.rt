@@ -14,7 +14,8 @@ use tn_discipline::Limit;
 use tn_program::Answering;
 use tn_roster::{Roster, RosterFault, note};
 use tn_serve::{
-    At, Host, ServeFault, Serving, SessionOptions, Until, serve, serve_connection, serve_on,
+    At, Host, Never, ServeFault, Served, Serving, SessionOptions, Until, serve, serve_connection,
+    serve_on,
 };
 use tn_server::Editing;
 use tn_services::Answerers;
@@ -203,7 +204,7 @@ fn connections_more_than_the_limit_are_told_so(rt: HostRuntime) -> Result<(), Fa
     let server = thread::spawn(&rt, move || -> bool {
         let log = Logged::new(rt, Level::Warn, Memory::new(alloc));
         let service = Answering { ticks: 0 };
-        let served = serve_on(rt, alloc, &listener, serving(1, 21), service, &log);
+        let served = serve_on(rt, alloc, &listener, serving(1, 21), Never, service, &log);
         let (_, memory) = log.into_parts();
         served.is_ok() && memory.into_lines().is_empty()
     })?;
@@ -239,8 +240,16 @@ impl Until for Over {
     }
 }
 
+// No connection was accepted, unless memory ran out before.
+fn is_nobody(served: Result<Served, ServeFault>) -> bool {
+    match served {
+        Ok(served) => served.accepted() == 0,
+        Err(fault) => fault == ServeFault::Memory,
+    }
+}
+
 #[test]
-fn a_server_that_is_told_to_end_accepts_nobody(rt: HostRuntime) {
+fn a_server_that_is_told_to_end_accepts_nobody(rt: HostRuntime) -> Result<(), Fail> {
     let alloc = rt.alloc();
     let at = At {
         host: "127.0.0.1",
@@ -259,9 +268,9 @@ fn a_server_that_is_told_to_end_accepts_nobody(rt: HostRuntime) {
         &Discard,
         &mut causes,
     );
-    let is_so = match served {
-        Ok(served) => served.accepted() == 0,
-        Err(fault) => fault == ServeFault::Memory,
-    };
-    assert!(rt; is_so);
+    assert!(rt; is_nobody(served));
+    let listener = TcpListener::bind(&rt, (Ipv4Addr::LOCALHOST, 0))?;
+    let served = serve_on(rt, alloc, &listener, serving(1, 3), Over, service, &Discard);
+    assert!(rt; is_nobody(served));
+    Ok(())
 }

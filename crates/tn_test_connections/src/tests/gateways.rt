@@ -11,7 +11,7 @@ use std::thread;
 use std::thread::JoinHandle;
 use tn_discipline::Limit;
 use tn_program::{Joining, Network};
-use tn_serve::{Host, Serving, serve_on};
+use tn_serve::{Host, Never, Serving, serve_on};
 use tn_services::{LineEnd, LineFormat};
 
 // Serves one connection, joined to the service at this port. Returns the thread, which tells whether all went
@@ -38,7 +38,7 @@ where
     let serving = Serving::standard();
     let server = thread::spawn(&rt, move || -> bool {
         let log = Logged::new(rt, Level::Warn, Memory::new(alloc));
-        let served = serve_on(rt, alloc, &listener, serving, service, &log);
+        let served = serve_on(rt, alloc, &listener, serving, Never, service, &log);
         let (_, memory) = log.into_parts();
         served.is_ok() && memory.into_lines().is_empty()
     })?;
