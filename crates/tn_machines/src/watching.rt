@@ -5,6 +5,7 @@
 
 use crate::client::Terms;
 use tn_jobs::JobId;
+use tn_streams::WindowSize;
 
 /// A place that a thread of a session comes by.
 #[derive(Clone, Copy, Debug, PartialEq, Eq)]
@@ -41,6 +42,10 @@ pub trait Gate {
 
     /// A server's terminal has handled a message, and is so far with what was typed.
     fn typed(&self, _typed: Typed) {}
+
+    /// A server's terminal has handled a message, and the client's window has this size from then on. What the
+    /// message gives to the foreground job goes there afterwards.
+    fn resized(&self, _size: WindowSize) {}
 
     /// A client's core has handled a message, and these are its terms now.
     fn agreed(&self, _terms: Terms) {}

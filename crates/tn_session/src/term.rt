@@ -137,8 +137,9 @@ fn is_done(written: bool, mark: ServerMark) -> bool
 }
 
 // Handles one message: what it gives is put, what it appends is written, and where a write fails
-// nothing has any effect from there on. `None` where the other end of the entries is gone.
-fn turn<R: Wait, W: Finish>(
+// nothing has any effect from there on. `None` where the other end of the entries is gone. It takes eight,
+// since the gate hears of the window's size before the foreground job gets what came after that.
+fn turn<R: Wait, W: Finish, G: Gate>(
     rt: &R,
     entries: &EntrySender,
     hand: &mut EntryPass,
@@ -146,6 +147,7 @@ fn turn<R: Wait, W: Finish>(
     message: Message,
     output: &mut Output,
     writer: &mut W,
+    gate: &G,
 ) -> Option<()>
     requires seat { IsSeatAt (sends_on entries.now) hand.old }
     requires role { (l : List (Option EntryT)) × (view hand.old ≡ putter l) }
@@ -160,6 +162,7 @@ fn turn<R: Wait, W: Finish>(
     ensures silent { IsTrue term.old.progress.over → W.sending writer.new ≡ W.sending writer.old }
 {
     let MessageOutcome { put, last, mark } = term.handle(message, &mut output.out);
+    gate.resized(term.size());
     let is_put = put_if(rt, entries, hand, put);
     let written = output.write_out(writer);
     is_put?;
@@ -273,6 +276,7 @@ pub(crate) fn run_term<R: Wait, W: Finish, G: Gate>(
             message,
             output,
             writer,
+            &*watched.gate,
         )?;
         tell_took(&*watched.gate, before, term.progress().entries);
         tell_said(&*watched.gate, job);

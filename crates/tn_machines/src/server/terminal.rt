@@ -9,6 +9,7 @@ ghost use Rattle.tn_nvt.specs.Spelling.{spells};
 ghost use Rattle.tn_server.specs.Calls as server;
 ghost use Rattle.tn_server.specs.Events as events;
 ghost use Rattle.tn_server.specs.{Events.History, Faults.SaysSomething, Lines.waiting, Replies.items_said};
+ghost use Rattle.tn_server.specs.Screen.{size};
 ghost use Rattle.tn_machines.specs.server.Counting as counting;
 ghost use Rattle.tn_machines.specs.server.{Marks.{is_whole, no_write_failed}, Refusing.WaitsWithRequest};
 ghost use Rattle.tn_machines.specs.server.{Run.Run, Refusing.{SymbolsWait, SymbolsWaitWithin, WaitsWithText}};
@@ -30,6 +31,7 @@ use tn_discipline::{Entry, Limit, Settings, Sig};
 use tn_jobs::{After, JobId, JobState, Table, Verdict, Why, judge};
 use tn_pty::QUEUE_SYMBOLS;
 use tn_server::{Editing, ServerEnd, ServerFault};
+use tn_streams::WindowSize;
 
 /// How many entries may wait for one more piece to be welcome.
 const MAX_BEFORE_PIECE: usize = 511;
@@ -551,6 +553,15 @@ impl Term {
             is_answered: self.progress.asks,
             is_interrupted: self.is_interrupted(),
         }
+    }
+
+    /// The size of the client's window in characters; 0 leaves a side open (RFC 1073).
+    pub fn size(&self) -> WindowSize
+        ensures { (c : Run) → LeadsTo c self.now → IsFalse self.now.progress.over →
+            (result.width, result.height) ≡ size c.history }
+    {
+        let (width, height) = self.end.size();
+        WindowSize { width, height }
     }
 
     // Whether an interrupt or a quit waits for the foreground job.
