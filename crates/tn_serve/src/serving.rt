@@ -150,14 +150,11 @@ fn serve_as<
     ensures limit { IsErrOf result ServeFault.Limit → ¬ IsLimit serving.sessions }
     ensures bad_limit { (¬ IsLimit serving.sessions) → IsErrOf result ServeFault.Limit }
 {
-    let count = serving.count;
     let roster = Roster::new(alloc, usize::from(serving.sessions))?;
     let (sender, receiver) = crossbeam_channel::bounded(alloc, EVENTS)?;
     if let Ok(address) = listener.local_addr() {
         note_texts::listening(log, &address);
     }
-    let (serves, over) = crossbeam_channel::bounded(alloc, 1)?;
-    let acceptor = accepting(rt, listener, &sender, over, until, &serving)?;
     let mut open: Open<H, V, O> = Open {
         rt,
         alloc,
@@ -169,12 +166,9 @@ fn serve_as<
         events: sender,
         turned_away: TurnedAway::new(alloc),
     };
-    let served = open.run(&receiver, log);
+    let served = open.serve_listener(listener, until, receiver, log);
     drop(open);
-    drop(receiver);
-    drop(serves);
-    let accepted = acceptor.join(&rt);
-    agreed(served, accepted, count)
+    served
 }
 
 // Accepts connections in a thread of their own.
@@ -253,6 +247,45 @@ struct Open<H, V: Service, O: Asked<V::Jobs>> {
 }
 
 impl<H: Host + Network, V: Service, O: Asked<V::Jobs>> Open<H, V, O> {
+    // Serves the connections of this listener, which a thread of its own accepts, until there were as many as
+    // it was asked for, or `until` tells that no more are to come, and each session has ended.
+    fn serve_listener<U: Until + Drop + Send + 'static, L: Log>(
+        &mut self,
+        listener: &TcpListener,
+        until: U,
+        events: Receiver<Event, Global>,
+        log: &L,
+    ) -> Result<Served, ServeFault>
+        requires makes { MakesOnly V.makes self.old.service O.made }
+        requires turns { TurnsAway (H.dismisses self.old.rt) O.turned }
+        requires empty { self.old.roster.numbers ≡ [] }
+        requires none { vec_len self.old.running.started ≡ 0 }
+        requires counts { (self.old.running.whole ≡ 0) × (self.old.running.faulted ≡ 0)
+            × (self.old.running.refused ≡ 0) }
+        ensures all { IfOk result (ServesUntil self.old.serving.count (U.ends until)) }
+        ensures each { IfOk result (λ served. CountsSessions (server_of
+            (facts_of V.Job.fresh V.Jobs.gives V.Job.reacts V.Job.steps V.Job.refuses) V.Jobs.left O.options
+            O.made O.turned)
+            served.whole served.faulted served.refused) }
+        ensures heard { IfOk result (λ served. HearsAll V.turns (HasEnded (server_of
+            (facts_of V.Job.fresh V.Jobs.gives V.Job.reacts V.Job.steps V.Job.refuses) V.Jobs.left O.options
+            O.made O.turned))
+            self.old.service served.whole served.faulted) }
+        ensures accepted { IfOk result (λ served.
+            Accepts (H.shares self.old.rt listener.now) (H.accepts self.old.rt) served.accepted) }
+        ensures in_limit { ¬ IsErrOf result ServeFault.Limit }
+    {
+        let rt = self.rt;
+        let count = self.serving.count;
+        let (serves, over) = crossbeam_channel::bounded(self.alloc, 1)?;
+        let acceptor = accepting(rt, listener, &self.events, over, until, &self.serving)?;
+        let served = self.run(&events, log);
+        drop(events);
+        drop(serves);
+        let accepted = acceptor.join(&rt);
+        agreed(served, accepted, count)
+    }
+
     // Serves until no more connections are to come and each session has ended.
     fn run<L: Log>(&mut self, events: &Receiver<Event, Global>, log: &L) -> Served
         requires makes { MakesOnly V.makes self.old.service O.made }

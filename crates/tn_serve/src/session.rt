@@ -20,7 +20,7 @@ use std::thread;
 use std::thread::{Promise, PromisedHandle};
 use tn_discipline::Settings;
 use tn_session::{Maker, Ports, Report, SessionFault, serve_session};
-use tn_sockets::{Attended, Connection, Host, Logged, Standing};
+use tn_sockets::{Attended, Connection, Host, Logged, Standing, WriteLog};
 use tn_streams::Source;
 
 /// A session that is to run over a connection that was accepted.
@@ -106,31 +106,6 @@ where
         ensures in_reach { IfOk result.ended (λ conversed. conversed.report.ended ≢ too_far_ahead) }
         ensures over { IfOk result.ended (λ conversed. connection_of conversed ≡ self.stream) }
     {
-        match Arc::try_clone(&self.standing) {
-            Ok(standing) => {
-                let ended = self.converse();
-                Ran {
-                    ended,
-                    idle: standing.is_idle(),
-                    too_long: standing.is_too_long(),
-                }
-            },
-            Err(_) => Ran {
-                ended: Err(SessionFault::Memory),
-                idle: false,
-                too_long: false,
-            },
-        }
-    }
-
-    fn converse(self) -> Result<Conversed, SessionFault>
-        ensures fault { IfErr result IsRefusal }
-        ensures ran { IfOk result (RunsServer
-            (job_facts (begins M.Job.fresh M.gives self.jobs) M.Job.reacts M.Job.steps M.Job.refuses)
-            (M.left self.jobs) self.options) }
-        ensures in_reach { IfOk result (λ conversed. conversed.report.ended ≢ too_far_ahead) }
-        ensures over { IfOk result (λ conversed. connection_of conversed ≡ self.stream) }
-    {
         let Session {
             rt,
             alloc,
@@ -140,41 +115,114 @@ where
             standing,
             traffic,
         } = self;
-        let (Ok(theirs), Ok(ours)) = (Arc::try_clone(&standing), Arc::try_clone(&standing)) else {
-            return Err(SessionFault::Memory);
-        };
-        let (Ok(seen), Ok(went)) = (Arc::try_clone(&standing), Arc::try_clone(&traffic)) else {
-            return Err(SessionFault::Memory);
-        };
-        let connection = Snapshot::of(&stream);
-        let Ok((stream, writer)) = Connection::split(stream) else {
-            return Err(SessionFault::Start);
-        };
-        let Ok(reader) = Attended::new(rt, alloc, stream, theirs, options.idle, options.longest)
-        else {
-            return Err(SessionFault::Start);
-        };
-        let reader = Counted {
-            side: reader,
-            traffic,
-        };
-        let mut writer = Logged::new(CountedWrites {
-            side: writer.with_standing(ours),
-            traffic: went,
-        });
-        let sight = Sight { standing: seen };
-        let (report, ports) = talk(rt, alloc, reader, &mut writer, options, jobs, sight)?;
-        let (writer, log) = writer.into_parts();
-        if standing.is_ended_here() {
-            linger(rt, alloc, writer.side.into_stream(), standing);
+        let ended = converse(rt, alloc, stream, options, jobs, &standing, &traffic);
+        Ran {
+            ended,
+            idle: standing.is_idle(),
+            too_long: standing.is_too_long(),
         }
-        Ok(Conversed {
-            report,
-            ports,
-            log,
-            connection,
-        })
     }
+}
+
+// Runs a session over this connection. What passes over it is counted in `traffic`.
+fn converse<H, M>(
+    rt: H,
+    alloc: Global,
+    stream: TcpStream,
+    options: SessionOptions,
+    jobs: M,
+    standing: &Arc<Standing, Global>,
+    traffic: &Arc<Traffic, Global>,
+) -> Result<Conversed, SessionFault>
+where
+    H: Host,
+    M: Maker + Drop,
+    M::Job: Send + 'static,
+    ensures fault { IfErr result IsRefusal }
+    ensures ran { IfOk result (RunsServer
+        (job_facts (begins M.Job.fresh M.gives jobs) M.Job.reacts M.Job.steps M.Job.refuses)
+        (M.left jobs) options) }
+    ensures in_reach { IfOk result (λ conversed. conversed.report.ended ≢ too_far_ahead) }
+    ensures over { IfOk result (λ conversed. connection_of conversed ≡ stream) }
+{
+    let connection = Snapshot::of(&stream);
+    let Ok((stream, writer)) = Connection::split(stream) else {
+        return Err(SessionFault::Start);
+    };
+    let reader = reader_of(rt, alloc, stream, options, standing, traffic)?;
+    let mut writer = writer_of(writer, standing, traffic)?;
+    let sight = Sight {
+        standing: another(standing)?,
+    };
+    let (report, ports) = talk(rt, alloc, reader, &mut writer, options, jobs, sight)?;
+    let log = close(rt, alloc, writer, standing);
+    Ok(Conversed {
+        report,
+        ports,
+        log,
+        connection,
+    })
+}
+
+// The reading side of a connection, which ends it as `options` say.
+fn reader_of<H: Host>(
+    rt: H,
+    alloc: Global,
+    stream: TcpStream,
+    options: SessionOptions,
+    standing: &Arc<Standing, Global>,
+    traffic: &Arc<Traffic, Global>,
+) -> Result<Counted<Attended<H, TcpStream>>, SessionFault>
+    ensures idle { IfOk result (λ reader. reader.side.idle ≡ options.idle) }
+    ensures longest { IfOk result (λ reader. reader.side.longest ≡ options.longest) }
+    ensures fault { IfErr result IsRefusal }
+{
+    let standing = another(standing)?;
+    let traffic = another(traffic)?;
+    match Attended::new(rt, alloc, stream, standing, options.idle, options.longest) {
+        Ok(side) => Ok(Counted { side, traffic }),
+        Err(_) => Err(SessionFault::Start),
+    }
+}
+
+// The writing side of a connection, to which nothing is written yet.
+fn writer_of(
+    writer: Connection<TcpStream>,
+    standing: &Arc<Standing, Global>,
+    traffic: &Arc<Traffic, Global>,
+) -> Result<Logged<CountedWrites<Connection<TcpStream>>>, SessionFault>
+    ensures new { IfOk result (λ writer. logged writer.log ≡ []) }
+    ensures fault { IfErr result IsRefusal }
+{
+    let standing = another(standing)?;
+    let traffic = another(traffic)?;
+    let side = writer.with_standing(standing);
+    Ok(Logged::new(CountedWrites { side, traffic }))
+}
+
+fn another<T>(shared: &Arc<T, Global>) -> Result<Arc<T, Global>, SessionFault>
+    ensures fault { IfErr result IsRefusal }
+{
+    match Arc::try_clone(shared) {
+        Ok(other) => Ok(other),
+        Err(_) => Err(SessionFault::Memory),
+    }
+}
+
+// Closes a connection whose session has ended. Returns the log of what was written to it.
+fn close<H: Host>(
+    rt: H,
+    alloc: Global,
+    writer: Logged<CountedWrites<Connection<TcpStream>>>,
+    standing: &Arc<Standing, Global>,
+) -> WriteLog
+    ensures { result ≡ writer.log }
+{
+    let (writer, log) = writer.into_parts();
+    if standing.is_ended_here() {
+        linger(rt, alloc, writer.side.into_stream(), standing);
+    }
+    log
 }
 
 // Runs a session with this reader and this writer, and a terminal with standard settings.
@@ -212,7 +260,10 @@ where
 
 // Reads what a peer still sends after it was told that no more comes, until it has closed or had its time to.
 // A connection that is closed here before that could lose what was sent last.
-fn linger<H: Host>(rt: H, alloc: Global, stream: TcpStream, standing: Arc<Standing, Global>) {
+fn linger<H: Host>(rt: H, alloc: Global, stream: TcpStream, standing: &Arc<Standing, Global>) {
+    let Ok(standing) = another(standing) else {
+        return;
+    };
     if let Ok(mut rest) = Attended::new(rt, alloc, stream, standing, 0, 0) {
         let mut unread = [0; 512];
         let _ = rest.read_some(&mut unread);
