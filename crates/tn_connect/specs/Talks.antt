@@ -37,7 +37,7 @@ plain_keyboard Reader escape = of_bytes
 plain_keyboard Input escape = of_bytes
 
 -- the keys that the bytes of a reader are: at a terminal its own special characters stand for the standard
--- ones, no line to the client itself is among them, and they end where the user asks to leave
+-- ones, no line to the client itself is among them, and they end when the user asks to leave
 abbrev pub keys_in : KeySource → Option ℕ → Option (List ℕ) → Option (List ℕ)
 keys_in (Terminal own) escape bytes =
     option_map (keys_typed (plain_keyboard (Terminal own) escape) closed) bytes

@@ -1,7 +1,7 @@
 -- Which keys the bytes of a text are: RETURN ends each of its lines, which CR, LF or CR LF ends in the text.
 use Rattle.std.specs.Prelude.{ℕ, Bool, true, false, ◌==◌, Option, option_map, List, [], ◌∷◌, ◌++◌, if◌then◌else◌}
 
--- the key that a byte is, behind a CR and behind any other byte
+-- the key that a byte is, after a CR and after any other byte
 abbrev pub key_of_text : Bool → ℕ → List ℕ
 key_of_text true byte = if byte == 10 then [] else byte ∷ []
 key_of_text false byte = if byte == 10 then 13 ∷ [] else byte ∷ []

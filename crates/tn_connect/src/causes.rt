@@ -16,7 +16,7 @@ pub(crate) fn note_log(causes: &mut Vec<u8>, link: &Link) {
     }
 }
 
-/// Notes how many of the bytes that were typed were not sent, behind why.
+/// Notes how many of the bytes that were typed were not sent, after the reason.
 pub(crate) fn note_unsent(causes: &mut Vec<u8>, why: &str, unsent: usize) {
     let what = if unsent == 1 {
         "byte typed was"

@@ -184,7 +184,7 @@ pub fn connect_plain<H: Host + Network, K: Read + Drop, S: Write, E: Drain>(
     ended
 }
 
-/// What a talk has beside its streams.
+/// The parts of the client that a talk uses besides its streams.
 #[derive(Drop)]
 struct Around<'a, H> {
     about: About<'a>,

@@ -1,4 +1,4 @@
-//! Words of the command line from what a host's table says and from the user's own.
+//! Words of the command line from a host's table and from the user's own words.
 
 use crate::expanding::HostsFault;
 use crate::file::HostsFile;
@@ -53,7 +53,7 @@ fn line_or(saying: &Option<Saying<'_>>, header: usize) -> usize {
     }
 }
 
-// What is wrong with a connection to this host and this port by these options, if something is.
+// Finds what is wrong with a connection to this host and this port by these options, if something is.
 fn refusal_of(
     alloc: Global,
     host: &str,
@@ -71,7 +71,7 @@ fn refusal_of(
     refusal(alloc, &words)
 }
 
-// What is wrong with these words, if something is: the first line of what is told of them.
+// Finds what is wrong with these words, if something is: the first line of the message.
 fn refusal(alloc: Global, words: &[&str]) -> Result<Option<String>, AllocError> {
     match read_words(alloc, words) {
         Err(WordsFault::Usage(detail)) => {
@@ -88,8 +88,8 @@ fn refusal(alloc: Global, words: &[&str]) -> Result<Option<String>, AllocError> 
     }
 }
 
-/// The user's words behind those of the host's table. A word of the user wins: an option that is given twice,
-/// or that the user's words exclude, is left out.
+/// The words of the host's table, and the user's words after them. A word of the user wins: the table's option
+/// is left out if the user gives it too, or if the user's words exclude it.
 pub(crate) fn assemble(
     alloc: Global,
     user: User<'_>,

@@ -13,7 +13,7 @@ use std::fs::{File, Files};
 #[derive(Debug, Drop)]
 pub enum HostsFault {
     Memory,
-    /// A mistake in the file: a line that says where it is, and what is wrong.
+    /// A mistake in the file: a message with the number of the line, and the mistake.
     Mistake(String),
 }
 
@@ -59,7 +59,7 @@ pub fn expand<R: Env + Files<File = File>>(
     Ok(Some(assemble(alloc, user, &entry, &is_given)?))
 }
 
-// Of each option of the table, whether the user gives it.
+// Whether the user gives each option of the table.
 fn given_among(
     alloc: Global,
     given: &Given<'_>,

@@ -9,8 +9,8 @@ use std::io::Read;
 use std::{io, str};
 use toml::{Table, Value, table_from_str};
 
-/// The folder of a user's settings, by the XDG Base Directory Specification, and where that is not set, the
-/// user's own folder.
+/// The variables that name the folder of a user's settings: that of the XDG Base Directory Specification, and if
+/// it is not set, that of the user's own folder.
 const SETTINGS: &str = "XDG_CONFIG_HOME";
 
 const HOME: &str = "HOME";
@@ -18,7 +18,7 @@ const HOME: &str = "HOME";
 /// How many bytes a path has at most.
 const MAX_PATH: usize = 4_096;
 
-/// The file of hosts: where it lies, and what it has.
+/// The file of hosts: its path and its text.
 #[derive(Drop)]
 pub(crate) struct HostsFile {
     pub(crate) path: String,
@@ -44,7 +44,7 @@ impl HostsFile {
         }
     }
 
-    /// What is told of a mistake in this line.
+    /// The message for a mistake in this line.
     pub(crate) fn mistake(&self, alloc: Global, line: usize, why: &str) -> HostsFault {
         match format!(in alloc; "tn: {}: line {}: {}\n", self.path, line, why) {
             Ok(text) => HostsFault::Mistake(text),
@@ -52,7 +52,7 @@ impl HostsFile {
         }
     }
 
-    /// What it has, if that is text.
+    /// The text of the file, if it is text.
     pub(crate) fn text(&self) -> &str {
         str::from_utf8(&self.bytes).unwrap_or("")
     }
@@ -74,7 +74,7 @@ impl HostsFile {
         self.entry_of(alloc, text, host, table)
     }
 
-    // The file as far as it is about this host, where the whole has this error.
+    // The part of the file that is about this host, if the whole file has this error.
     fn part_of(
         &self,
         alloc: Global,
@@ -91,7 +91,7 @@ impl HostsFile {
         }
     }
 
-    // What is told of an error in a text that begins in this line.
+    // The message for an error in a text that begins in this line.
     fn error(&self, alloc: Global, text: &str, first: usize, error: toml::de::Error) -> HostsFault {
         let Some(span) = error.span() else {
             return HostsFault::Memory;

@@ -1,4 +1,4 @@
-//! What the user's own words give.
+//! The host and the options that the user's own words give.
 
 use std::alloc::{AllocError, Global};
 use tn_words::is_connect_flag;
@@ -12,14 +12,14 @@ pub(crate) struct Named<'a> {
     /// The place of the word among the words.
     pub(crate) place: usize,
     pub(crate) name: &'a str,
-    /// The port behind a colon.
+    /// The port after a colon.
     within: Option<&'a str>,
     /// A port is given by another word.
     has_port: bool,
 }
 
 impl<'a> Named<'a> {
-    /// The port behind the host, if it is not given by another word: the user's, else this one.
+    /// The port after the host, if it is not given by another word: the user's, else this one.
     pub(crate) fn port_or(&self, port: Option<&'a str>) -> Option<&'a str> {
         if self.has_port {
             return None;
@@ -31,12 +31,12 @@ impl<'a> Named<'a> {
     }
 }
 
-/// What the words of `tn connect` give.
+/// The host, the port and the options that the words of `tn connect` give.
 #[derive(Drop)]
 pub(crate) struct Given<'a> {
     /// HOST, and its place among the words.
     host: Option<(usize, &'a str)>,
-    /// A word stands behind HOST.
+    /// A word comes after HOST.
     has_port: bool,
     /// The names of the options.
     names: Vec<&'a str>,
@@ -47,7 +47,7 @@ pub(crate) struct Given<'a> {
 }
 
 impl<'a> Given<'a> {
-    /// What these words give; `None` if they are not those of `connect`, or ask for help.
+    /// Reads these words. `None` if they are not those of `connect`, or ask for help.
     pub(crate) fn new(alloc: Global, words: &'a [String]) -> Result<Option<Given<'a>>, AllocError> {
         let mut given = Given {
             host: None,
@@ -143,7 +143,7 @@ impl<'a> Given<'a> {
         Ok(())
     }
 
-    // Letters behind one dash: behind one that takes a value comes its value.
+    // Letters after one dash. The value of a letter that takes one follows it.
     fn take_letters(&mut self, letters: &[u8]) -> Result<(), AllocError> {
         for (place, letter) in letters.iter().enumerate() {
             let name = name_of(*letter);

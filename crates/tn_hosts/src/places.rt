@@ -22,14 +22,14 @@ pub(crate) fn place_in(text: &[u8], name: &[u8]) -> Option<usize> {
     None
 }
 
-// Whether what is before it, or behind it, makes it part of another word.
-fn is_joined(before: Option<&[u8]>, behind: Option<&[u8]>) -> bool {
+// Whether the text before a word, or the text after it, makes it part of another word.
+fn is_joined(before: Option<&[u8]>, after: Option<&[u8]>) -> bool {
     let last = match before {
         Some(before) => before.last(),
         None => None,
     };
-    let first = match behind {
-        Some(behind) => behind.first(),
+    let first = match after {
+        Some(after) => after.first(),
         None => None,
     };
     is_of_word(last) || is_of_word(first)

@@ -1,4 +1,4 @@
-//! What a host's table says, as words of the command line.
+//! A host's table, as words of the command line.
 
 use crate::expanding::HostsFault;
 use crate::file::HostsFile;
@@ -6,7 +6,7 @@ use crate::places::line_of;
 use std::alloc::{AllocError, Global};
 use toml::{Table, Value};
 
-/// The option by which a connection is one without Telnet: others make sense only behind it.
+/// The option by which a connection is one without Telnet: others make sense only after it.
 const PLAIN: &str = "plain";
 
 /// An option that the table gives.
@@ -19,7 +19,7 @@ pub(crate) struct Saying<'t> {
     pub(crate) line: usize,
 }
 
-/// What a host's table says: the host and the port themselves, and the options.
+/// The content of a host's table: the host and the port themselves, and the options.
 #[derive(Drop)]
 pub(crate) struct Entry<'t> {
     pub(crate) name: &'t str,
@@ -29,7 +29,7 @@ pub(crate) struct Entry<'t> {
 }
 
 impl<'t> Entry<'t> {
-    /// What this table of the file says, `plain` first.
+    /// Reads this table of the file, `plain` first.
     pub(crate) fn new(
         alloc: Global,
         file: &HostsFile,
@@ -71,7 +71,7 @@ impl<'t> Entry<'t> {
         Ok(())
     }
 
-    /// What is to be connected to.
+    /// The host and the port to connect to.
     pub(crate) fn host(&self) -> &str {
         match &self.host {
             Some(saying) => saying.word.as_str(),
@@ -88,7 +88,7 @@ impl<'t> Entry<'t> {
     }
 }
 
-// What a key and its value say.
+// The words that a key and its value stand for.
 #[derive(Drop)]
 enum Word {
     Said(String),

@@ -6,8 +6,8 @@ use std::env::Env;
 use std::fs::{File, Files};
 use std::io::Write;
 
-/// The word behind `connect` by which the launcher asks for the words that a host of the user's file stands
-/// for, and gets each with a NUL behind it.
+/// The word after `connect` by which the launcher asks for the words that a host of the user's file stands
+/// for, and gets each with a NUL after it.
 const EXPAND: &str = "--expand";
 
 /// The statuses of a program that has no memory or cannot write, and of one whose file of hosts has a
@@ -73,7 +73,7 @@ fn tell<R: Eprint>(rt: &R, fault: &HostsFault) -> u8 {
     }
 }
 
-// Prints each word but the program's name with a NUL behind it, and returns the status to end with.
+// Prints each word but the program's name with a NUL after it, and returns the status to end with.
 fn print_words<R: Eprint, W: Write>(rt: &R, words: &[String], screen: &mut W) -> u8 {
     for word in words.get(1..).unwrap_or(words) {
         if screen.write_all(word.as_bytes()).is_err() || screen.write_all(b"\0").is_err() {

@@ -19,7 +19,7 @@ abbrev pub asks_to_leave : Typed → Bool
 asks_to_leave (typed.Command command) = is_close command
 asks_to_leave _ = false
 
--- the keys that bytes are, behind so much of a line
+-- the keys that bytes are, after so much of a line
 unfoldable pub keys_typed : Keyboard → Prompt → List ℕ → List ℕ
 keys_typed keyboard prompt [] = []
 keys_typed keyboard prompt (byte ∷ bytes) =

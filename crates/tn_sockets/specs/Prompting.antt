@@ -1,4 +1,4 @@
--- The line that a user types to the client itself, behind the escape character: how it is edited.
+-- The line that a user types to the client itself, after the escape character: how it is edited.
 use Rattle.std.specs.Prelude.{ℕ, nat_le, ◌==◌, ◌||◌, ◌&&◌, ◌+◌, ◌-◌, true, false, not, List, [], ◌∷◌, ◌++◌}
 use Rattle.std.specs.{Prelude.{length, Option, Some, None, codes, take, if◌then◌else◌}, Str.bytes_eq}
 use Rattle.tn_sockets.specs.{Mapping.mapped, declared.prompt.{Edit.Edit, Prompt.Prompt}}

@@ -45,7 +45,7 @@ bytes_of [] = []
 bytes_of (Some piece ∷ pieces) = vec_items piece ++ bytes_of pieces
 bytes_of (None ∷ pieces) = bytes_of pieces
 
--- what stands behind the first end, which is nothing where there is none
+-- the pieces after the first end, none if there is no end
 abbrev pub behind_end : Pieces → Pieces
 behind_end [] = []
 behind_end (Some piece ∷ pieces) = behind_end pieces
@@ -60,7 +60,7 @@ has_end (None ∷ pieces) = true
 abbrev pub put_bytes : PieceHand → Option (List ℕ)
 put_bytes v = option_map bytes_of v.put
 
--- how many pieces stand behind the end
+-- how many pieces come after the end
 abbrev pub count_behind : Option Pieces → ℕ
 count_behind None = 0
 count_behind (Some pieces) = length (behind_end pieces)

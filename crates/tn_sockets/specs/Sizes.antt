@@ -1,10 +1,10 @@
 -- How the size of a window is told: a line of its width and its height, five characters each, a space between
--- them and a line feed behind them.
+-- them and a line feed after them.
 use Rattle.std.specs.Prelude.{◌≡◌, ◌≤◌, ◌+◌, ◌-◌, ◌*◌, ◌==◌, ◌&&◌, nat_le, ℕ, List, [], ◌∷◌, Option, Some}
 use Rattle.std.specs.Prelude.{None, option_and_then, take, drop, length, if◌then◌else◌}
 use Rattle.tn_streams.specs.declared.window.WindowSize.{WindowSize}
 
--- one character more behind a number; a space adds nothing
+-- one character more after a number; a space adds nothing
 abbrev pub with_digit : ℕ → ℕ → Option ℕ
 with_digit n c =
     if c == 32 then Some n else (if nat_le 48 c && nat_le c 57 then Some (n * 10 + (c - 48)) else None)

@@ -1,4 +1,4 @@
--- What a trace has of a piece that passes: a line for each item, each behind the seconds since the beginning.
+-- What a trace has of a piece that passes: a line for each item, each after the seconds since the beginning.
 use Rattle.std.specs.Prelude.{◌≡◌, ◌==◌, ℕ, ◌+◌, ◌/◌, ◌%◌, Bool, true, false, Option, List, [], ◌∷◌, ◌++◌}
 use Rattle.std.specs.{Prelude.{codes, decimal}, Io.KnownBytes.Appends, List.flat_map, Duration.as_nanos}
 use Rattle.std.specs.declared.time.Duration.{Duration}
@@ -25,7 +25,7 @@ abbrev pub stamp_where : Bool → List ℕ → List ℕ
 stamp_where true stamp = stamp
 stamp_where false stamp = []
 
--- how that is written, byte by byte of a text: each line of it behind the stamp; whether a line begins with it
+-- how that is written, byte by byte of a text: each line of it after the stamp; whether a line begins with it
 -- is told
 unfoldable pub timed_lines : List ℕ → Bool → List ℕ → List ℕ
 timed_lines stamp begins [] = []
@@ -44,7 +44,7 @@ pub record Shows (old : Side) (piece text : List ℕ) (new : Side) : Type 0 wher
   pub prefix : new.lines.prefix ≡ old.lines.prefix
   pub empty : HoldsNothing new
 
--- The piece's items were written, each line of them behind the prefix of this side, and that behind this time.
+-- The piece's items were written, each line of them after the prefix of this side, and that after this time.
 pub record Passes {W : Type 0} (contents : W → Option (List ℕ)) (time : Duration) (piece : List ℕ) (old new : Side)
     (before after : W) : Type 0 where
   pub items : List Item

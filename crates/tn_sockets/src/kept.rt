@@ -34,7 +34,7 @@ pub(crate) fn count_keys(kept: &VecDeque<SessionInput>) -> usize
     count
 }
 
-/// Gives the first keys, as many as there is room for, and none behind a control function.
+/// Gives the first keys, as many as there is room for, and none after a control function.
 pub(crate) fn give(kept: &mut VecDeque<SessionInput>, buf: &mut [u8]) -> usize
     ensures bound { result ≤ length buf.new }
     ensures gives { map input.Key (take result buf.new) ++ kept.new.items ≡ kept.old.items }

@@ -1,4 +1,4 @@
-//! The keys that a user without Telnet types, who speaks to the client itself behind an escape character.
+//! The keys that a user without Telnet types, who speaks to the client itself after an escape character.
 
 ghost use Rattle.std.specs.Prelude.{◌≡◌, ◌≤◌, ◌++◌, IsFalse, List, ℕ, false, length, option_map, take};
 ghost use Rattle.tn_sockets.specs.{PlainKeys.{asks_to_leave, keys_left}, Prompting.closed};

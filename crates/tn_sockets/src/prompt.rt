@@ -1,4 +1,4 @@
-//! The line that a user types to the client itself, behind the escape character.
+//! The line that a user types to the client itself, after the escape character.
 
 ghost use Rattle.std.specs.Prelude.{◌≡◌, [], false};
 ghost use Rattle.tn_sockets.specs.Prompting.{after_edit, after_escape, closed, edit_by, edit_of, opened};
@@ -170,7 +170,7 @@ impl Prompt {
     }
 }
 
-/// What a byte does to a line, at a terminal with these special characters, behind so much of a sequence.
+/// What a byte does to a line, at a terminal with these special characters, after so much of a sequence.
 pub(crate) fn edit_of(own: &OwnCharacters, sequence: Sequence, byte: u8) -> Edit
     ensures { result ≡ edit_of own.now sequence byte }
 {

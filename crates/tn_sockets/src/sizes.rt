@@ -19,7 +19,7 @@ const LINES: usize = 252;
 const NO_DESCRIPTOR: i32 = -1;
 
 /// A pipe that tells each new size: width and height, five characters each, a space between them and a line
-/// feed behind them. Where there is none, no sizes are told.
+/// feed after them. If there is no pipe, no sizes come.
 #[derive(Drop)]
 pub struct Sizes {
     pipe: Option<File>,
@@ -77,7 +77,7 @@ fn size_of(lines: &[u8]) -> Option<WindowSize>
     Some(WindowSize { width, height })
 }
 
-// The number that these characters are: digits, and spaces before or behind them.
+// The number that these characters are: digits, and spaces before or after them.
 fn read_number(characters: &[u8]) -> Option<u16>
     ensures { IfSome result (λ number. number_of characters.now ≡ Some number) }
 {

@@ -1,4 +1,4 @@
-//! The lines of a trace: one for each item that passes, behind the seconds since the beginning.
+//! The lines of a trace: one for each item that passes, after the seconds since the beginning.
 
 ghost use Rattle.std.specs.{Duration.as_nanos, Io.KnownBytes.Appends};
 ghost use Rattle.std.specs.Prelude.{◌≡◌, ◌==◌, ◌++◌, [], ◌∷◌, true, IfOk, OnOk};
@@ -58,7 +58,7 @@ pub(crate) fn data_lines(lines: &mut Lines, piece: &[u8]) -> Result<Vec<u8>, All
     Ok(lines.take_text())
 }
 
-/// Writes a text at this time: each line of it is behind the time.
+/// Writes a text at this time: each line of it comes after the time.
 pub(crate) fn write_timed<W: Write>(
     alloc: Global,
     time: Duration,
@@ -90,7 +90,7 @@ fn digit(number: u32) -> u8
     b'0' + (number % 10) as u8
 }
 
-// The text, each line of it behind the stamp.
+// The text, each line of it after the stamp.
 fn timed(alloc: Global, stamp: &[u8], text: &[u8]) -> Result<Vec<u8>, AllocError>
     ensures { IfOk result (λ lines. lines.items ≡ timed_lines stamp.now true text.now) }
 {
@@ -102,7 +102,7 @@ fn timed(alloc: Global, stamp: &[u8], text: &[u8]) -> Result<Vec<u8>, AllocError
     Ok(lines)
 }
 
-/// Appends a byte, behind the stamp where a line begins with it. Returns whether another line begins then.
+/// Appends a byte, and the stamp before it if a line begins with it. Returns whether another line begins then.
 pub(crate) fn push_timed(
     begins: bool,
     byte: u8,
