@@ -33,7 +33,7 @@ def at_console(world, *words, **settings):
     return console, terminal
 
 
-@case(each={"by Telnet": (b"\r\0",), "by lines": (b"\r\n", "--plain")})
+@case(each={"by Telnet": (b"\r\n",), "by lines": (b"\r\n", "--plain")})
 def a_server_that_closed_and_comes_back_is_connected_to_again(world, line_end, *words):
     console, terminal = at_console(world, "--again", "1", *words)
     for greeting in (b"second: ", b"third: "):
@@ -145,8 +145,8 @@ def the_user_may_connect_again_at_once(world):
     terminal.see(b"second: ")
     expect_in_order(terminal.shown, b"tn> again", b"Connection closed.\r\n", b"Trying 127.0.0.1", b"Connected to 127.0.0.1.", b"second: ")
     expect(time.monotonic() - begun < PATIENCE, "it takes long")
-    terminal.type(b"k")
-    console.read_until(b"k")
+    terminal.type(b"k\r")
+    console.read_until(b"k\r\n")
     console.hang_up()
     terminal.end()
     expect(terminal.shown.endswith(b"Connection closed by 127.0.0.1.\r\n"), "it is connected again without being asked for")
@@ -225,6 +225,6 @@ def a_hidden_greeting_is_shown_once_the_terminal_is_set(world):
         before = len(terminal.shown)
         wait_until(lambda: terminal.shown.find(b"next: ", before) >= 0, "the greeting is shown", pause=0.001)
         os.write(terminal.master, b"hidden\r")
-        console.read_until(b"hidden\r\0")
+        console.read_until(b"hidden\r\n")
     terminal.leave()
     expect(b"hidden" not in terminal.shown, "an answer is shown")

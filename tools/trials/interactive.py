@@ -53,7 +53,7 @@ def the_connection_is_reported(world):
     terminal.see(b"Connected to 127.0.0.1.\r\n")
 
 
-@case(each={"by Telnet": (bytes([IAC, WILL, 1]), b"\r\0", 0), "by lines": (b"", b"\r\n", 1, "--plain")})
+@case(each={"by Telnet": (bytes([IAC, WILL, 1]), b"\r\n", 0), "by lines": (b"", b"\r\n", 1, "--plain")})
 def a_greeting_that_is_answered_at_once_meets_a_terminal_that_is_set(world, opening, line_end, shown, *words):
     for _ in range(20):
         listener = Listener(world)
@@ -96,7 +96,7 @@ def a_silent_server_can_be_left(world):
 @case(each={"at once": (b"",), "after a command": (b"\x1db\ry",)})
 def a_server_that_reads_nothing_can_be_left(world, before):
     listener = Listener(world, buffer=1024)
-    terminal = Terminal(world, "--port", listener.port)
+    terminal = Terminal(world, "--port", listener.port, "--mode", "char")
     listener.accept()
     terminal.gets_raw()
     for found in sockets_of(terminal.program()):
@@ -169,7 +169,7 @@ def typed_to_ours(world, is_local, *steps, client=(), **settings):
     serving = Serving(world, *["--local"] * is_local)
     terminal = Terminal(world, "--port", serving.port, *client, **settings)
     terminal.gets_raw()
-    terminal.see_state(b"lines are edited here" if is_local else b"echo is made at the other end")
+    terminal.see_state(b"lines are edited here, " if is_local else b"echo is made at the other end")
     begun = len(terminal.shown)
     for keys, *texts in steps:
         terminal.type(keys, *texts)

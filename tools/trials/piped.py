@@ -90,7 +90,7 @@ def at_a_terminal_a_text_changes_nothing(world):
 
 @case
 def characters_that_are_not_known_are_the_standard_ones(world):
-    listener, process = from_pipe(world, env={**os.environ, "TN_TERMINAL": "1", "TN_KEYS": "08"})
+    listener, process = from_pipe(world, "--mode", "char", env={**os.environ, "TN_TERMINAL": "1", "TN_KEYS": "08"})
     process.stdin.write(b"ab\x08\x1dq\r")
     process.stdin.close()
     expect_same(0, status_of(process), "the status")

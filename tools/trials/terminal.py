@@ -4,6 +4,7 @@ import os
 import pty
 import select
 import struct
+import subprocess
 import termios
 import time
 
@@ -46,10 +47,12 @@ def words_of(number):
 class Console:
     """A program at a pseudoterminal, as the leader of a session."""
 
-    def __init__(self, world, *words, rows=40, columns=100, screen=None, errors=None, characters=None, **variables):
+    def __init__(self, world, *words, rows=40, columns=100, screen=None, errors=None, characters=None, flags=(), **variables):
         self.master, self.slave = pty.openpty()
         self.resize(rows, columns)
         self.set_characters(characters or {})
+        if flags:
+            subprocess.run(["stty", *flags], stdin=self.slave, check=True)
         self.before = termios.tcgetattr(self.slave)
 
         def lead():
@@ -159,9 +162,10 @@ class Terminal(Console):
 
 
 def at_terminal(world, *words, **settings):
-    """A server, and a client at a terminal that has connected to it."""
+    """A server, and a client at a terminal that has connected to it. Keys go at once unless the words have a mode."""
     listener = Listener(world)
-    terminal = Terminal(world, "--port", listener.port, *words, **settings)
+    mode = [] if {"--plain", "--mode"} & set(words) else ["--mode", "char"]
+    terminal = Terminal(world, "--port", listener.port, *mode, *words, **settings)
     listener.accept()
     terminal.gets_raw()
     if "--quiet" not in words and "errors" not in settings:

@@ -22,7 +22,8 @@ use std::sync::Arc;
 use std::{env, io, str};
 use tn_hosts::start_with;
 use tn_program::{
-    KeySource, Link, OWN_LENGTH, Outlet, OwnCharacters, Screen, Streams, own_characters, run_words,
+    EDITS_LENGTH, EditorSettings, KeySource, Link, OWN_LENGTH, Outlet, OwnCharacters, Screen,
+    Streams, editor_settings, own_characters, run_words,
 };
 
 /// The environment variable by which the launcher says that standard input is a terminal, raw once the
@@ -37,6 +38,9 @@ const STANDS: &str = "TN_STANDS";
 
 /// The environment variable by which the launcher tells the special characters of the terminal.
 const KEYS: &str = "TN_KEYS";
+
+/// The environment variable by which the launcher tells how the terminal edits lines.
+const EDITS: &str = "TN_EDITS";
 
 /// The environment variable that systemd sets if standard error goes to its journal (systemd.exec(5)).
 const JOURNAL: &str = "JOURNAL_STREAM";
@@ -92,6 +96,16 @@ fn own_of(rt: &HostRuntime) -> OwnCharacters {
         );
     }
     told.unwrap_or(OwnCharacters::none())
+}
+
+// How the terminal edits lines. If that is not told, as at a new terminal.
+fn editor_of(rt: &HostRuntime) -> EditorSettings {
+    let mut text = [0; EDITS_LENGTH];
+    let told = match rt.var(EDITS, &mut text) {
+        Ok(count) => editor_settings(&text[..count]),
+        Err(_) => None,
+    };
+    told.unwrap_or(EditorSettings::usual())
 }
 
 // The pipe that tells the sizes of the window, if there is one.
@@ -182,17 +196,20 @@ fn main(rt: HostRuntime) -> ExitCode {
         sizes: sizes_of(&rt),
         stands: stands_of(&rt),
         terminal: terminal_of(&rt, origin),
+        editor: editor_of(&rt),
         is_journal: is_set(&rt, JOURNAL),
         link,
     };
+    let is_session = is_session(&words);
     let mut screen = Outlet {
         screen: Screen {
             rt,
             alloc,
             writer: rt.stdout(),
             link: linked,
+            is_session,
         },
-        is_session: is_session(&words),
+        is_session,
     };
     let status = run_words(rt, alloc, words, streams, &mut screen, &mut rt.stderr());
     ExitCode::from(status)

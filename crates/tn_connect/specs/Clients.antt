@@ -1,12 +1,12 @@
 -- Which session a client runs over a connection.
 use Rattle.std.specs.Prelude.{◌≡◌, ℕ, Bool, true, false, Option, Some, None, List, [], Result, Ok, Err, IfErr}
-use Rattle.std.specs.declared.{io.Error.Error, net.tcp.TcpStream.TcpStream}
+use Rattle.std.specs.{Prelude.unwrap_or, declared.{io.Error.Error, net.tcp.TcpStream.TcpStream}}
 use Rattle.crossbeam_channel.specs.Claims.{view}
 use Rattle.tn_connect.specs.{Faults.IsToldAs, declared.connected.Connected.Connected, Texts.with_text}
 use Rattle.tn_connect.specs.declared.{fault.ConnectFault.ConnectFault, settings.Connecting.Connecting}
 use Rattle.tn_connect.specs.declared.settings.KeySource.{KeySource, TheVariants.{Reader, Input, Terminal}}
 use Rattle.tn_sockets.specs.{Typing.of_bytes, declared.escaping.Keyboard.Keyboard, Queue.put_bytes}
-use Rattle.tn_sockets.specs.declared.returns.ReturnKey.{ReturnKey}
+use Rattle.tn_sockets.specs.declared.returns.ReturnKey.{ReturnKey, TheVariants.CrNul}
 use Rattle.tn_session.specs.{Client.RunningClient, Facts.{Window, client_result}}
 use Rattle.tn_session.specs.declared.parties.{ClientPorts.ClientPorts, Report.Report}
 use Rattle.tn_streams.specs.{Beside.no_words, Known.KnownTyping}
@@ -49,7 +49,7 @@ text_by Input text = text
 text_by (Terminal own) text = false
 
 abbrev pub keyboard_of : Connecting → Keyboard
-keyboard_of connecting = keyboard_by connecting.origin connecting.escape connecting.returns
+keyboard_of connecting = keyboard_by connecting.origin connecting.escape (unwrap_or connecting.returns CrNul)
 
 -- A client's session ran with these keys and this screen, before and after it, wrote these bytes, and gave
 -- back this. Of what the connection brings nothing was known before, but that it tells no size; all that was

@@ -35,8 +35,9 @@ use std::time::Duration;
 use tn_network::{Network, reach_by};
 use tn_session::{ClientPorts, Ended, Report, SessionFault, client_session};
 use tn_sockets::{
-    Connection, Console, Host, Incoming, Keyboard, Keys, Link, Logged, NewQueue, Outgoing,
-    PiecePass, Queue, Sent, Sizes, Terminal, Throttle, Trace, Typing, WriteLog, new_queue,
+    Connection, Console, Host, Incoming, Keyboard, Keys, LineKeys, LineMode, Link, Logged,
+    NewQueue, Outgoing, PiecePass, Queue, ReturnKey, Sent, Sizes, Terminal, Throttle, Trace,
+    Typing, WriteLog, new_queue,
 };
 use tn_streams::{Drain, Source};
 
@@ -249,7 +250,9 @@ fn talk_from<H: Host, K: Read + Drop + Send + 'static, S: Write, Q: Queue>(
             talk_by(rt, alloc, incoming, outgoing, keys, screen, &connecting)
         },
         KeySource::Terminal(_) => {
-            let keys = console_of(rt, alloc, typing, &connecting);
+            let Ok(keys) = line_keys_of(rt, alloc, typing, &connecting) else {
+                return Err(SessionFault::Memory);
+            };
             talk_by(rt, alloc, incoming, outgoing, keys, screen, &connecting)
         },
     }
@@ -268,6 +271,33 @@ fn console_of<H: Host, K: Read + Drop>(
     Console::new(rt, alloc, typing, keyboard_of(connecting))
 }
 
+// The keys of a terminal, which are edited as lines while the server takes whole lines.
+fn line_keys_of<H: Host, K: Read + Drop>(
+    rt: H,
+    alloc: Global,
+    typing: Typing<H, K>,
+    connecting: &Connecting,
+) -> Result<LineKeys<H, K>, AllocError> {
+    let mode = LineMode {
+        is_wanted: connecting.line_mode.is_some(),
+        limit: connecting.line_mode.unwrap_or(connecting.line_limit),
+        editing: connecting.editing,
+        returns: connecting.returns,
+        screen: screen_of(&typing),
+        width: typing.width,
+    };
+    let link = Arc::try_clone(&typing.link)?;
+    let console = console_of(rt, alloc, typing, connecting);
+    LineKeys::new(rt, alloc, console, link, mode)
+}
+
+// The screen of a terminal, for one more who shows something there.
+fn screen_of<H, K>(typing: &Typing<H, K>) -> Option<File> {
+    let terminal = typing.terminal.as_ref()?;
+    let screen = terminal.screen.as_ref()?;
+    screen.try_clone().ok()
+}
+
 // Only at a terminal a byte stands for anything but itself.
 fn keyboard_of(connecting: &Connecting) -> Keyboard
     ensures { result ≡ keyboard_of connecting.now }
@@ -277,7 +307,7 @@ fn keyboard_of(connecting: &Connecting) -> Keyboard
             escape: connecting.escape,
             own,
             editing: own,
-            returns: connecting.returns,
+            returns: connecting.returns.unwrap_or(ReturnKey::CrNul),
             may_change: true,
         },
         KeySource::Reader | KeySource::Input => Keyboard::of_bytes(),

@@ -17,7 +17,9 @@ pub use talks::{TalkReport, connect_plain};
 pub use tn_lines::LineEnd;
 pub use tn_lines_client::{Over, ReadLog};
 pub use tn_network::{Dialing, Family};
-pub use tn_sockets::{Host, Link, OwnCharacters, ReturnKey, Screen};
+pub use tn_sockets::{
+    EditKeys, EditorSettings, Host, Link, OwnCharacters, ReturnKey, Screen, Words,
+};
 pub use warnings::Warnings;
 
 mod causes;

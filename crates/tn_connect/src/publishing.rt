@@ -2,7 +2,7 @@
 
 use std::alloc::{AllocError, Global};
 use std::sync::Arc;
-use tn_session::{Gate, Place, Terms};
+use tn_session::{Gate, Origin, Place, Terms};
 use tn_sockets::Link;
 
 /// Notes what the client's core tells, after each message.
@@ -25,7 +25,12 @@ impl Publisher {
 impl Gate for Publisher {
     fn at(&self, _place: Place) {}
 
+    fn handles(&self, from: Origin) {
+        self.link.note_echoing(matches!(from, Origin::Keys));
+    }
+
     fn agreed(&self, terms: Terms) {
+        self.link.note_suppressed(terms.suppressed);
         self.link.note_editing(terms.linemode, terms.edits);
         self.link.note_echo(terms.echoed);
         self.link.note_held(terms.held);

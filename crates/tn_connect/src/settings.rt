@@ -7,7 +7,7 @@ use std::sync::Arc;
 use tn_discipline::Limit;
 use tn_lines::LineEnd;
 use tn_network::Dialing;
-use tn_sockets::{Link, OwnCharacters, ReturnKey};
+use tn_sockets::{EditorSettings, Link, OwnCharacters, ReturnKey};
 
 /// Where the keys of a client come from.
 #[derive(Clone, Copy, PartialEq, Eq)]
@@ -17,8 +17,8 @@ pub enum KeySource {
     /// Standard input, each of whose bytes is a key; it is waited for, so that the session ends though
     /// nothing comes.
     Input,
-    /// The same at a terminal with these special characters, whose user speaks to the client itself behind
-    /// the escape character.
+    /// Standard input at a terminal with these special characters, whose user speaks to the client itself
+    /// after the escape character.
     Terminal(OwnCharacters),
 }
 
@@ -36,8 +36,14 @@ pub struct Connecting {
     pub origin: KeySource,
     /// The escape character of a terminal, if it has one.
     pub escape: Option<u8>,
-    /// What RETURN sends at a terminal.
-    pub returns: ReturnKey,
+    /// What RETURN sends at a terminal, if the user has chosen: else CR NUL if keys go one at a time, and CR LF
+    /// after a line that was edited at the client.
+    pub returns: Option<ReturnKey>,
+    /// How lines are edited at a terminal.
+    pub editing: EditorSettings,
+    /// The most bytes in a line that is edited at a terminal while the server neither has LINEMODE on nor
+    /// suppresses GO AHEAD; `None` if keys go one at a time then.
+    pub line_mode: Option<Limit>,
     /// Whether keys that come from no terminal are the bytes of a text.
     pub text: bool,
     /// How many seconds after the end of standard input the server is told that no more comes.
@@ -68,13 +74,13 @@ pub struct Plain {
     pub dialing: Dialing,
 }
 
-/// What a client's session has beside its keys and its screen.
+/// The files, the messages and the connection of a client's session, besides its keys and its screen.
 #[derive(Drop)]
 pub struct ClientContext<'a, W> {
     /// Gets a line for each item that comes and goes.
     pub trace: Option<File>,
     /// Tells each new size of the window, where standard input is waited for: width and height, five
-    /// characters each, a space between them and a line feed behind them.
+    /// characters each, a space between them and a line feed after them.
     pub sizes: Option<File>,
     /// Gets a line once the connection stands, and one each time that the user asks for a stop: ACK or SUB,
     /// and a line feed.

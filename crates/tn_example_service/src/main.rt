@@ -36,7 +36,16 @@ fn main(rt: HostRuntime) -> ExitCode {
         ..Serving::standard()
     };
     let mut causes = Vec::new(alloc);
-    let served = serve(rt, alloc, at, serving, Never, Greeters, &Discard, &mut causes);
+    let served = serve(
+        rt,
+        alloc,
+        at,
+        serving,
+        Never,
+        Greeters,
+        &Discard,
+        &mut causes,
+    );
     let _ = rt.stderr().write_all(&causes);
     match served {
         Ok(_) => ExitCode::SUCCESS,
@@ -46,7 +55,7 @@ fn main(rt: HostRuntime) -> ExitCode {
 
 // The port that the first argument names.
 fn port_of(rt: &HostRuntime, alloc: Global) -> Option<u16> {
-    let words = env::args(rt).ok()?.collect(alloc).ok()?;
+    let words: Vec<String> = env::args(rt).ok()?.collect(alloc).ok()?;
     words.get(1)?.as_str().parse::<u16>().ok()
 }
 

@@ -3,7 +3,7 @@
 //! The trait has methods with bodies, and the crate that starts the threads asks whether a gate may cross
 //! them. Where both are one crate, what its check begins with takes twice as long.
 
-use crate::client::Terms;
+use crate::client::{Origin, Terms};
 use tn_jobs::JobId;
 use tn_streams::WindowSize;
 
@@ -46,6 +46,10 @@ pub trait Gate {
     /// A server's terminal has handled a message, and the client's window has this size from then on. What the
     /// message gives to the foreground job goes there afterwards.
     fn resized(&self, _size: WindowSize) {}
+
+    /// A client's core handles a message of this sender next. The session shows nothing else until it has shown
+    /// what the message made.
+    fn handles(&self, _from: Origin) {}
 
     /// A client's core has handled a message, and these are its terms now.
     fn agreed(&self, _terms: Terms) {}

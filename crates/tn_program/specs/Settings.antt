@@ -15,7 +15,7 @@ use Rattle.tn_server.specs.declared.wishes.Editing.{Editing, TheVariants.{Local,
 use Rattle.tn_session.specs.Facts.{Window}
 use Rattle.tn_words.specs.declared.settings.Characters.{Characters, TheVariants.{Own, Standard}}
 use Rattle.tn_words.specs.declared.settings.{ConnectWords.ConnectWords, Escape.Escape, ServeWords.ServeWords}
-use Rattle.tn_words.specs.declared.settings.ReturnBytes.{ReturnBytes}
+use Rattle.tn_words.specs.declared.settings.{Mode.{Mode, TheVariants.{Auto, Char}}, ReturnBytes.{ReturnBytes}}
 use Rattle.tn_words.specs.declared.settings.Escape.TheVariants as escape
 use Rattle.tn_words.specs.declared.settings.ReturnBytes.TheVariants as bytes
 
@@ -117,6 +117,11 @@ abbrev pub return_as : ReturnBytes → ReturnKey
 return_as bytes.CrNul = CrNul
 return_as bytes.CrLf = CrLf
 return_as bytes.Lf = Lf
+
+-- how long a line may be that is edited while LINEMODE is off, if any is
+abbrev pub line_mode_as : Mode → ℕ → Option ℕ
+line_mode_as Auto limit = Some limit
+line_mode_as Char limit = None
 
 -- where the keys come from: with the standard characters a terminal has none of its own
 abbrev pub origin_as : Characters → KeySource → KeySource

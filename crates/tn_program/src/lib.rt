@@ -4,8 +4,9 @@
 //! let link = Arc::new(alloc, Link::new())?;
 //! let reader = rt.stdin();
 //! let origin = KeySource::Input;
-//! let streams = Streams { origin, reader, sizes: None, stands: None, terminal: None, is_journal: false,
-//!     link };
+//! let editor = EditorSettings::usual();
+//! let streams = Streams { origin, reader, sizes: None, stands: None, terminal: None, editor,
+//!     is_journal: false, link };
 //! let status = run_words(rt, alloc, Ok(words), streams, &mut rt.stdout(), &mut rt.stderr());
 //! ```
 //!
@@ -16,12 +17,12 @@ pub use counting::Serves;
 pub use metrics::Replacing;
 pub use outcome::Outcome;
 pub use outlet::Outlet;
-pub use own::{OWN_LENGTH, own_characters};
+pub use own::{EDITS_LENGTH, OWN_LENGTH, editor_settings, own_characters};
 pub use program::{outcome_of_words, run_words};
 pub use serving::{Joining, Noting};
 pub use settings::Answering;
 pub use streams::Streams;
-pub use tn_connect::{KeySource, Link, OwnCharacters, Screen};
+pub use tn_connect::{EditorSettings, KeySource, Link, OwnCharacters, Screen};
 pub use tn_network::Network;
 pub use watching::Lookout;
 

@@ -4,7 +4,7 @@ ghost use Rattle.std.specs.Prelude.{◌≡◌};
 ghost use Rattle.tn_program.specs.Own.{character_as, own_in};
 
 use hex::FromHex;
-use tn_connect::OwnCharacters;
+use tn_connect::{EditKeys, EditorSettings, OwnCharacters, Words};
 
 /// How many bytes tell the characters of a terminal.
 pub const OWN_LENGTH: usize = 12;
@@ -25,6 +25,26 @@ pub fn own_characters(text: &[u8]) -> Option<OwnCharacters>
         erase: character_of(erase),
         kill: character_of(kill),
         eof: character_of(eof),
+    })
+}
+
+/// How many bytes tell how a terminal edits lines.
+pub const EDITS_LENGTH: usize = 8;
+
+/// How a terminal edits lines, by a text: two hexadecimal digits each, of WERASE and REPRINT, `00` if there is none,
+/// and of whether IUTF8 and ECHOCTL are set.
+pub fn editor_settings(text: &[u8]) -> Option<EditorSettings> {
+    let bytes = <[u8; 4] as FromHex>::from_hex(text).ok()?;
+    let [werase, rprnt, iutf8, echoctl] = bytes;
+    Some(EditorSettings {
+        keys: EditKeys {
+            werase: character_of(werase),
+            rprnt: character_of(rprnt),
+            iutf8: iutf8 != 0,
+            words: Words::Symbols,
+        },
+        echoctl: echoctl != 0,
+        has_history: true,
     })
 }
 

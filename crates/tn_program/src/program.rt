@@ -329,6 +329,7 @@ fn run_connect<
         sizes,
         stands,
         terminal,
+        editor,
         link,
         ..
     } = streams;
@@ -346,7 +347,7 @@ fn run_connect<
         causes,
         link,
     };
-    let connecting = connecting_of(&asked, port, origin);
+    let connecting = connecting_of(&asked, port, origin, editor);
     let host = asked.host.as_str();
     Outcome::Connected(connect(rt, alloc, host, connecting, reader, writer, notes))
 }

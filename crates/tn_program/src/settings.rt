@@ -1,18 +1,21 @@
 //! What was asked for, as sessions over connections take it.
 
-ghost use Rattle.std.specs.Prelude.{◌≡◌, string_bytes};
+ghost use Rattle.std.specs.Prelude.{◌≡◌, option_map, string_bytes};
 ghost use Rattle.tn_connect.specs.Clients.{window_of};
 ghost use Rattle.tn_program.specs.Settings.{count_as, escape_as, lines_as, options_as, origin_as, plain_as};
-ghost use Rattle.tn_program.specs.Settings.{half_of, idle_as, is_local, is_loopback, per_host_as};
-ghost use Rattle.tn_program.specs.Settings.{return_as, usual_per_host, window_as};
+ghost use Rattle.tn_program.specs.Settings.{half_of, idle_as, is_local, is_loopback, line_mode_as};
+ghost use Rattle.tn_program.specs.Settings.{per_host_as, return_as, usual_per_host, window_as};
 
 use log::Level;
 use std::alloc::{AllocError, Global};
-use tn_connect::{Connecting, KeySource, OwnCharacters, Plain, ReturnKey};
+use tn_connect::{
+    Connecting, EditKeys, EditorSettings, KeySource, OwnCharacters, Plain, ReturnKey,
+};
+use tn_discipline::Limit;
 use tn_serve::{Call, Finished, NoteFormat, NoteStyle, Service, Serving, SessionOptions};
 use tn_server::Editing;
 use tn_services::{Answerer, Answerers, LineFormat};
-use tn_words::{Characters, Escape, LineEnd, ReturnBytes, USUAL_HEIGHT, USUAL_WIDTH};
+use tn_words::{Characters, Escape, LineEnd, Mode, ReturnBytes, USUAL_HEIGHT, USUAL_WIDTH};
 
 /// After how many connections a server without end stops: more than can ever be accepted.
 const WITHOUT_END: u64 = u64::MAX;
@@ -190,11 +193,13 @@ pub(crate) fn connecting_of(
     asked: &tn_words::ConnectWords,
     port: u16,
     origin: KeySource,
+    editor: EditorSettings,
 ) -> Connecting
     ensures window { window_of result ≡ window_as asked.now }
     ensures origin { result.origin ≡ origin_as asked.now.characters origin }
     ensures escape { result.escape ≡ escape_as asked.now.escape }
-    ensures returns { result.returns ≡ return_as asked.now.returns }
+    ensures returns { result.returns ≡ option_map return_as asked.now.returns }
+    ensures line_mode { result.line_mode ≡ line_mode_as asked.now.mode asked.now.line_mode_limit }
     ensures text { result.text ≡ asked.now.text }
     ensures port { result.port ≡ port }
     ensures wait { result.wait ≡ asked.now.wait }
@@ -208,7 +213,9 @@ pub(crate) fn connecting_of(
         line_limit: asked.line_limit,
         origin: origin_of(asked.characters, origin),
         escape: escape_of(asked.escape),
-        returns: return_of(asked.returns),
+        returns: asked.returns.map(return_of),
+        editing: editor_of(asked, editor),
+        line_mode: line_mode_of(asked.mode, asked.line_mode_limit),
         text: asked.text,
         wait: asked.wait,
         patience: asked.patience,
@@ -247,6 +254,34 @@ fn origin_of(characters: Characters, origin: KeySource) -> KeySource
             OwnCharacters::none(),
         ),
         _ => origin,
+    }
+}
+
+// How lines are edited at a terminal with these settings. With the standard characters it has no editing keys.
+fn editor_of(asked: &tn_words::ConnectWords, editor: EditorSettings) -> EditorSettings {
+    let keys = match asked.characters {
+        Characters::Own => editor.keys,
+        Characters::Standard => EditKeys {
+            werase: None,
+            rprnt: None,
+            iutf8: false,
+            words: editor.keys.words,
+        },
+    };
+    EditorSettings {
+        keys,
+        echoctl: editor.echoctl,
+        has_history: asked.history,
+    }
+}
+
+// How long a line may be that is edited while LINEMODE is off, if any is.
+fn line_mode_of(mode: Mode, limit: Limit) -> Option<Limit>
+    ensures { result ≡ line_mode_as mode limit }
+{
+    match mode {
+        Mode::Auto => Some(limit),
+        Mode::Char => None,
     }
 }
 

@@ -5,7 +5,7 @@ use std::fs::File;
 use std::io;
 use std::io::Read;
 use std::sync::Arc;
-use tn_connect::{KeySource, Link};
+use tn_connect::{EditorSettings, KeySource, Link};
 
 /// A reader, where its bytes come from, what tells the sizes of the window in which they are typed, what is
 /// told once the connection that they are for stands, the terminal that they are typed at, and that
@@ -17,6 +17,8 @@ pub struct Streams<R> {
     pub sizes: Option<File>,
     pub stands: Option<File>,
     pub terminal: Option<File>,
+    /// How lines are edited at that terminal.
+    pub editor: EditorSettings,
     /// Standard error goes to systemd's journal.
     pub is_journal: bool,
     pub link: Arc<Link, Global>,

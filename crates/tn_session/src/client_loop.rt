@@ -83,6 +83,7 @@ fn turn<W: Finish, S: Drain, G: Gate>(
         W.sending writer.new ≡ W.sending writer.old }
     ensures closed { IsTrue core.old.progress.closed → IsTrue core.new.progress.closed }
 {
+    gate.handles(told.from);
     let mark = core.handle(told, &mut output.out, text);
     tell(gate, core);
     let written = output.write_out(writer);

@@ -5,7 +5,7 @@
 pub use client::client_session;
 pub use parties::{ClientPorts, Maker, Ports, Report, Unwatched};
 pub use session::serve_session;
-pub use tn_machines::client::Terms;
+pub use tn_machines::client::{Origin, Terms};
 pub use tn_machines::{Ended, Gate, Message, Place, SessionFault, Typed};
 pub use tn_queue::{Hand, InTurn};
 pub use tn_streams::Finish;

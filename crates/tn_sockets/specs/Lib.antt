@@ -1,4 +1,5 @@
 pub mod Queue
+pub mod Screens
 pub mod Passing
 pub mod LastWords
 pub mod Logs

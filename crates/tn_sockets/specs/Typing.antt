@@ -1,11 +1,11 @@
--- What is typed at a terminal. Behind an escape character a line is typed to the client itself, which is a
+-- What is typed at a terminal. After an escape character a line is typed to the client itself, which is a
 -- command, or asks the session for a control function.
 use Rattle.std.specs.Prelude.{◌≡◌, ◌≤◌, ◌⊎◌, ◌==◌, ◌||◌, ℕ, nat_eq, Bool, true, false, Option, None, Some}
 use Rattle.std.specs.Prelude.{List, [], ◌∷◌, ◌++◌, codes, is_some, length, take, unwrap_or, if◌then◌else◌}
 use Rattle.std.specs.{List.starts_with, Str.bytes_eq}
 use Rattle.tn_sockets.specs.declared.escaping.{EscapeCommand.EscapeCommand, Next.Next, Escaping.Escaping}
 use Rattle.tn_sockets.specs.declared.escaping.EscapeCommand.TheVariants.{Close, Help, Status, Suspend, LogOff}
-use Rattle.tn_sockets.specs.declared.escaping.EscapeCommand.TheVariants.{LogTo, Return, Unknown}
+use Rattle.tn_sockets.specs.declared.escaping.EscapeCommand.TheVariants.{LogTo, Mode, Return, Unknown}
 use Rattle.tn_sockets.specs.{declared.escaping.Next.TheVariants.{Leaves, Returns}, Mapping.{mapped, none_own}}
 use Rattle.tn_sockets.specs.Prompting.{after_edit, after_escape, edit_of, opened, return_in}
 use Rattle.tn_sockets.specs.declared.escaping.{SessionInput.SessionInput, Keyboard.Keyboard, Typed.Typed}
@@ -37,6 +37,7 @@ command line =
     else if is_one line (codes "z") (codes "suspend") then Suspend
     else if bytes_eq line (codes "log off") then LogOff
     else if starts_with nat_eq line (codes "log ") then LogTo
+    else if is_one line (codes "mode auto") (codes "mode char") then Mode
     else if is_some (return_in line) then Return else Unknown
 
 -- what a line is: it may ask for the control functions BRK, IP and AYT; an empty one asks for nothing
@@ -90,7 +91,7 @@ typed_after keyboard prompt byte = typed_when prompt.is_open keyboard prompt byt
 abbrev pub reading : Escaping → ℕ → Typed
 reading escaping byte = typed_after escaping.keyboard escaping.prompt byte
 
--- what of the line is typed behind this byte
+-- what of the line is typed after this byte
 abbrev pub prompt_when : Bool → Keyboard → Prompt → ℕ → Prompt
 prompt_when false keyboard prompt byte = if is_escape keyboard.escape byte then opened prompt else prompt
 prompt_when true keyboard prompt byte =
@@ -100,7 +101,7 @@ prompt_when true keyboard prompt byte =
 abbrev pub prompt_after : Keyboard → Prompt → ℕ → Prompt
 prompt_after keyboard prompt byte = prompt_when prompt.is_open keyboard prompt byte
 
--- and behind all of these
+-- and after all of these
 abbrev pub prompt_behind : Keyboard → Prompt → List ℕ → Prompt
 prompt_behind keyboard prompt [] = prompt
 prompt_behind keyboard prompt (byte ∷ bytes) = prompt_behind keyboard (prompt_after keyboard prompt byte) bytes
@@ -119,7 +120,7 @@ abbrev pub is_key : SessionInput → Bool
 is_key (input.Key byte) = true
 is_key (input.Control control) = false
 
--- what a session gets of what is typed, in its order, behind so much of a line
+-- what a session gets of what is typed, in its order, after so much of a line
 abbrev pub inputs : Keyboard → Prompt → List ℕ → List SessionInput
 inputs keyboard prompt [] = []
 inputs keyboard prompt (byte ∷ bytes) =
@@ -145,7 +146,7 @@ abbrev pub inputs_in : List Typed → List SessionInput
 inputs_in [] = []
 inputs_in (t ∷ taken) = input_in t ++ inputs_in taken
 
--- these were obeyed, in order, behind those before them, where that is told
+-- these were obeyed, in order, after those before them, if that is known
 abbrev pub Obeys : Option (List EscapeCommand) → List EscapeCommand → Option (List EscapeCommand) → Type 0
 Obeys None these new = new ≡ None
 Obeys (Some old) these new = new ≡ Some (old ++ these)

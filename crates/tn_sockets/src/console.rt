@@ -1,5 +1,5 @@
 //! Standard input as keys: it is waited for, so that a session ends though nobody types, and at a terminal
-//! the user speaks to the client itself behind an escape character.
+//! the user speaks to the client itself after an escape character.
 
 ghost use Rattle.std.specs.{Prelude.{◌≡◌, ◌≢◌, ◌≤◌, ◌+◌, ◌++◌, ℕ, [], None, length, take}, Io.ReadsAtMost};
 ghost use Rattle.std.specs.{Io.KnownBytes.ReadConsumes, VecDeque.{deque_capacity, deque_len}};
@@ -12,6 +12,7 @@ use crate::deeds::{About, Deeds};
 use crate::escaping::{Escaping, Keyboard, SessionInput};
 use crate::kept;
 use crate::keys::Typing;
+use crate::returns::ReturnKey;
 use crate::terminal::Terminal;
 use libc::net::{POLLIN, poll};
 use libc::types::pollfd;
@@ -49,6 +50,8 @@ enum Ready {
     Key,
     /// Keys can be read, and are to be kept.
     Ahead,
+    /// A half line that was typed before is to be given.
+    HalfLine,
     Over,
 }
 
@@ -72,7 +75,7 @@ pub struct Console<H, K> {
     left: Option<Instant>,
     // The size that was told last, and has not been said.
     resized: Option<WindowSize>,
-    // The control function that is asked for behind the keys that were given, and has not been told.
+    // The control function that is asked for after the keys that were given, and was not given.
     asked: Option<Control>,
 }
 
@@ -102,12 +105,25 @@ impl<H: ClientFiles + Clock + Copy + Wait, K: Read + Drop> Console<H, K> {
         }
     }
 
+    /// Whether a line to the client itself is typed.
+    pub(crate) fn is_prompting(&self) -> bool {
+        self.escaping.prompt.is_open
+    }
+
+    /// The bytes that RETURN sends by the last line to the client itself that asked for them.
+    pub(crate) fn asked_return(&self) -> Option<ReturnKey> {
+        self.escaping.prompt.returns
+    }
+
     // tools/progress: proctype ClientKeys
     // Waits until a size is told, a key can be given or read, or the session is over.
     fn wait(&self) -> Ready {
         for _ in self.rt.forever() {
             if self.typing.link.is_closed() {
                 return Ready::Over;
+            }
+            if self.typing.link.is_half_due() {
+                return Ready::HalfLine;
             }
             let ready = if self.typing.throttle.holds(0) {
                 self.look_ahead()
@@ -327,7 +343,7 @@ impl<H: ClientFiles + Clock + Copy + Wait, K: Read + Drop> Console<H, K> {
     }
 }
 
-// A session of Telnet, as its user is told of it.
+// A session of Telnet, as the client describes it to its user.
 fn about<H, K>(typing: &Typing<H, K>) -> About<'_> {
     About {
         link: &typing.link,
@@ -395,6 +411,7 @@ impl<H: ClientFiles + Clock + Copy + Wait, K: Read + Drop> Source for Console<H,
                 self.take_size();
                 Err(io::Error::from(ErrorKind::Interrupted))
             },
+            Ready::HalfLine => Err(io::Error::from(ErrorKind::Interrupted)),
             Ready::Key => self.read_keys(buf),
             Ready::Ahead => self.read_ahead(buf),
         }

@@ -12,7 +12,7 @@ use std::str;
 use std::sync::Wait;
 use tn_streams::WindowSize;
 
-/// What may be typed behind the escape character.
+/// The lines that may be typed after the escape character.
 const HELP: &[u8] = b"quit, close, q  close the connection and leave\r\n\
     again           close the connection and connect again\r\n\
     status, s       show the state of the session\r\n\
@@ -20,11 +20,12 @@ const HELP: &[u8] = b"quit, close, q  close the connection and leave\r\n\
     log FILE        append to FILE what the screen gets from now on\r\n\
     log off         end that\r\n";
 
-/// What else may be typed there in a session of Telnet.
+/// The lines that may be typed only in a session of Telnet.
 const TELNET_HELP: &[u8] = b"send brk, b     send BREAK, which some monitors wait for\r\n\
     send ip, i      interrupt what runs at the other end\r\n\
     send ayt, a     ask whether the other end is there\r\n\
-    return crlf     send CR LF at RETURN while keys go one at a time; or crnul, or lf\r\n";
+    return crlf     send CR LF at RETURN while LINEMODE is off; or crnul, or lf\r\n\
+    mode char       send each key at once while LINEMODE is off; mode auto edits lines\r\n";
 
 const LAST_HELP: &[u8] = b"help, ?         show these lines\r\n\
     An empty line goes back. The escape character again sends itself.\r\n";
@@ -32,7 +33,7 @@ const LAST_HELP: &[u8] = b"help, ?         show these lines\r\n\
 /// How many bytes stand before the name of the file in a line that begins a log.
 const BEFORE_FILE: usize = 4;
 
-/// A connection, as its user is told of it.
+/// A connection, as the client describes it to its user.
 #[derive(Clone, Copy)]
 pub struct About<'a> {
     pub link: &'a Link,
@@ -66,6 +67,7 @@ impl<'a, H: ClientFiles + Wait> Obey for Deeds<'a, H> {
             },
             EscapeCommand::LogTo => self.begin_log(line),
             EscapeCommand::LogOff => self.end_log(),
+            EscapeCommand::Mode => self.set_mode(line),
             EscapeCommand::Return => self.show_return(line),
             EscapeCommand::Unknown => self.terminal.show(
                 b"unknown command; the escape character and help list them\r\n",
@@ -92,6 +94,20 @@ impl<'a, H> Deeds<'a, H> {
     pub(crate) fn refuse_control(&mut self) {
         self.terminal
             .show(b"without Telnet no control function can be sent\r\n");
+    }
+
+    // Begins or ends line mode by a line.
+    fn set_mode(&mut self, line: &[u8]) {
+        let text: &[u8] = if self.about.window.is_none() {
+            b"without Telnet lines are always edited here\r\n"
+        } else if line == b"mode char".as_slice() {
+            self.about.link.set_line_mode(false);
+            b"each key is sent at once while LINEMODE is off\r\n"
+        } else {
+            self.about.link.set_line_mode(true);
+            b"lines are edited here while the other end takes whole lines\r\n"
+        };
+        self.terminal.show(text);
     }
 
     // Says what RETURN sends from now on by a line.
@@ -188,7 +204,7 @@ fn write_own(text: &mut Vec<u8>, own: &OwnCharacters) {
     }
 }
 
-// One of them, behind what stands before it. What stands before the next.
+// Writes one of them after the text that comes before it. Returns the text that comes before the next.
 fn write_one(
     text: &mut Vec<u8>,
     own: &OwnCharacters,
@@ -219,11 +235,14 @@ fn write_key(text: &mut Vec<u8>, key: u8) {
     let _ = write!(text, "{}{}{}", meta, caret, char::from(sign));
 }
 
-// Who edits lines. Without LINEMODE a server that echoes takes keys one by one and edits them, as a rule;
-// where it does not echo, they are not edited by anybody.
+// Who edits lines. Without LINEMODE a server that echoes takes keys one by one and edits them, as a rule; if
+// it does not echo, nobody edits them but the client in line mode.
 fn editing_of(link: &Link) -> &'static str {
     if link.edits_here() {
         return "lines are edited here";
+    }
+    if link.is_line_mode() {
+        return "lines are edited here in line mode";
     }
     if link.has_linemode() || link.echoes_there() {
         return "lines are edited at the other end";

@@ -35,6 +35,8 @@ pub enum EscapeCommand {
     LogTo,
     /// `log off`: end that.
     LogOff,
+    /// `mode` and `auto` or `char`: choose when the keys go.
+    Mode,
     /// `return` and `crnul`, `crlf` or `lf`: send that at RETURN.
     Return,
     /// Any other line: it means nothing.
@@ -195,7 +197,7 @@ impl Escaping {
         }
     }
 
-    // The line behind this byte.
+    // The line after this byte.
     fn advance(&mut self, byte: u8)
         ensures keyboard { self.new.keyboard ≡ self.old.keyboard }
         ensures prompt { self.new.prompt ≡ prompt_after self.old.keyboard self.old.prompt byte }
@@ -244,8 +246,8 @@ impl Escaping {
         }
     }
 
-    /// Keeps what a session gets of these bytes, behind what is kept, and has each command obeyed once; both
-    /// in their order. Returns how many bytes were taken: what stands behind one that asks to close is not.
+    /// Keeps what a session gets of these bytes, after what is kept, and has each command obeyed once; both
+    /// in their order. Returns how many bytes were taken: those after one that asks to close are not.
     pub fn sort<O: Obey>(
         &mut self,
         bytes: &[u8],
@@ -293,7 +295,7 @@ impl Escaping {
     }
 }
 
-// What the escape character is behind these bytes of a line.
+// What the escape character is after these bytes of a line.
 fn typed_again(line: &[u8], byte: u8) -> Typed
     ensures { result ≡ typed_again line.now byte }
 {
@@ -345,6 +347,9 @@ fn command_of(line: &[u8]) -> EscapeCommand
     }
     if line.starts_with(b"log ") {
         return EscapeCommand::LogTo;
+    }
+    if is_one(line, b"mode auto", b"mode char") {
+        return EscapeCommand::Mode;
     }
     if ReturnKey::asked(line).is_some() {
         return EscapeCommand::Return;

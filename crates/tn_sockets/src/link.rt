@@ -1,5 +1,8 @@
 //! What the parts of a client's connection know of each other.
 
+ghost use Rattle.std.specs.Prelude.{◌≤◌, length};
+
+use crate::half_line::HalfLine;
 use crate::screen_log::ScreenLog;
 use std::alloc::Global;
 use std::fs::File;
@@ -30,6 +33,10 @@ pub struct Link {
     left: AtomicBool,
     /// LINEMODE is on.
     linemode: AtomicBool,
+    /// The other end suppresses GO AHEAD.
+    suppressed: AtomicBool,
+    /// Lines may be edited at this end although LINEMODE is not on.
+    has_line_mode: AtomicBool,
     /// How often something could not be sent at once since the user left, or since nothing more comes.
     late: AtomicUsize,
     /// How many keys were typed and never came to the session.
@@ -38,6 +45,12 @@ pub struct Link {
     echoes_there: AtomicBool,
     /// How many bytes of a line are held here.
     held: AtomicUsize,
+    /// A half line was typed in line mode.
+    has_half: AtomicBool,
+    /// What the session shows next is an echo of keys.
+    is_echoing: AtomicBool,
+    /// The half line as it is shown, if there is a terminal to show it at.
+    half: Mutex<Option<HalfLine>>,
     came: AtomicUsize,
     went: AtomicUsize,
     /// What gets what the screen gets, whether the time stands before each line, and whether one of all logs
@@ -57,11 +70,16 @@ impl Link {
             dark: AtomicBool::new(false),
             left: AtomicBool::new(false),
             linemode: AtomicBool::new(false),
+            suppressed: AtomicBool::new(false),
+            has_line_mode: AtomicBool::new(false),
             late: AtomicUsize::new(0),
             dropped: AtomicUsize::new(0),
             edits_here: AtomicBool::new(false),
             echoes_there: AtomicBool::new(false),
             held: AtomicUsize::new(0),
+            has_half: AtomicBool::new(false),
+            is_echoing: AtomicBool::new(false),
+            half: Mutex::new(None),
             came: AtomicUsize::new(0),
             went: AtomicUsize::new(0),
             log: Mutex::new(None),
@@ -219,6 +237,89 @@ impl Link {
     /// Notes how many bytes of a line are held here.
     pub fn note_held(&self, bytes: usize) {
         self.held.store(bytes, Ordering::SeqCst);
+    }
+
+    /// Notes whether the other end suppresses GO AHEAD.
+    pub fn note_suppressed(&self, suppressed: bool) {
+        self.suppressed.store(suppressed, Ordering::SeqCst);
+    }
+
+    /// Begins or ends that lines are edited at this end while `is_line_mode` holds.
+    pub(crate) fn set_line_mode(&self, has_line_mode: bool) {
+        self.has_line_mode.store(has_line_mode, Ordering::SeqCst);
+    }
+
+    /// Keeps the half line of line mode.
+    pub(crate) fn edit_by<R: Wait>(&self, rt: &R, half: HalfLine) {
+        let mut kept = self.half.lock(rt);
+        *kept = Some(half);
+    }
+
+    /// Whether lines are edited at this end although LINEMODE is not on: the other end takes them whole (RFC 854,
+    /// "The Network Virtual Terminal"), as long as it does not suppress GO AHEAD.
+    pub(crate) fn is_line_mode(&self) -> bool {
+        self.has_line_mode.load(Ordering::SeqCst)
+            && !self.has_linemode()
+            && !self.suppressed.load(Ordering::SeqCst)
+    }
+
+    /// Notes whether a half line of line mode was typed.
+    pub(crate) fn note_half(&self, is_typed: bool) {
+        self.has_half.store(is_typed, Ordering::SeqCst);
+    }
+
+    /// Whether a half line was typed in line mode, which has ended since.
+    pub(crate) fn is_half_due(&self) -> bool {
+        self.has_half.load(Ordering::SeqCst) && !self.is_line_mode()
+    }
+
+    /// The half line that is edited at this end, if one is.
+    pub(crate) fn half(&self) -> &Mutex<Option<HalfLine>> {
+        &self.half
+    }
+
+    /// Takes the half line off the screen, since these bytes are to be shown. Returns how many of them can be shown
+    /// at once: as long as the other end does not echo, a line feed goes to the left edge, as at a terminal whose
+    /// ONLCR is set (POSIX.1-2017, XBD 11.2.3).
+    pub(crate) fn take_half_off<R: Wait>(&self, rt: &R, bytes: &[u8]) -> usize
+        ensures { result ≤ length bytes.now }
+    {
+        let mut half = self.half.lock(rt);
+        let Some(half) = &mut *half else {
+            return bytes.len();
+        };
+        half.take_off();
+        if self.echoes_there() || !self.has_line_mode.load(Ordering::SeqCst) {
+            return bytes.len();
+        }
+        half.count_in_row(bytes)
+    }
+
+    /// Puts the half line back, once these bytes were shown.
+    pub(crate) fn put_half_back<R: Wait>(&self, rt: &R, shown: &[u8]) {
+        let mut half = self.half.lock(rt);
+        if let Some(half) = &mut *half {
+            half.put_back(shown);
+        }
+    }
+
+    /// Returns how many bytes at the front of these, which the session is to show, were shown when they were typed.
+    pub(crate) fn count_entered<R: Wait>(&self, rt: &R, bytes: &[u8]) -> usize
+        ensures { result ≤ length bytes.now }
+    {
+        if !self.is_echoing.load(Ordering::SeqCst) {
+            return 0;
+        }
+        let mut half = self.half.lock(rt);
+        match &mut *half {
+            Some(half) => half.count_entered(bytes),
+            None => 0,
+        }
+    }
+
+    /// Notes whether what the session shows next is an echo of keys.
+    pub fn note_echoing(&self, is_echoing: bool) {
+        self.is_echoing.store(is_echoing, Ordering::SeqCst);
     }
 
     pub(crate) fn has_linemode(&self) -> bool {

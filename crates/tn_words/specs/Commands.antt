@@ -110,6 +110,8 @@ connect = with_rules (codes "connect") (
     ∷ whole_rule (codes "line") 255 4095
     ∷ text_rule (codes "escape")
     ∷ text_rule (codes "keys")
+    ∷ text_rule (codes "mode")
+    ∷ flag_rule (codes "no-history")
     ∷ text_rule (codes "return")
     ∷ text_rule (codes "trace")
     ∷ text_rule (codes "log")

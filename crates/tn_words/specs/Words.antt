@@ -12,7 +12,7 @@ use Rattle.tn_words.specs.{Dialing.{MayHaveIp, chosen_family}, Numbers.Writes, S
 use Rattle.tn_words.specs.declared.{words.Asked.Asked, settings.{Address.Address, Characters.Characters}}
 use Rattle.tn_words.specs.declared.words.Asked.TheVariants.{Local, Replay, Decode, World, Serve, Connect}
 use Rattle.tn_words.specs.declared.settings.{Characters.TheVariants.{Own, Standard}, ReturnBytes.ReturnBytes}
-use Rattle.tn_words.specs.declared.settings.{ReturnBytes.TheVariants.CrNul, ConnectWords.ConnectWords}
+use Rattle.tn_words.specs.declared.settings.{Mode.{Mode, TheVariants.{Auto, Char}}, ConnectWords.ConnectWords}
 use Rattle.tn_words.specs.declared.settings.{Escape.Escape, Port.{Port, TheVariants.{Number, Service}}}
 use Rattle.tn_words.specs.declared.settings.{ServeWords.ServeWords, Socket.Socket}
 use Rattle.tn_words.specs.declared.words.WordsFault.{WordsFault}
@@ -217,6 +217,7 @@ pub record AsksPlace (rows : List Row) (host : Text) (port : Port) : Type 0 wher
 abbrev pub has_telnet_option : List Row → Bool
 has_telnet_option rows =
     is_given (codes "return") rows || is_given (codes "width") rows || is_given (codes "height") rows
+    || is_given (codes "mode") rows
 
 -- the line end that `--plain`, `--lf` and `--cr` choose, or none of it; no other choice of them is accepted,
 -- and with `--plain` no option for Telnet
@@ -249,18 +250,30 @@ chosen_characters (Some text) = named_characters text
 abbrev pub characters_in : List Row → Option Characters
 characters_in rows = chosen_characters (first_of (codes "keys") rows)
 
--- what RETURN sends, by this word, and CR NUL if there is none
+-- the mode that a word names, and the usual one if no word does
+abbrev pub named_mode : Text → Option Mode
+named_mode text =
+    if bytes_eq text (codes "auto") then Some Auto else (if bytes_eq text (codes "char") then Some Char else None)
+
+abbrev pub chosen_mode : Option Text → Option Mode
+chosen_mode None = Some Auto
+chosen_mode (Some text) = named_mode text
+
+abbrev pub mode_in : List Row → Option Mode
+mode_in rows = chosen_mode (first_of (codes "mode") rows)
+
+-- the bytes that RETURN sends, by this word, if the user chooses them
 abbrev pub named_return : Text → Option ReturnBytes
 named_return text =
-    if bytes_eq text (codes "crnul") then Some CrNul
+    if bytes_eq text (codes "crnul") then Some returns.CrNul
     else (if bytes_eq text (codes "crlf") then Some returns.CrLf
     else (if bytes_eq text (codes "lf") then Some returns.Lf else None))
 
-abbrev pub chosen_return : Option Text → Option ReturnBytes
-chosen_return None = Some CrNul
-chosen_return (Some text) = named_return text
+abbrev pub chosen_return : Option Text → Option (Option ReturnBytes)
+chosen_return None = Some None
+chosen_return (Some text) = option_map Some (named_return text)
 
-abbrev pub return_in : List Row → Option ReturnBytes
+abbrev pub return_in : List Row → Option (Option ReturnBytes)
 return_in rows = chosen_return (first_of (codes "return") rows)
 
 -- how many bytes a line may have if no number is given
@@ -288,6 +301,7 @@ pub record AsksConnect (rows : List Row) (asked : ConnectWords) : Type 0 where
   pub escape : HasEscape rows asked.escape
   pub characters : characters_in rows ≡ Some asked.characters
   pub returns : return_in rows ≡ Some asked.returns
+  pub mode : mode_in rows ≡ Some asked.mode
   pub trace : option_map string_bytes asked.trace ≡ first_of (codes "trace") rows
   pub log : option_map string_bytes asked.log ≡ first_of (codes "log") rows
   pub log_times : HasFlag rows (codes "log-times") asked.log_times

@@ -169,6 +169,10 @@ pub(crate) const ESCAPE: &str = "escape";
 
 pub(crate) const KEYS: &str = "keys";
 
+pub(crate) const MODE: &str = "mode";
+
+pub(crate) const NO_HISTORY: &str = "no-history";
+
 pub(crate) const RETURN: &str = "return";
 
 pub(crate) const TRACE: &str = "trace";
@@ -372,7 +376,8 @@ pub(crate) const CONNECT_CHOICES: &[Choice] = &[
     ),
     Choice::Number(
         LINE,
-        "How many bytes a line may have, with its closing byte; default: 255, or 4095 with --plain",
+        "How many bytes a line may have, with its closing byte; default: 255, or 4095 with --plain and while \
+         LINEMODE is off",
     ),
     Choice::Text(
         ESCAPE,
@@ -387,10 +392,20 @@ pub(crate) const CONNECT_CHOICES: &[Choice] = &[
          `standard` ones",
     ),
     Choice::Text(
+        MODE,
+        "HOW",
+        "`auto`, the default, edits lines at a terminal while the server neither has LINEMODE on nor \
+         suppresses GO AHEAD; `char` sends each key at once then",
+    ),
+    Choice::Flag(
+        NO_HISTORY,
+        "Keeps no lines that Up and Down would bring back",
+    ),
+    Choice::Text(
         RETURN,
         "BYTES",
-        "What RETURN sends at a terminal while keys go one at a time: `crnul`, which is the default, `crlf` \
-         or `lf`",
+        "What RETURN sends at a terminal while LINEMODE is off: `crnul`, `crlf` or `lf`; default: crlf after a \
+         line that was edited at the terminal, else crnul",
     ),
     Choice::Text(
         TRACE,
@@ -645,14 +660,14 @@ fn connect_command<C: Grow>(alloc: Global) -> Result<C, AllocError>
         "Joins a Telnet server, as a client with LINEMODE",
         "Connects to HOST, which is a name or an address, IPv4 or IPv6, at port 23 or at another one; \
          without HOST to a port of this machine. Standard input is the keys, as they are typed, and \
-         standard output the screen. Where the server asks for it, lines are edited here and sent whole. \
+         standard output the screen. If the server asks for it, and at a terminal also while it takes whole lines, lines are edited here and sent whole. \
          At the end of its input it sends what is left, tells the server that no more comes, and ends once \
          the server has closed.\n\n\
          At a terminal, start it by its launcher (`tn connect` once installed, `./tn connect` in the sources), which sets the terminal so that each key is sent at \
          once, and sets it back at the end. With `tn serve` at the other end, the line `exit` ends the \
          session, and so does ^D on an empty line.\n\n\
          There ^] begins a line to the client itself, which RETURN ends: quit, close or q; again; status or s; suspend or z; \
-         log FILE and log off; send brk, send ip and send ayt, or b, i and a, but with --plain; help or ?. An empty \
+         log FILE and log off; mode auto and mode char; send brk, send ip and send ayt, or b, i and a, but with --plain; help or ?. An empty \
          line goes back, and ^] again sends ^].",
         "Example, where `tn serve --port 2323` runs in another terminal:\n  \
          printf 'hello\\rexit\\r' | tn connect --port 2323",

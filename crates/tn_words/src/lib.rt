@@ -10,8 +10,8 @@
 pub use commands::VERSION_LINE;
 pub use flags::is_connect_flag;
 pub use settings::{
-    Address, Characters, ConnectWords, Escape, Port, ReturnBytes, ServeWords, Socket, USUAL_HEIGHT,
-    USUAL_WIDTH,
+    Address, Characters, ConnectWords, Escape, Mode, Port, ReturnBytes, ServeWords, Socket,
+    USUAL_HEIGHT, USUAL_WIDTH,
 };
 pub use tn_lines::LineEnd;
 pub use tn_network::{Dialing, Family};

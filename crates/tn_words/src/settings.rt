@@ -3,7 +3,7 @@
 ghost use Rattle.std.specs.Prelude.{◌≡◌, ℕ, Bool, List, Option, Ok, None, IfOk, IfSome, string_bytes};
 ghost use Rattle.tn_words.specs.Addresses.{WritesAddress, WritesHost, WritesName, WritesPlace, has_colon};
 ghost use Rattle.tn_words.specs.{Addresses.{has_one_colon, has_port}, Escapes.{IsControlOf, WritesEscape}};
-ghost use Rattle.tn_words.specs.Words.{named_characters, named_return};
+ghost use Rattle.tn_words.specs.Words.{named_characters, named_mode, named_return};
 
 use std::alloc::{AllocError, Global};
 use tn_discipline::Limit;
@@ -236,6 +236,31 @@ impl Characters {
     }
 }
 
+/// When the keys of a terminal go to the server.
+#[derive(Clone, Copy, Debug, PartialEq, Eq)]
+pub enum Mode {
+    /// A line at a time while the server neither has LINEMODE on nor suppresses GO AHEAD, else as the server
+    /// asks.
+    Auto,
+    /// One at a time, unless LINEMODE is on.
+    Char,
+}
+
+impl Mode {
+    // The mode that a word names.
+    pub(crate) fn from_text(text: &str) -> Option<Mode>
+        ensures { result ≡ named_mode text.now }
+    {
+        if text == "auto" {
+            return Some(Mode::Auto);
+        }
+        if text == "char" {
+            return Some(Mode::Char);
+        }
+        None
+    }
+}
+
 /// A port, as it is asked for.
 #[derive(Debug, Drop, PartialEq, Eq)]
 pub enum Port {
@@ -245,7 +270,7 @@ pub enum Port {
     Service(String),
 }
 
-/// What RETURN sends while keys go one at a time (RFC 1123, section 3.3.1).
+/// The bytes that RETURN sends while LINEMODE is off (RFC 1123, section 3.3.1).
 #[derive(Clone, Copy, Debug, PartialEq, Eq)]
 pub enum ReturnBytes {
     CrNul,
@@ -254,7 +279,7 @@ pub enum ReturnBytes {
 }
 
 impl ReturnBytes {
-    // What a word names.
+    // The bytes that a word names.
     pub(crate) fn from_text(text: &str) -> Option<ReturnBytes>
         ensures { result ≡ named_return text.now }
     {
@@ -287,8 +312,14 @@ pub struct ConnectWords {
     pub escape: Escape,
     /// Whose special characters the keys of a terminal are taken by.
     pub characters: Characters,
-    /// What RETURN sends at a terminal.
-    pub returns: ReturnBytes,
+    /// The bytes that RETURN sends at a terminal, if the user has chosen them.
+    pub returns: Option<ReturnBytes>,
+    /// When the keys of a terminal go to the server.
+    pub mode: Mode,
+    /// Whether Up and Down bring lines that were typed before.
+    pub history: bool,
+    /// The most bytes in a line that is edited while LINEMODE is off.
+    pub line_mode_limit: Limit,
     /// The file that gets a trace of the connection.
     pub trace: Option<String>,
     /// The file that gets what the screen gets.

@@ -8,19 +8,22 @@ ghost use Rattle.tn_words.specs.Words.{AskFor, AsksConnect, AsksCount, AsksIn, A
 ghost use Rattle.tn_words.specs.Words.{AsksServe, HasEscape, HasNumber, IsPath, Lacks, MayHaveAddress};
 ghost use Rattle.tn_words.specs.Words.{MayHaveNumber, MayHavePath, MissesNumber, Refuses, TellsKind};
 ghost use Rattle.tn_words.specs.Words.{chosen_count, chosen_logfmt, chosen_word, logfmt_in, sends_signals_in};
-ghost use Rattle.tn_words.specs.Words.{characters_in, return_in, chosen_line_end, detail_of, ends_cut_in};
-ghost use Rattle.tn_words.specs.Words.{has_telnet_option, is_flagged, is_given, line_end_in};
+ghost use Rattle.tn_words.specs.Words.{characters_in, return_in, mode_in, chosen_line_end, detail_of};
+ghost use Rattle.tn_words.specs.Words.{ends_cut_in, has_telnet_option, is_flagged, is_given, line_end_in};
 ghost use Rattle.tn_words.specs.Words.{service_line_end, service_line_end_in, usual_line};
 
 use crate::commands::{
     BANNER, CONNECT, COUNT, CR, CRLF, DECODE, DIAL, DRAIN, ESCAPE, FOREVER, HEIGHT, HOST, IDLE,
-    KEYS, LF, LIMIT, LINE, LINE_CUT, LOCAL, LOCALLY, LOG, LOG_TIMES, LONGEST, METRICS, MOST_PATH,
-    NOTES, PATIENCE, PER_HOST, PLAIN, PROXIED, QUIET, REPLAY, RETURN, SERVE, SIGNALS, TEXT, TICKS,
-    TIMEOUT, TO, TRACE, UNTIL, VERBOSE, VERSION_LINE, WAIT, WIDTH, WORLD, Whole, tn_command,
+    KEYS, LF, LIMIT, LINE, LINE_CUT, LOCAL, LOCALLY, LOG, LOG_TIMES, LONGEST, METRICS, MODE,
+    MOST_PATH, NO_HISTORY, NOTES, PATIENCE, PER_HOST, PLAIN, PROXIED, QUIET, REPLAY, RETURN, SERVE,
+    SIGNALS, TEXT, TICKS, TIMEOUT, TO, TRACE, UNTIL, VERBOSE, VERSION_LINE, WAIT, WIDTH, WORLD,
+    Whole, tn_command,
 };
 use crate::dialing::{family_in, source_of};
 use crate::places::place_of;
-use crate::settings::{Address, Characters, ConnectWords, Escape, ReturnBytes, ServeWords, Socket};
+use crate::settings::{
+    Address, Characters, ConnectWords, Escape, Mode, ReturnBytes, ServeWords, Socket,
+};
 use crate::sockets::{socket_in, socket_lack};
 use clap::error::ErrorKind;
 use clap::{ArgMatches, Error};
@@ -98,12 +101,14 @@ pub(crate) enum Lack<'a> {
 
 const NO_LINE_END: &str = "'--lf' and '--cr' exclude each other, and need '--plain'";
 
-const NO_TELNET: &str = "'--plain' excludes '--return', '--width' and '--height'";
+const NO_TELNET: &str = "'--plain' excludes '--mode', '--return', '--width' and '--height'";
 
 const NO_ESCAPE: &str =
     "'--escape <C>': it is neither `none` nor a caret and one of A to Z, [, \\, ], ^ and _";
 
 const NO_RETURN: &str = "'--return <BYTES>': it is none of `crnul`, `crlf` and `lf`";
+
+const NO_MODE: &str = "'--mode <HOW>': it is neither `auto` nor `char`";
 
 const NO_CHARACTERS: &str = "'--keys <WHOSE>': it is neither `own` nor `standard`";
 
@@ -479,6 +484,7 @@ fn connecting(alloc: Global, words: &ArgMatches<'_>) -> Result<ConnectWords, Wor
     let escape = escape_of(alloc, words)?;
     let characters = characters_of(alloc, words)?;
     let returns = return_of(alloc, words)?;
+    let mode = mode_of(alloc, words)?;
     let Some(plain) = line_end_in(words) else {
         return Err(lacking(alloc, &line_end_lack(words)));
     };
@@ -497,6 +503,9 @@ fn connecting(alloc: Global, words: &ArgMatches<'_>) -> Result<ConnectWords, Wor
         escape,
         characters,
         returns,
+        mode,
+        history: !words.get_flag(NO_HISTORY),
+        line_mode_limit: line_mode_limit(words, numbers.line_limit),
         trace,
         log,
         log_times: numbers.log_times,
@@ -582,16 +591,37 @@ fn characters_of(alloc: Global, words: &ArgMatches<'_>) -> Result<Characters, Wo
     }
 }
 
-fn return_of(alloc: Global, words: &ArgMatches<'_>) -> Result<ReturnBytes, WordsFault>
+fn mode_of(alloc: Global, words: &ArgMatches<'_>) -> Result<Mode, WordsFault>
+    ensures asked { IfOk result (λ mode. mode_in (rows_of (found_of words.now)) ≡ Some mode) }
+    ensures lacks { IfErr result (Lacks (mode_in (rows_of (found_of words.now)) ≡ None)) }
+{
+    let Some(text) = words.get_str(MODE) else {
+        return Ok(Mode::Auto);
+    };
+    match Mode::from_text(text) {
+        Some(mode) => Ok(mode),
+        None => Err(lacking(alloc, &Lack::Value(text, NO_MODE))),
+    }
+}
+
+// The most bytes in a line that is edited while LINEMODE is off, if a line may have so many by an option.
+fn line_mode_limit(words: &ArgMatches<'_>, line_limit: Limit) -> Limit {
+    if is_given(words, LINE.name) {
+        return line_limit;
+    }
+    Limit::new(usual_line(true)).unwrap_or(line_limit)
+}
+
+fn return_of(alloc: Global, words: &ArgMatches<'_>) -> Result<Option<ReturnBytes>, WordsFault>
     ensures asked { IfOk result (λ returns.
         return_in (rows_of (found_of words.now)) ≡ Some returns) }
     ensures lacks { IfErr result (Lacks (return_in (rows_of (found_of words.now)) ≡ None)) }
 {
     let Some(text) = words.get_str(RETURN) else {
-        return Ok(ReturnBytes::CrNul);
+        return Ok(None);
     };
     match ReturnBytes::from_text(text) {
-        Some(returns) => Ok(returns),
+        Some(returns) => Ok(Some(returns)),
         None => Err(lacking(alloc, &Lack::Value(text, NO_RETURN))),
     }
 }
@@ -628,7 +658,8 @@ fn has_telnet_option(words: &ArgMatches<'_>) -> bool
     let returns = is_given(words, RETURN);
     let width = is_given(words, WIDTH.name);
     let height = is_given(words, HEIGHT.name);
-    returns || width || height
+    let mode = is_given(words, MODE);
+    returns || width || height || mode
 }
 
 // What is wrong where the words choose no line end.

@@ -17,7 +17,7 @@ use std::alloc::Global;
 use tn_client::{ClientEnd, ClientFault};
 use tn_codes::EDIT;
 use tn_discipline::Limit;
-use tn_option::{ECHO, LINEMODE, QState, Side};
+use tn_option::{ECHO, LINEMODE, QState, SUPPRESS_GO_AHEAD, Side};
 use tn_streams::{Control, WindowSize};
 
 /// The core of a client session.
@@ -245,7 +245,7 @@ impl Core {
         self.progress
     }
 
-    /// Who edits and who echoes now, as the user is told; of a session that is over nothing is known.
+    /// What this end has agreed on; of a session that is over nothing is known.
     pub fn terms(&self) -> Terms
         ensures { (c : Run) → LeadsTo c self.now → IsFalse self.now.progress.over
             → result ≡ terms_at c.history }
@@ -254,6 +254,7 @@ impl Core {
             linemode: self.end.option(Side::Us, LINEMODE) == QState::Yes,
             edits: self.end.mode() & EDIT != 0,
             echoed: self.end.option(Side::Them, ECHO) == QState::Yes,
+            suppressed: self.end.option(Side::Them, SUPPRESS_GO_AHEAD) == QState::Yes,
             held: self.end.half().len(),
         }
     }

@@ -1,4 +1,4 @@
-//! What a client end has agreed on with its server, as the user is told.
+//! The terms of a client end: what it has agreed on with its server.
 
 /// Who edits lines and who echoes, and how much of a line waits at this end.
 #[derive(Clone, Copy, Debug, PartialEq, Eq)]
@@ -9,6 +9,8 @@ pub struct Terms {
     pub edits: bool,
     /// The server echoes (RFC 857).
     pub echoed: bool,
+    /// The server suppresses GO AHEAD (RFC 858).
+    pub suppressed: bool,
     /// How many bytes of the half line are held at this end.
     pub held: usize,
 }

@@ -8,7 +8,7 @@ use std::test::Fail;
 use std::thread;
 use std::thread::JoinHandle;
 use tn_connect::{
-    ClientContext, ConnectFault, Connecting, Dialing, Host, KeySource, Link, News, ReturnKey,
+    ClientContext, ConnectFault, Connecting, Dialing, EditorSettings, Host, KeySource, Link, News,
     Screen, connect,
 };
 use tn_discipline::Limit;
@@ -54,7 +54,9 @@ where
         line_limit: Limit::standard(),
         origin: KeySource::Reader,
         escape: None,
-        returns: ReturnKey::CrNul,
+        returns: None,
+        editing: EditorSettings::usual(),
+        line_mode: None,
         text: false,
         wait: 0,
         patience: 0,
@@ -93,6 +95,7 @@ where
         alloc,
         writer: Dead,
         link: Arc::try_clone(&link)?,
+        is_session: false,
     };
     connect_here(rt, alloc, port, link, Cursor::new(*b""), &mut screen)
 }

@@ -5,7 +5,8 @@ use std::fs::{File, Files};
 use std::io::{self, Cursor, ErrorKind, Read, Write};
 use std::sync::Arc;
 use tn_program::{
-    KeySource, Link, Lookout, Network, OwnCharacters, Replacing, Streams, own_characters, run_words,
+    EditorSettings, KeySource, Link, Lookout, Network, OwnCharacters, Replacing, Streams,
+    own_characters, run_words,
 };
 use tn_serve::Host;
 
@@ -57,6 +58,7 @@ where
         sizes: None,
         stands: None,
         terminal: None,
+        editor: EditorSettings::usual(),
         is_journal: false,
         link: Arc::new(alloc, Link::new()).ok()?,
     };

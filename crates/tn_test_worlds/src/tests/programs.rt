@@ -65,25 +65,25 @@ const ASKED: &[(&str, &str)] = &[
     (
         "tn connect -p7 --width 65535 --height 0 --escape ^a -q 86400 -w 7 --timeout 5 -6 --bind ::1 --log l --quiet --keys standard --return crlf",
         "Connect(ConnectWords { host: \"127.0.0.1\", port: Number(7), width: Some(65535), height: Some(0), \
-         line_limit: Limit { bytes: 255 }, escape: Key(1), characters: Standard, returns: CrLf, trace: None, log: Some(\"l\"), log_times: false, text: false, wait: 86400, patience: 7, dialing: Dialing { family: Some(Ipv6), source: Some(::1), seconds: 5 }, \
+         line_limit: Limit { bytes: 255 }, escape: Key(1), characters: Standard, returns: Some(CrLf), mode: Auto, history: true, line_mode_limit: Limit { bytes: 4095 }, trace: None, log: Some(\"l\"), log_times: false, text: false, wait: 86400, patience: 7, dialing: Dialing { family: Some(Ipv6), source: Some(::1), seconds: 5 }, \
          quiet: true, plain: None })",
     ),
     (
         "tn connect example.org",
         "Connect(ConnectWords { host: \"example.org\", port: Number(23), width: None, height: None, \
-         line_limit: Limit { bytes: 255 }, escape: Key(29), characters: Own, returns: CrNul, trace: None, log: None, log_times: false, text: false, wait: 0, patience: 0, dialing: Dialing { family: None, source: None, seconds: 0 }, \
+         line_limit: Limit { bytes: 255 }, escape: Key(29), characters: Own, returns: None, mode: Auto, history: true, line_mode_limit: Limit { bytes: 4095 }, trace: None, log: None, log_times: false, text: false, wait: 0, patience: 0, dialing: Dialing { family: None, source: None, seconds: 0 }, \
          quiet: false, plain: None })",
     ),
     (
         "tn connect --escape none --port 7 ::1 --trace a/b",
         "Connect(ConnectWords { host: \"::1\", port: Number(7), width: None, height: None, \
-         line_limit: Limit { bytes: 255 }, escape: None, characters: Own, returns: CrNul, trace: Some(\"a/b\"), log: None, log_times: false, text: false, wait: 0, patience: 0, dialing: Dialing { family: None, source: None, seconds: 0 }, \
+         line_limit: Limit { bytes: 255 }, escape: None, characters: Own, returns: None, mode: Auto, history: true, line_mode_limit: Limit { bytes: 4095 }, trace: Some(\"a/b\"), log: None, log_times: false, text: false, wait: 0, patience: 0, dialing: Dialing { family: None, source: None, seconds: 0 }, \
          quiet: false, plain: None })",
     ),
     (
         "tn connect example.org smtp",
         "Connect(ConnectWords { host: \"example.org\", port: Service(\"smtp\"), width: None, height: None, \
-         line_limit: Limit { bytes: 255 }, escape: Key(29), characters: Own, returns: CrNul, trace: None, log: None, log_times: false, text: false, wait: 0, patience: 0, dialing: Dialing { family: None, source: None, seconds: 0 }, \
+         line_limit: Limit { bytes: 255 }, escape: Key(29), characters: Own, returns: None, mode: Auto, history: true, line_mode_limit: Limit { bytes: 4095 }, trace: None, log: None, log_times: false, text: false, wait: 0, patience: 0, dialing: Dialing { family: None, source: None, seconds: 0 }, \
          quiet: false, plain: None })",
     ),
     ("tn connect --port 7", AT_PORT_7),
@@ -96,7 +96,7 @@ const ASKED: &[(&str, &str)] = &[
 /// A connection to port 7 of this machine, without any option.
 const AT_PORT_7: &str =
     "Connect(ConnectWords { host: \"127.0.0.1\", port: Number(7), width: None, height: None, \
-     line_limit: Limit { bytes: 255 }, escape: Key(29), characters: Own, returns: CrNul, trace: None, log: None, log_times: false, text: false, wait: 0, patience: 0, dialing: Dialing { family: None, source: None, seconds: 0 }, quiet: false, \
+     line_limit: Limit { bytes: 255 }, escape: Key(29), characters: Own, returns: None, mode: Auto, history: true, line_mode_limit: Limit { bytes: 4095 }, trace: None, log: None, log_times: false, text: false, wait: 0, patience: 0, dialing: Dialing { family: None, source: None, seconds: 0 }, quiet: false, \
      plain: None })";
 
 #[test]

@@ -24,6 +24,3 @@ returns-in-Reader g c =
 
 pub returns-in-Input : goal.returns-in-Input
 returns-in-Input g c = rw c.in-Input.is (record { ran = c.talk_by-in-Input.ensures.ran })
-
-pub returns-in-Terminal : goal.returns-in-Terminal
-returns-in-Terminal g c = rw c.in-Terminal.is (record { ran = c.talk_by-in-Terminal.ensures.ran })

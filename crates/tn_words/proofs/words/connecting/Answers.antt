@@ -29,6 +29,11 @@ returns-in_err-returns-clause-lacks c =
     let p = err_from_is_err_and c.from_residual-in_err-returns.result c.from_residual-in_err-returns.ensures.1 in
     rw (p.1, p.2) (lacks_more c.in_err-returns.field-0.0 (λ none asked asks. has_none _ _ none asks.returns) c.in_err-returns.ensures.lacks)
 
+pub returns-in_err-mode-clause-lacks : goal.returns-in_err-mode-clause-lacks
+returns-in_err-mode-clause-lacks c =
+    let p = err_from_is_err_and c.from_residual-in_err-mode.result c.from_residual-in_err-mode.ensures.1 in
+    rw (p.1, p.2) (lacks_more c.in_err-mode.field-0.0 (λ none asked asks. has_none _ _ none asks.mode) c.in_err-mode.ensures.lacks)
+
 pub returns-in_default-line_end_in-clause-lacks : goal.returns-in_default-line_end_in-clause-lacks
 returns-in_default-line_end_in-clause-lacks c =
     lacks_by c.lacking.result c.lacking.ensures (λ asked asks.
@@ -55,6 +60,7 @@ returns-clause-asked c =
       escape = c.in_ok-escape.ensures.asked;
       characters = c.in_ok-characters.ensures.asked;
       returns = c.in_ok-returns.ensures.asked;
+      mode = c.in_ok-mode.ensures.asked;
       trace = c.in_ok-trace.ensures;
       log = c.in_ok-log.ensures;
       log_times = numbers.log_times;
