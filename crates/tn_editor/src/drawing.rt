@@ -15,7 +15,7 @@ use unicode_width::UnicodeWidthChar;
 /// Bytes that are no character are shown as U+FFFD.
 const BROKEN: &[u8] = b"\xef\xbf\xbd";
 
-/// The half line as it stands on a screen: of each character how many columns it takes, and where the cursor is.
+/// A half line on a screen: the columns that each character takes, and the place of the cursor.
 /// It is drawn as a terminal with ECHO, ECHOE, ECHOK and ECHOKE draws it, over as many rows as it wants.
 #[derive(Drop)]
 pub struct Drawn {

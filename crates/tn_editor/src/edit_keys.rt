@@ -21,7 +21,7 @@ pub enum Words {
 pub struct EditKeys {
     /// WERASE, the character that takes back the last word.
     pub werase: Option<u8>,
-    /// REPRINT, the character that shows the line anew.
+    /// REPRINT, the character that shows the line again.
     pub rprnt: Option<u8>,
     /// IUTF8: a line is UTF-8, and ERASE takes back a character of it.
     pub iutf8: bool,
@@ -36,7 +36,7 @@ pub enum EditRole {
     Plain(Role),
     /// The key takes back the last word.
     EraseWord,
-    /// The key shows the line anew.
+    /// The key shows the line again.
     Reprint,
 }
 

@@ -115,7 +115,7 @@ impl HalfLine {
         self.editor.set_window(width);
     }
 
-    /// Leaves the half line where it is: a line to the client itself begins a row below it.
+    /// Leaves the half line on the screen: a line to the client itself begins a row below it.
     pub(crate) fn leave(&mut self) {
         self.editor.leave();
         self.is_left = true;

@@ -13,7 +13,7 @@ const KILL: u8 = 21;
 /// The bytes that begin a row.
 const END: &[u8] = b"\r\n";
 
-/// The usual characters that take back a word and show the line anew.
+/// The usual characters that take back a word and show the line again.
 const WERASE: u8 = 23;
 
 const REPRINT: u8 = 18;
