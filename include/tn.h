@@ -7,11 +7,12 @@
  *   - Each begins as TN_HANDLE and holds nothing. Its _start fills it, its _free frees what it holds, and it may be started again.
  *     It may be moved, never copied: of two copies only one is ever used again. Only these calls read or write what is in it.
  *   - One call at a time uses it, on any thread: a lock, a thread's start or join, or a sequentially consistent atomic orders the
- *     calls of two threads. Different ones are independent.
- *   - A pointer to bytes may be null where their number is 0; no other pointer is null. Each points to as many objects of its
- *     type as the call names. They are initialized, also where the call only writes them, since that is what the proof takes for
- *     granted: a count or a length begins as 0, a buffer as { 0 }. No two pointers of one call point to the same memory. No pointer is kept:
- *     after the call what it points to is the caller's again.
+ *     calls of two threads. Different ones are independent. A call that takes it as const leaves all that it holds as it was, but
+ *     writes the handle meanwhile: not even two such calls may be made at once.
+ *   - A pointer to bytes may be null if their number is 0, and the handle of _free; no other pointer is null. Each points to as many
+ *     objects of its type as the call names. They are initialized, also if the call only writes them: the prover knows a reference to bytes
+ *     only as one to bytes that have a value. A count or a length begins as 0, a buffer as { 0 }. No two pointers of one call point to
+ *     the same memory. No pointer is kept: after the call what it points to is the caller's again.
  *   - Memory comes from malloc and realloc and is freed by free, all three of one allocator.
  *   - No call is made from a signal handler, nor in the child of a fork of a process with threads.
  *
@@ -19,8 +20,8 @@
  * buffer's size, they stay, and may be copied to a larger one. Those of _read and _screen are moved: *count of them, and the others
  * wait on.
  *
- * Each call but _free and tn_version returns a code. Where it is not TN_OK, nothing was written through the pointers, and what is held is as it
- * was, except after the three calls of _feed, whose comments say what they leave. TN_NOT_STARTED, where nothing is held, is
+ * Each call but _free, tn_version and tn_code_text returns a code. If it is not TN_OK, nothing was written through the pointers, and what is
+ * held is as it was, except after the calls of _feed and _say, whose comments say what they leave. TN_NOT_STARTED, if nothing is held, is
  * returned by every call but _start, _free and those without a handle, and is not named again below. The other codes of a call stand at it; of several
  * that fit, it returns the first one there.
  */
@@ -106,17 +107,14 @@ typedef enum tn_code TN_ENUM {
     TN_NO_COMMAND = 15    /* no command that the call takes, or no option word, has this number */
 } tn_code;
 
-/* A few words on a code. */
-static inline const char *tn_code_text(tn_code code)
-{
-    static const char *const texts[] = {
-        "done", "out of memory", "it has failed before", "nothing is held", "something is held already", "something else is held",
-        "a line's limit is 255 to 4,095", "too many entries wait", "the terminal is closed", "no such function",
-        "the function has no special character", "never a special character", "another function has this character",
-        "LINEMODE is not on", "too long", "no such command"
-    };
-    return (size_t)code < sizeof texts / sizeof *texts ? texts[code] : "no code of this library";
-}
+/* Four of them by other names. */
+#define TN_BAD_LIMIT TN_NO_LIMIT
+#define TN_BAD_FUNCTION TN_NO_FUNCTION
+#define TN_CHAR_IN_USE TN_TAKEN
+#define TN_BAD_COMMAND TN_NO_COMMAND
+
+/* A few words on a code, in English, which are never freed. */
+const char *tn_code_text(tn_code code);
 
 /* The version of the library that is linked, as TN_VERSION_NUMBER has that of this header. */
 uint32_t tn_version(void);
@@ -177,11 +175,11 @@ typedef enum tn_option_state TN_ENUM {
 
 typedef char tn_enums_have_four_bytes[sizeof(tn_code) == 4 ? 1 : -1]; /* not under -fshort-enums */
 
-/* Frees all that is held, if anything: nothing is held then. */
-void tn_line_free(tn_line *line) TN_NONNULL((1));
-void tn_decoder_free(tn_decoder *decoder) TN_NONNULL((1));
-void tn_server_free(tn_server *server) TN_NONNULL((1));
-void tn_client_free(tn_client *client) TN_NONNULL((1));
+/* Frees all that is held, if anything: nothing is held then. At a null pointer it does nothing. */
+void tn_line_free(tn_line *line);
+void tn_decoder_free(tn_decoder *decoder);
+void tn_server_free(tn_server *server);
+void tn_client_free(tn_client *client);
 
 /* ---- A line: keys to entries (POSIX.1-2017, XBD 11.1) ---- */
 
@@ -193,13 +191,13 @@ tn_code tn_line_start(tn_line *line, const tn_flags *flags, uint16_t limit) TN_C
 tn_code tn_line_key(tn_line *line, uint8_t key, tn_effect *effect) TN_CALL((1, 3));
 
 /* Copies the text that the last key gave, at most limit bytes; *length is 0 where it gave none. */
-tn_code tn_line_text(tn_line *line, uint8_t *buf, size_t size, size_t *length) TN_CALL((1, 4));
+tn_code tn_line_text(const tn_line *line, uint8_t *buf, size_t size, size_t *length) TN_CALL((1, 4));
 
 /* Copies what a terminal shows of the last key, at most 3 bytes, with CR LF for a new line. TN_MEMORY. */
-tn_code tn_line_echo(tn_line *line, uint8_t *buf, size_t size, size_t *length) TN_CALL((1, 4));
+tn_code tn_line_echo(const tn_line *line, uint8_t *buf, size_t size, size_t *length) TN_CALL((1, 4));
 
 /* Copies the half line, which has fewer than limit bytes. */
-tn_code tn_line_half(tn_line *line, uint8_t *buf, size_t size, size_t *length) TN_CALL((1, 4));
+tn_code tn_line_half(const tn_line *line, uint8_t *buf, size_t size, size_t *length) TN_CALL((1, 4));
 
 /* Goes on under these flags; the half line stays. */
 tn_code tn_line_set_flags(tn_line *line, const tn_flags *flags) TN_CALL((1, 2));
@@ -208,7 +206,7 @@ tn_code tn_line_set_flags(tn_line *line, const tn_flags *flags) TN_CALL((1, 2));
 tn_code tn_line_set_char(tn_line *line, uint8_t function, uint16_t value) TN_CALL((1));
 
 /* A special character, or TN_NO_CHAR. TN_NO_FUNCTION. */
-tn_code tn_line_char(tn_line *line, uint8_t function, uint16_t *value) TN_CALL((1, 3));
+tn_code tn_line_char(const tn_line *line, uint8_t function, uint16_t *value) TN_CALL((1, 3));
 
 /* ---- A decoder: a stream to items (RFC 854, 855) ---- */
 
@@ -238,8 +236,12 @@ tn_code tn_decoder_feed(tn_decoder *decoder, const uint8_t *bytes, size_t length
 /* Takes the first item that waits; TN_NO_ITEM where none does. */
 tn_code tn_decoder_take(tn_decoder *decoder, tn_item *item) TN_CALL((1, 2));
 
+/* Moves to buf the first bytes of data that wait, as many as came together and fit, *count of them: 0 if another item stands first. A CR that
+ * is data and a byte 255 each come by themselves. The item that was taken last stays. */
+tn_code tn_decoder_take_run(tn_decoder *decoder, uint8_t *buf, size_t size, size_t *count) TN_CALL((1, 4));
+
 /* Copies the parameters of the item that was taken last; *length is 0 where that is no subnegotiation. */
-tn_code tn_decoder_parameters(tn_decoder *decoder, uint8_t *buf, size_t size, size_t *length) TN_CALL((1, 4));
+tn_code tn_decoder_parameters(const tn_decoder *decoder, uint8_t *buf, size_t size, size_t *length) TN_CALL((1, 4));
 
 /* ---- Spelling: what a decoder reads as such an item ---- */
 
@@ -268,18 +270,27 @@ tn_code tn_server_start(tn_server *server, const tn_flags *flags, uint16_t limit
  * too far ahead where at most 511 entries wait: feed no more at once, and take the entries after each. */
 tn_code tn_server_feed(tn_server *server, const uint8_t *bytes, size_t length) TN_CALL((1));
 
+/* Takes the first bytes of such a piece, *taken of them, and is never too far ahead: at most 512, and none while more than 511 entries
+ * wait. So take the entries, and feed the others. TN_FAILED, TN_CLOSED, TN_MEMORY: as _feed. */
+tn_code tn_server_feed_some(tn_server *server, const uint8_t *bytes, size_t length, size_t *taken) TN_CALL((1, 4));
+
 /* How many bytes wait to be sent. */
-tn_code tn_server_pending(tn_server *server, size_t *count) TN_CALL((1, 2));
+tn_code tn_server_pending(const tn_server *server, size_t *count) TN_CALL((1, 2));
 
 /* Moves to buf the first of the bytes that wait to be sent, as many as fit; *count is how many. The others wait on. */
 tn_code tn_server_read(tn_server *server, uint8_t *buf, size_t size, size_t *count) TN_CALL((1, 4));
+
+/* Where the bytes stand that wait to be sent, and how many they are: until the next call that takes this server as it is, and not as
+ * const. Where *count is 0, *bytes leads nowhere. And: the first of them, at most count, were sent, and wait no more. */
+tn_code tn_server_peek(const tn_server *server, const uint8_t **bytes, size_t *count) TN_CALL((1, 2, 3));
+tn_code tn_server_sent(tn_server *server, size_t count) TN_CALL((1));
 
 /* Takes the first entry; *kind is TN_NONE to TN_TSTP. Where none waits a GA may be due to be sent (RFC 858):
  * TN_MEMORY is answered for it alone. */
 tn_code tn_server_take(tn_server *server, tn_kind *kind) TN_CALL((1, 2));
 
 /* Copies the text of the entry that was taken last, at most limit bytes; *length is 0 where that was no text, or none waited. */
-tn_code tn_server_text(tn_server *server, uint8_t *buf, size_t size, size_t *length) TN_CALL((1, 4));
+tn_code tn_server_text(const tn_server *server, uint8_t *buf, size_t size, size_t *length) TN_CALL((1, 4));
 
 /* Writes zeros over that text, as over a password: its length stays, until the next take. What the terminal and the decoder held of
  * it before is not reached by this. */
@@ -291,6 +302,10 @@ tn_code tn_server_write(tn_server *server, const uint8_t *bytes, size_t length, 
 /* Spells the first symbols of the screen, at most max, to be sent; *count is how many symbols, each of one byte or two.
  * Echo comes by this too, so pull after each feed. TN_MEMORY. */
 tn_code tn_server_pull(tn_server *server, size_t max, size_t *count) TN_CALL((1, 3));
+
+/* Does both: writes the first of these bytes, *count of them, and spells all that waits on the screen then, the echo too, also if there are no
+ * bytes. If the screen was empty, the first 4,096 find room. TN_MEMORY: *count bytes were written, and wait on the screen. */
+tn_code tn_server_say(tn_server *server, const uint8_t *bytes, size_t length, size_t *count) TN_CALL((1, 4));
 
 /* Wishes for lines that are edited at the client (RFC 1184), or at the server; *sent says whether a MODE waits to be sent
  * for it. TN_FAILED, TN_MEMORY. */
@@ -311,33 +326,44 @@ tn_code tn_server_set_mask(tn_server *server, const uint8_t *octets, size_t leng
 /* Asks for none of that any more. TN_FAILED, TN_NOT_ON, TN_MEMORY. */
 tn_code tn_server_clear_mask(tn_server *server) TN_CALL((1));
 
-/* The kind of an entry that waits, by its place from 0 on; TN_NONE behind the last. */
-tn_code tn_server_waiting(tn_server *server, size_t index, tn_kind *kind) TN_CALL((1, 3));
+/* The kind of an entry that waits, by its place from 0 on; TN_NONE after the last. */
+tn_code tn_server_waiting(const tn_server *server, size_t index, tn_kind *kind) TN_CALL((1, 3));
 
 /* Copies the text of an entry that waits, and stays; *length is 0 where none is at that place, or it is no text. */
-tn_code tn_server_waiting_text(tn_server *server, size_t index, uint8_t *buf, size_t size, size_t *length) TN_CALL((1, 5));
+tn_code tn_server_waiting_text(const tn_server *server, size_t index, uint8_t *buf, size_t size, size_t *length) TN_CALL((1, 5));
 
 /* The first signal among the entries that wait, or TN_NONE. */
-tn_code tn_server_signal_waiting(tn_server *server, tn_kind *kind) TN_CALL((1, 2));
+tn_code tn_server_signal_waiting(const tn_server *server, tn_kind *kind) TN_CALL((1, 2));
+
+/* What a client changes of a server. */
+typedef enum tn_change TN_ENUM {
+    TN_CHANGED_SIZE = 1,   /* tn_server_size */
+    TN_CHANGED_MODE = 2,   /* tn_server_mode */
+    TN_CHANGED_OPTION = 4, /* tn_server_option */
+    TN_CHANGED_CHAR = 8    /* tn_server_char */
+} tn_change;
+
+/* Which of these are otherwise than at the last such call, or at the start: *bits is the sum of their tn_change. */
+tn_code tn_server_changes(tn_server *server, uint32_t *bits) TN_CALL((1, 2));
 
 /* The window's size in characters; 0 is unspecified (RFC 1073). */
-tn_code tn_server_size(tn_server *server, uint16_t *width, uint16_t *height) TN_CALL((1, 2, 3));
+tn_code tn_server_size(const tn_server *server, uint16_t *width, uint16_t *height) TN_CALL((1, 2, 3));
 
 /* The mode that the client acknowledged last, and the one that it was asked for. */
-tn_code tn_server_mode(tn_server *server, uint8_t *mode) TN_CALL((1, 2));
-tn_code tn_server_asked(tn_server *server, uint8_t *mode) TN_CALL((1, 2));
+tn_code tn_server_mode(const tn_server *server, uint8_t *mode) TN_CALL((1, 2));
+tn_code tn_server_asked(const tn_server *server, uint8_t *mode) TN_CALL((1, 2));
 
 /* Copies the half line, which has fewer than limit bytes. */
-tn_code tn_server_half(tn_server *server, uint8_t *buf, size_t size, size_t *length) TN_CALL((1, 4));
+tn_code tn_server_half(const tn_server *server, uint8_t *buf, size_t size, size_t *length) TN_CALL((1, 4));
 
 /* A special character, or TN_NO_CHAR. TN_NO_FUNCTION. */
-tn_code tn_server_char(tn_server *server, uint8_t function, uint16_t *value) TN_CALL((1, 3));
+tn_code tn_server_char(const tn_server *server, uint8_t function, uint16_t *value) TN_CALL((1, 3));
 
 /* Where an option stands, at our side or at theirs. */
-tn_code tn_server_option(tn_server *server, bool ours, uint8_t option, tn_option_state *state) TN_CALL((1, 4));
+tn_code tn_server_option(const tn_server *server, bool ours, uint8_t option, tn_option_state *state) TN_CALL((1, 4));
 
 /* Whether a feed was refused. */
-tn_code tn_server_failed(tn_server *server, bool *failed) TN_CALL((1, 2));
+tn_code tn_server_failed(const tn_server *server, bool *failed) TN_CALL((1, 2));
 
 /* ---- A client end, which edits lines where its server asks for that ---- */
 
@@ -356,11 +382,11 @@ tn_code tn_client_new_line(tn_client *client) TN_CALL((1));
 tn_code tn_client_feed(tn_client *client, const uint8_t *bytes, size_t length) TN_CALL((1));
 
 /* How many bytes wait to be sent; and moves to buf the first of them, as many as fit, *count of them. */
-tn_code tn_client_pending(tn_client *client, size_t *count) TN_CALL((1, 2));
+tn_code tn_client_pending(const tn_client *client, size_t *count) TN_CALL((1, 2));
 tn_code tn_client_read(tn_client *client, uint8_t *buf, size_t size, size_t *count) TN_CALL((1, 4));
 
 /* How many bytes wait to be shown on the user's screen; and moves to buf the first of them, as many as fit, *count of them. */
-tn_code tn_client_screen_pending(tn_client *client, size_t *count) TN_CALL((1, 2));
+tn_code tn_client_screen_pending(const tn_client *client, size_t *count) TN_CALL((1, 2));
 tn_code tn_client_screen(tn_client *client, uint8_t *buf, size_t size, size_t *count) TN_CALL((1, 4));
 
 /* Takes a new size of the window; the server is told where NAWS is on and it changed. TN_FAILED, TN_MEMORY. */
@@ -383,21 +409,21 @@ typedef enum tn_command TN_ENUM {
 tn_code tn_client_send(tn_client *client, tn_command command) TN_CALL((1));
 
 /* The mode in force. */
-tn_code tn_client_mode(tn_client *client, uint8_t *mode) TN_CALL((1, 2));
+tn_code tn_client_mode(const tn_client *client, uint8_t *mode) TN_CALL((1, 2));
 
 /* Copies the bytes of the half line that are held here: with those of _ahead they are fewer than limit. */
-tn_code tn_client_half(tn_client *client, uint8_t *buf, size_t size, size_t *length) TN_CALL((1, 4));
+tn_code tn_client_half(const tn_client *client, uint8_t *buf, size_t size, size_t *length) TN_CALL((1, 4));
 
 /* How many bytes of the half line were sent before those. */
-tn_code tn_client_ahead(tn_client *client, uint16_t *count) TN_CALL((1, 2));
+tn_code tn_client_ahead(const tn_client *client, uint16_t *count) TN_CALL((1, 2));
 
 /* How long a half line is that the server edits, with its ISIG set and with it clear; 0 where it is edited here. */
-tn_code tn_client_counts(tn_client *client, uint16_t *trapped, uint16_t *plain) TN_CALL((1, 2, 3));
+tn_code tn_client_counts(const tn_client *client, uint16_t *trapped, uint16_t *plain) TN_CALL((1, 2, 3));
 
 /* As of a server. */
-tn_code tn_client_char(tn_client *client, uint8_t function, uint16_t *value) TN_CALL((1, 3));
-tn_code tn_client_option(tn_client *client, bool ours, uint8_t option, tn_option_state *state) TN_CALL((1, 4));
-tn_code tn_client_failed(tn_client *client, bool *failed) TN_CALL((1, 2));
+tn_code tn_client_char(const tn_client *client, uint8_t function, uint16_t *value) TN_CALL((1, 3));
+tn_code tn_client_option(const tn_client *client, bool ours, uint8_t option, tn_option_state *state) TN_CALL((1, 4));
+tn_code tn_client_failed(const tn_client *client, bool *failed) TN_CALL((1, 2));
 
 #ifdef __cplusplus
 }

@@ -8,7 +8,7 @@
 
 #include <arpa/inet.h>
 #include <errno.h>
-#include <netinet/in.h>
+#include <netinet/tcp.h>
 #include <poll.h>
 #include <stdio.h>
 #include <stdlib.h>
@@ -19,17 +19,12 @@
 
 #define MAX_CLIENTS 4096
 #define LIMIT 255
-#define PIECE 512        /* so that no paste makes more entries than may wait */
 #define BACKLOG 65536    /* what may wait to be said to a client that does not read; one who lets more wait is left */
 
 struct client {
     int fd;
     bool is_over;
     tn_server end;
-    uint8_t out[4096]; /* read out of the end, and not sent yet: from..to */
-    size_t from, to;
-    uint8_t *said; /* what has found no room on the screen yet: first..last */
-    size_t first, last;
 };
 
 static struct client *clients[MAX_CLIENTS];
@@ -40,14 +35,13 @@ static void leave(struct client *c)
 {
     tn_server_free(&c->end);
     close(c->fd);
-    free(c->said);
     free(c);
 }
 
 static void welcome(int listener)
 {
     static const tn_flags flags = TN_STANDARD_FLAGS;
-    int fd = accept(listener, NULL, NULL);
+    int on = 1, fd = accept(listener, NULL, NULL);
     struct client *c = fd < 0 || count == MAX_CLIENTS ? NULL : calloc(1, sizeof *c);
     bool sent = false;
     if (!c) {
@@ -56,6 +50,7 @@ static void welcome(int listener)
         return;
     }
     c->fd = fd;
+    setsockopt(fd, IPPROTO_TCP, TCP_NODELAY, &on, sizeof on); /* else an agreement waits 40 ms for the one before it */
     if (tn_server_start(&c->end, &flags, LIMIT) != TN_OK || tn_server_wish(&c->end, true, &sent) != TN_OK) {
         leave(c);
         return;
@@ -63,26 +58,7 @@ static void welcome(int listener)
     clients[count++] = c;
 }
 
-/* Writes to a client's screen what has room there, and spells it. */
-static void show(struct client *c)
-{
-    size_t done = 0, symbols = 0;
-    do {
-        if (tn_server_write(&c->end, c->said + c->first, c->last - c->first, &done) != TN_OK
-            || tn_server_pull(&c->end, 4096, &symbols) != TN_OK) {
-            c->is_over = true;
-            return;
-        }
-        c->first += done;
-    } while (c->first < c->last && done > 0);
-    if (c->first == c->last) {
-        free(c->said);
-        c->said = NULL;
-        c->first = c->last = 0;
-    }
-}
-
-/* Bytes that wait to be sent, beside those that were read out. */
+/* Bytes that wait to be sent. */
 static size_t pending(struct client *c)
 {
     size_t waiting = 0;
@@ -91,27 +67,19 @@ static size_t pending(struct client *c)
     return waiting;
 }
 
-static bool has_output(struct client *c)
-{
-    return c->from < c->to || c->first < c->last || pending(c) > 0;
-}
-
+/* Says a text to a client, all of it, and spells the echo of what it typed. */
 static void say(struct client *c, const uint8_t *text, size_t length)
 {
-    size_t waiting = c->last - c->first;
-    uint8_t *room;
-    if (waiting + pending(c) > BACKLOG || !(room = malloc(waiting + length))) {
+    size_t done = 0, count = 0;
+    if (pending(c) > BACKLOG)
         c->is_over = true;
-        return;
-    }
-    if (waiting > 0)
-        memcpy(room, c->said + c->first, waiting);
-    memcpy(room + waiting, text, length);
-    free(c->said);
-    c->said = room;
-    c->first = 0;
-    c->last = waiting + length;
-    show(c);
+    do {
+        if (c->is_over || tn_server_say(&c->end, text + done, length - done, &count) != TN_OK) {
+            c->is_over = true;
+            return;
+        }
+        done += count;
+    } while (done < length);
 }
 
 /* Takes what was typed: each line goes to all others. */
@@ -140,43 +108,39 @@ static bool is_passing(ssize_t done)
     return done < 0 && (errno == EAGAIN || errno == EINTR);
 }
 
-/* Sends what waits, as much as the socket takes. */
+/* Sends what waits, from where it stands, as much as the socket takes. */
 static void send_some(struct client *c)
 {
-    while (!c->is_over) {
-        ssize_t n;
-        if (c->from == c->to) {
-            c->from = c->to = 0;
-            if (c->first < c->last)
-                show(c);
-            if (tn_server_read(&c->end, c->out, sizeof c->out, &c->to) != TN_OK)
-                c->is_over = true;
-            if (c->to == 0)
-                return;
-        }
-        n = send(c->fd, c->out + c->from, c->to - c->from, MSG_NOSIGNAL | MSG_DONTWAIT);
+    const uint8_t *bytes = NULL;
+    size_t count = 0;
+    while (!c->is_over && tn_server_peek(&c->end, &bytes, &count) == TN_OK && count > 0) {
+        ssize_t n = send(c->fd, bytes, count, MSG_NOSIGNAL | MSG_DONTWAIT);
         if (n < 0) {
             c->is_over = !is_passing(n);
             return;
         }
-        c->from += (size_t)n;
+        if (tn_server_sent(&c->end, (size_t)n) != TN_OK)
+            c->is_over = true;
     }
 }
 
 static void receive(struct client *c)
 {
-    uint8_t piece[PIECE];
+    uint8_t piece[4096];
     ssize_t n = recv(c->fd, piece, sizeof piece, MSG_DONTWAIT);
+    size_t taken = 0;
     if (n <= 0) {
         c->is_over = !is_passing(n);
         return;
     }
-    if (tn_server_feed(&c->end, piece, (size_t)n) != TN_OK) {
-        c->is_over = true;
-        return;
+    for (size_t at = 0; at < (size_t)n && !c->is_over; at += taken) {
+        if (tn_server_feed_some(&c->end, piece + at, (size_t)n - at, &taken) != TN_OK) {
+            c->is_over = true;
+            return;
+        }
+        say(c, piece, 0); /* the echo */
+        hear(c);
     }
-    show(c); /* the echo */
-    hear(c);
 }
 
 /* Sends to all, and lets those go that have left. */
@@ -184,7 +148,7 @@ static void send_all(void)
 {
     size_t kept = 0;
     for (size_t i = 0; i < count; i++)
-        if (has_output(clients[i]))
+        if (pending(clients[i]) > 0)
             send_some(clients[i]);
     for (size_t i = 0; i < count; i++) {
         if (clients[i]->is_over)
@@ -221,7 +185,7 @@ int main(int argc, char **argv)
         for (size_t i = 0; i < count; i++) {
             polled[i].fd = clients[i]->fd;
             /* a client that does not read what it was sent is not read either */
-            polled[i].events = has_output(clients[i]) ? POLLOUT : POLLIN;
+            polled[i].events = pending(clients[i]) > 0 ? POLLOUT : POLLIN;
         }
         polled[count] = (struct pollfd) { .fd = listener, .events = POLLIN };
         if (poll(polled, count + 1, -1) < 0)

@@ -7,6 +7,19 @@ import ctypes
 
 import tn
 
+called = set()
+
+
+class Heard:
+    """The library, which writes down what is called."""
+
+    def __init__(self, library):
+        self.library = library
+
+    def __getattr__(self, name):
+        called.add(name)
+        return getattr(self.library, name)
+
 
 def refusal(call, *arguments):
     try:
@@ -23,7 +36,39 @@ def deliver(server, client):
         server.feed(client.read())
 
 
+def looks(server, client):
+    """What both ends tell of themselves, once lines are edited at the client."""
+    assert server.size() == (80, 24) and server.asked() == server.mode() == tn.MODE_EDIT | tn.MODE_TRAPSIG
+    assert server.char(tn.CHAR_KILL) == client.char(tn.CHAR_KILL) == 21 and not server.failed() and not client.failed()
+    assert client.option(True, 34) == tn.OPTION_YES and server.half() == client.half() == b""
+    assert client.ahead() == 0 and client.counts() == (0, 0)
+    assert server.changes() == tn.CHANGED_SIZE | tn.CHANGED_MODE | tn.CHANGED_OPTION and server.changes() == 0
+    server.set_mask(b"\x01")
+    server.set_mask(None)
+    server.set_echo(False)
+    client.resize(90, 30)
+    client.propose(tn.CHAR_KILL, 24)
+    deliver(server, client)
+    assert server.changes() == tn.CHANGED_SIZE | tn.CHANGED_OPTION | tn.CHANGED_CHAR  # the server echoes nothing in the client's place
+    assert server.size() == (90, 30) and server.char(tn.CHAR_KILL) == 24 and client.pending() == client.screen_pending() == 0
+
+
+def floods(server):
+    """Entries that are more than may wait are kept; output is sent from where it stands."""
+    server.feed(memoryview(b"\n" * 5000 + b"\x03x\r\0"))
+    assert server.signal_waiting() == tn.INT and server.waiting(0) == (tn.TEXT, b"\n") and server.waiting(5001) == (tn.TEXT, b"x\n")
+    assert server.waiting(5002) == (tn.NONE, None) and [server.take()[1] for _ in range(5000)] == [b"\n"] * 5000
+    assert server.take() == (tn.INT, None) and server.take() == (tn.TEXT, b"x\n") and server.take() == (tn.NONE, None)
+    server.forget()
+    assert server.write_some(bytearray(b"ab\n")) == 3 and server.pull() == 3
+    assert server.pending() > 3 and server.read().endswith(b"ab\r\n")
+    server.write(b"cd")
+    assert server.send_to(lambda view: len(bytes(view)) - 1) == 1 and server.read() == b"d" and server.send_to(len) == 0
+    assert refusal(server.feed_at_once, b"\n" * 1025) == tn.TOO_FAR_AHEAD and refusal(server.feed, b"a") == tn.FAILED
+
+
 def main():
+    tn._library = Heard(tn._library)
     with tn.Server() as server, tn.Client(80, 24) as client:
         deliver(server, client)
         assert server.wish(True)
@@ -44,10 +89,20 @@ def main():
         assert refusal(client.send, 245) == tn.NO_COMMAND and client.read() == tn.command(tn.COMMAND_IP)
         server.feed(tn.command(tn.COMMAND_IP))
         assert server.take() == (tn.INT, None)
+    with tn.Server() as server, tn.Client(80, 24) as client:
+        server.wish(True)
+        deliver(server, client)
+        looks(server, client)
+    with tn.Server() as server:
+        floods(server)
+    assert str(tn.Refused("tn_line_key", tn.MEMORY)) == "tn_line_key: out of memory (code 1)"
     assert refusal(server.read) == tn.NOT_STARTED and refusal(tn.Line, None, 1) == tn.NO_LIMIT
     with tn.Line(tn.Flags(isig=False)) as line:
         assert [line.key(key)[0] for key in b"a\x03\x7f"] == [tn.KEPT, tn.KEPT, tn.ERASED] and line.half() == b"a"
-        assert line.key(13) == (tn.TEXT, b"a\n")
+        assert line.key(13) == (tn.TEXT, b"a\n") and line.echo() == b"\r\n" and line.char(tn.CHAR_EOL) == tn.NO_CHAR
+        line.set_flags(tn.Flags())
+        line.set_char(tn.CHAR_EOL, 7)
+        assert line.char(tn.CHAR_EOL) == 7
         try:
             line.key("a")
         except ctypes.ArgumentError:
@@ -57,12 +112,15 @@ def main():
     with tn.Decoder() as decoder:
         found = [(item.kind, item.option, parameters) for item, parameters in decoder.items(b"\xff\xfa\x1f\x00\x50\xff\xf0")]
         assert found == [(tn.SUBNEGOTIATION, 31, b"\x00\x50")]
+        decoder.feed(b"text\r\n")
+        assert [decoder.take_run(3) for _ in range(3)] == [b"tex", b"t", b""] and [it.kind for it, _ in decoder.items(b"")] == [tn.NEWLINE]
         stream = tn.data(b"a\xff\n") + tn.command(241) + tn.option(251, 24) + tn.subnegotiation(24, b"\x00\xffx")
         kinds = [(item.kind, item.code, parameters) for item, parameters in decoder.items(stream)]
         assert kinds == [(tn.BYTE, 97, b""), (tn.BYTE, 255, b""), (tn.NEWLINE, 0, b""), (tn.COMMAND, 241, b""), (tn.WORD, 251, b""),
                          (tn.SUBNEGOTIATION, 0, b"\x00\xffx")]
     assert refusal(tn.command, 240) == tn.NO_COMMAND and tn.version() == 10200
-    print("tn.py: lines, a decoder and both ends")
+    assert not {f"tn_{name}" for name in tn.CALLS} - called, {f"tn_{name}" for name in tn.CALLS} - called
+    print("tn.py: lines, a decoder and both ends, each call of them")
 
 
 main()

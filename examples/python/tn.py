@@ -6,11 +6,13 @@
         print(server.take())        # (tn.TEXT, b'hello\\n')
         connection.sendall(server.read())
 
-A call that is refused raises tn.Refused, whose code is one of tn.h. The library is libtn.so.2, or the one that LIBTN names.
+Each call of tn.h has a method or a function. Bytes are given as bytes, bytearray or memoryview. A call that is refused raises tn.Refused,
+whose code is one of tn.h. The library is libtn.so.2, or the one that LIBTN names.
 """
+import collections
 import ctypes
 import os
-from ctypes import POINTER, byref, c_bool, c_char_p, c_size_t, c_uint8, c_uint16, c_uint32, c_void_p
+from ctypes import POINTER, addressof, byref, c_bool, c_char_p, c_size_t, c_uint8, c_uint16, c_uint32, c_void_p
 
 OK, MEMORY, FAILED, NOT_STARTED, STARTED, OTHER_KIND, NO_LIMIT, TOO_FAR_AHEAD, CLOSED, NO_FUNCTION, NOT_SETTABLE, RESERVED, TAKEN, \
     NOT_ON, TOO_LONG, NO_COMMAND = range(16)
@@ -18,6 +20,7 @@ NONE, TEXT, EOF, INT, QUIT, TSTP, KEPT, ERASED, ERASED_AHEAD, KILLED, DROPPED = 
 NO_ITEM, BYTE, NEWLINE, COMMAND, WORD, SUBNEGOTIATION = range(6)
 CHAR_INTR, CHAR_QUIT, CHAR_EOF, CHAR_SUSP, CHAR_ERASE, CHAR_KILL, CHAR_EOL, CHAR_EOL2 = 3, 7, 8, 9, 10, 11, 17, 18
 COMMAND_NOP, COMMAND_BRK, COMMAND_IP, COMMAND_AYT = 241, 243, 244, 246
+CHANGED_SIZE, CHANGED_MODE, CHANGED_OPTION, CHANGED_CHAR = 1, 2, 4, 8
 NO_CHAR = 256
 MODE_EDIT, MODE_TRAPSIG = 1, 2
 OPTION_NO, OPTION_YES, OPTION_WANT_NO, OPTION_WANT_NO_THEN_YES, OPTION_WANT_YES, OPTION_WANT_YES_THEN_NO = range(6)
@@ -43,14 +46,14 @@ class Item(ctypes.Structure):
 
 
 class Refused(Exception):
-    """A call was refused; `code` says why, and str() names the call."""
+    """A call was refused; `code` says why, and str() names the call and says it in words."""
 
     def __init__(self, call, code):
-        super().__init__(f"{call}: code {code}")
+        super().__init__(f"{call}: {code_text(code)} (code {code})")
         self.code = code
 
 
-HANDLE, BYTES, BUFFER = POINTER(Handle), (c_char_p, c_size_t), (POINTER(c_uint8), c_size_t, POINTER(c_size_t))
+HANDLE, BYTES, BUFFER = POINTER(Handle), (c_void_p, c_size_t), (POINTER(c_uint8), c_size_t, POINTER(c_size_t))
 
 # The parameters of each call behind its handle.
 CALLS = {
@@ -65,6 +68,7 @@ CALLS = {
     "decoder_start": (),
     "decoder_feed": BYTES,
     "decoder_take": (POINTER(Item),),
+    "decoder_take_run": BUFFER,
     "decoder_parameters": BUFFER,
     "put_byte": (c_uint8, *BUFFER),
     "put_newline": BUFFER,
@@ -73,13 +77,17 @@ CALLS = {
     "put_sub": (c_uint8, *BYTES, *BUFFER),
     "server_start": (POINTER(Flags), c_uint16),
     "server_feed": BYTES,
+    "server_feed_some": (*BYTES, POINTER(c_size_t)),
     "server_pending": (POINTER(c_size_t),),
     "server_read": BUFFER,
+    "server_peek": (POINTER(POINTER(c_uint8)), POINTER(c_size_t)),
+    "server_sent": (c_size_t,),
     "server_take": (POINTER(c_uint32),),
     "server_text": BUFFER,
     "server_forget": (),
     "server_write": (*BYTES, POINTER(c_size_t)),
     "server_pull": (c_size_t, POINTER(c_size_t)),
+    "server_say": (*BYTES, POINTER(c_size_t)),
     "server_wish": (c_bool, POINTER(c_bool)),
     "server_set_char": (c_uint8, c_uint16),
     "server_set_echo": (c_bool,),
@@ -88,6 +96,7 @@ CALLS = {
     "server_waiting": (c_size_t, POINTER(c_uint32)),
     "server_waiting_text": (c_size_t, *BUFFER),
     "server_signal_waiting": (POINTER(c_uint32),),
+    "server_changes": (POINTER(c_uint32),),
     "server_size": (POINTER(c_uint16), POINTER(c_uint16)),
     "server_mode": (POINTER(c_uint8),),
     "server_asked": (POINTER(c_uint8),),
@@ -126,11 +135,24 @@ for _kind in ("line", "decoder", "server", "client"):
 
 _library.tn_version.argtypes = ()
 _library.tn_version.restype = c_uint32
+_library.tn_code_text.argtypes = (c_uint32,)
+_library.tn_code_text.restype = c_char_p
+
+
+def code_text(code):
+    """A few words on a code."""
+    return _library.tn_code_text(code).decode()
 
 
 def version():
     """10,000 times the first number of the library's version, 100 times its second, and its third."""
     return _library.tn_version()
+
+
+def _given(data):
+    """What BYTES are for this; bytes are lent as they are, and others are copied."""
+    data = data if isinstance(data, bytes) else bytes(data)
+    return data, len(data)
 
 
 def _spelled(name, size, *arguments):
@@ -155,7 +177,7 @@ def option(word, number):
 
 
 def subnegotiation(number, parameters):
-    return _spelled("sub", 2 * len(parameters) + 6, number, parameters, len(parameters))
+    return _spelled("sub", 2 * len(parameters) + 6, number, *_given(parameters))
 
 
 class _Held:
@@ -194,10 +216,22 @@ class _Held:
         """What a call moves or copies to a buffer of this size."""
         buf, count = (c_uint8 * max(size, 1))(), c_size_t()
         self._call(name, *arguments, buf, size, byref(count))
-        return bytes(buf[: count.value])
+        return bytes(memoryview(buf)[: count.value])
 
 
-class Line(_Held):
+class _Edited(_Held):
+    """What a line and both ends share."""
+
+    def half(self):
+        """The bytes of the half line that are held."""
+        return self._bytes("half", self._limit)
+
+    def char(self, function):
+        """A special character, or NO_CHAR."""
+        return self._value("char", c_uint16, function)
+
+
+class Line(_Edited):
     """Keys to entries."""
 
     kind = "line"
@@ -211,12 +245,15 @@ class Line(_Held):
         effect = self._value("key", c_uint32, key)
         return effect, self._bytes("text", self._limit) if effect == TEXT else None
 
-    def half(self):
-        return self._bytes("half", self._limit)
-
     def echo(self):
         """What a terminal shows of the last key."""
         return self._bytes("echo", 6)
+
+    def set_flags(self, flags):
+        self._call("set_flags", byref(flags))
+
+    def set_char(self, function, value=NO_CHAR):
+        self._call("set_char", function, value)
 
 
 class Decoder(_Held):
@@ -226,7 +263,7 @@ class Decoder(_Held):
 
     def items(self, piece):
         """Each item that the piece completes, with its parameters."""
-        self._call("feed", piece, len(piece))
+        self._call("feed", *_given(piece))
         while True:
             item = Item()
             self._call("take", byref(item))
@@ -234,22 +271,36 @@ class Decoder(_Held):
                 return
             yield item, self._bytes("parameters", item.length)
 
+    def feed(self, piece):
+        """Reads a piece, cut anywhere: its items wait for take_run and items."""
+        self._call("feed", *_given(piece))
 
-class _End(_Held):
+    def take_run(self, most=4096):
+        """The bytes of data that stand first, as many as came together and at most so many."""
+        return self._bytes("take_run", most)
+
+
+class _End(_Edited):
     """What both ends share."""
 
     def feed(self, piece):
         """Takes bytes that came, cut anywhere."""
-        self._call("feed", piece, len(piece))
+        self._call("feed", *_given(piece))
+
+    def pending(self):
+        """How many bytes wait to be sent."""
+        return self._value("pending", c_size_t)
 
     def read(self):
         """All that waits to be sent."""
-        return self._bytes("read", self._value("pending", c_size_t))
+        return self._bytes("read", self.pending())
 
     def option(self, ours, option):
+        """Where an option stands, at our side or at theirs."""
         return self._value("option", c_uint32, ours, option)
 
     def mode(self):
+        """The mode in force."""
         return self._value("mode", c_uint8)
 
     def failed(self):
@@ -264,34 +315,111 @@ class Server(_End):
     def __init__(self, flags=None, limit=255):
         super().__init__(byref(flags or Flags()), limit)
         self._limit = limit
+        self._taken = collections.deque()  # entries that were taken, to make room for others
 
-    def take(self):
-        """The first entry's kind, and its text, if it is one; NONE where no entry waits."""
+    def feed(self, piece):
+        """Takes bytes that came, cut anywhere and as many as there are: entries that are more than may wait are kept in this object."""
+        data, length = _given(piece)
+        at = ctypes.cast(c_char_p(data), c_void_p).value
+        while True:
+            taken = self._value("feed_some", c_size_t, at, length)
+            at, length = at + taken, length - taken
+            if not length:
+                return
+            if not taken:
+                self._taken.extend(self._take() for _ in range(512))
+
+    def feed_at_once(self, piece):
+        """Takes bytes that came: the end fails if they make more entries than may wait."""
+        self._call("feed", *_given(piece))
+
+    def _take(self):
         kind = self._value("take", c_uint32)
         return kind, self._bytes("text", self._limit) if kind == TEXT else None
 
+    def take(self):
+        """The first entry's kind, and its text, if it is one; NONE if no entry waits."""
+        return self._taken.popleft() if self._taken else self._take()
+
+    def waiting(self, index):
+        """The kind and the text of an entry that waits, by its place from 0 on, which stays; NONE after the last."""
+        if index < len(self._taken):
+            return self._taken[index]
+        index -= len(self._taken)
+        kind = self._value("waiting", c_uint32, index)
+        return kind, self._bytes("waiting_text", self._limit, index) if kind == TEXT else None
+
+    def signal_waiting(self):
+        """The first signal among the entries that wait, or NONE."""
+        taken = (kind for kind, _ in self._taken if kind in (INT, QUIT, TSTP))
+        return next(taken, None) or self._value("signal_waiting", c_uint32)
+
     def forget(self):
-        """Writes zeros over the text that was taken last."""
+        """Writes zeros over the text that was taken last, as far as the library holds it."""
         self._call("forget")
 
     def write(self, output):
-        """Writes to the screen and spells it, all of it; echo comes by this too, also where nothing is written."""
+        """Writes to the screen and spells it, all of it; echo comes by this too, also if nothing is written."""
+        data, length = _given(output)
+        at = ctypes.cast(c_char_p(data), c_void_p).value
         while True:
-            done = self._value("write", c_size_t, output, len(output))
-            self._value("pull", c_size_t, 4096)
-            output = output[done:]
-            if not output:
+            done = self._value("say", c_size_t, at, length)
+            at, length = at + done, length - done
+            if not length:
                 return
+
+    def write_some(self, output):
+        """Writes to the screen, and spells nothing of it; how many bytes found room."""
+        return self._value("write", c_size_t, *_given(output))
+
+    def pull(self, most=4096):
+        """Spells the first symbols of the screen; how many."""
+        return self._value("pull", c_size_t, most)
+
+    def send_to(self, send):
+        """Sends what waits from where it stands, without a copy, and returns how many bytes went: `send` is given a memoryview and returns
+        that number, as socket.send does. It keeps no part of the memoryview, and calls nothing of this end."""
+        at, count = POINTER(c_uint8)(), c_size_t()
+        self._call("peek", byref(at), byref(count))
+        if not count.value:
+            return 0
+        with memoryview((c_uint8 * count.value).from_address(addressof(at.contents))) as view:
+            done = send(view)
+        self._call("sent", done)
+        return done
 
     def wish(self, at_client):
         """Wishes for lines that are edited at the client; whether a MODE waits to be sent for it."""
         return self._value("wish", c_bool, at_client)
 
     def set_echo(self, on):
+        """Sets or clears the terminal's flag ECHO."""
         self._call("set_echo", on)
 
     def set_char(self, function, value=NO_CHAR):
+        """Changes a special character."""
         self._call("set_char", function, value)
+
+    def set_mask(self, octets):
+        """Asks for what is held at each character of this mask, or by None at none any more."""
+        if octets is None:
+            self._call("clear_mask")
+        else:
+            self._call("set_mask", *_given(octets))
+
+    def changes(self):
+        """The sum of the CHANGED_ of what is otherwise than at the last such call, or at the start."""
+        return self._value("changes", c_uint32)
+
+    def size(self):
+        """The window's width and height in characters; 0 is unspecified."""
+        width, height = c_uint16(), c_uint16()
+        self._call("size", byref(width), byref(height))
+        return width.value, height.value
+
+    def asked(self):
+        """The mode that the client was asked for."""
+        return self._value("asked", c_uint8)
 
 
 class Client(_End):
@@ -301,8 +429,10 @@ class Client(_End):
 
     def __init__(self, width=0, height=0, limit=255):
         super().__init__(width, height, limit)
+        self._limit = limit
 
     def keys(self, keys):
+        """Types keys, one after another."""
         for key in keys:
             self._call("key", key)
 
@@ -312,10 +442,29 @@ class Client(_End):
 
     def screen(self):
         """All that waits to be shown."""
-        return self._bytes("screen", self._value("screen_pending", c_size_t))
+        return self._bytes("screen", self.screen_pending())
+
+    def screen_pending(self):
+        """How many bytes wait to be shown."""
+        return self._value("screen_pending", c_size_t)
 
     def resize(self, width, height):
+        """Takes a new size of the window, in characters."""
         self._call("resize", width, height)
+
+    def propose(self, function, value=NO_CHAR):
+        """Proposes a special character to the server."""
+        self._call("propose", function, value)
+
+    def ahead(self):
+        """How many bytes of the half line were sent before those that are held."""
+        return self._value("ahead", c_uint16)
+
+    def counts(self):
+        """How long a half line is that the server edits, with its ISIG set and with it clear."""
+        trapped, plain = c_uint16(), c_uint16()
+        self._call("counts", byref(trapped), byref(plain))
+        return trapped.value, plain.value
 
     def send(self, command):
         """Sends a command, before what is held of a line, which stays as it is."""

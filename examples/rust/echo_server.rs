@@ -23,8 +23,8 @@ fn run_job(server: &mut Server) -> Result<bool, Refused> {
 fn serve(stream: &mut TcpStream, is_local: bool) -> Result<(), Refused> {
     let mut server = Server::start(&STANDARD_FLAGS, 255)?;
     server.wish(is_local)?;
-    // So that no paste makes more entries than may wait.
-    let mut piece = [0; 512];
+    let _ = stream.set_nodelay(true); // else an agreement waits 40 ms for the one before it
+    let mut piece = [0; 4096];
     let mut fed = Ok(());
     loop {
         let has_ended = run_job(&mut server);

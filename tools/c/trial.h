@@ -18,6 +18,7 @@ void *__real_realloc(void *old, size_t size);
 void __real_free(void *old);
 
 static long live, calls, refused_call;
+static size_t asked; /* bytes, since it was set to 0 */
 
 static bool is_refused(void)
 {
@@ -28,6 +29,7 @@ void *__wrap_malloc(size_t size)
 {
     void *made = is_refused() ? NULL : __real_malloc(size);
     live += made != NULL;
+    asked += size;
     return made;
 }
 
@@ -35,6 +37,7 @@ void *__wrap_realloc(void *old, size_t size)
 {
     void *made = is_refused() ? NULL : __real_realloc(old, size);
     live += made != NULL && old == NULL;
+    asked += size;
     return made;
 }
 

@@ -88,6 +88,7 @@ static void worked_line(void)
     SURE(tn_line_key(&line, 'x', &effect) == TN_OK && effect == TN_DROPPED);
     worked_settings(&line);
     tn_line_free(&line);
+    tn_line_free(NULL);
     SURE(line.tn_private == NULL && tn_line_half(&line, buf, 1, &count) == TN_NOT_STARTED && count == 0);
     tn_line_free(&line);
 }
@@ -112,6 +113,15 @@ static void worked_decoder(void)
         if (item.length > 0)
             SURE(memcmp(buf, "\0\x50\xff", 3) == 0);
     }
+    SURE(tn_decoder_feed(&decoder, (const uint8_t *)"\nabcde\r\n\xff\xff", 10) == TN_OK); /* the CR above ends a line with it */
+    SURE(tn_decoder_take(&decoder, &item) == TN_OK && item.kind == TN_NEWLINE);
+    SURE(tn_decoder_take(&decoder, &item) == TN_OK && item.kind == TN_BYTE && item.code == 'a');
+    SURE(tn_decoder_take_run(&decoder, buf, 3, &count) == TN_OK && count == 3 && memcmp(buf, "bcd", 3) == 0);
+    SURE(tn_decoder_take_run(&decoder, buf, 3, &count) == TN_OK && count == 1 && buf[0] == 'e');
+    SURE(tn_decoder_take_run(&decoder, buf, 3, &count) == TN_OK && count == 0);
+    SURE(tn_decoder_take(&decoder, &item) == TN_OK && item.kind == TN_NEWLINE);
+    SURE(tn_decoder_take_run(&decoder, buf, 3, &count) == TN_OK && count == 1 && buf[0] == 255);
+    SURE(tn_decoder_take(&decoder, &item) == TN_OK && item.kind == TN_NO_ITEM);
     tn_decoder_free(&decoder);
 }
 
@@ -148,6 +158,8 @@ static void worked_spelling(void)
         SURE(tn_put_sub(1, zeros, 513, buf, sizeof buf, &count) == TN_TOO_LONG && count == 77);
         SURE(tn_put_sub(1, zeros, 512, buf, sizeof buf, &count) == TN_OK && count == 517);
         SURE(tn_version() == TN_VERSION_NUMBER && strcmp(tn_code_text(TN_TAKEN), "another function has this character") == 0);
+        SURE(TN_BAD_LIMIT == TN_NO_LIMIT && TN_BAD_FUNCTION == TN_NO_FUNCTION);
+        SURE(TN_CHAR_IN_USE == TN_TAKEN && TN_BAD_COMMAND == TN_NO_COMMAND);
         SURE(strcmp(tn_code_text(TN_OK), "done") == 0 && strcmp(tn_code_text(TN_NO_COMMAND), "no such command") == 0);
         SURE(strcmp(tn_code_text((tn_code)(TN_NO_COMMAND + 1)), "no code of this library") == 0);
     }
@@ -160,12 +172,15 @@ static void worked_server(void)
     tn_option_state state = TN_OPTION_WANT_NO;
     uint16_t width = 0, height = 0, value = 0;
     uint8_t mode = 77;
+    uint32_t bits = 77;
     size_t count = 77;
     bool sent = false, failed = true;
     SURE(tn_server_feed(&server, buf, 0) == TN_NOT_STARTED && tn_server_take(&server, &kind) == TN_NOT_STARTED);
     SURE(tn_server_start(&server, &standard, 255) == TN_OK);
     SAYS(&server, "\xff\xfd\x22\xff\xfd\x1f\xff\xfb\x03\xff\xfd\x03\xff\xfb\x01");
+    SURE(tn_server_changes(&server, &bits) == TN_OK && bits == 0);
     FEED(&server, "\xff\xfd\x01\xff\xfd\x03"); /* DO ECHO, DO SUPPRESS-GO-AHEAD */
+    SURE(tn_server_changes(&server, &bits) == TN_OK && bits == TN_CHANGED_OPTION);
     FEED(&server, "lss\x7f -l\r");
     SURE(tn_server_take(&server, &kind) == TN_OK && kind == TN_NONE);
     FEED(&server, "\0");
@@ -192,8 +207,11 @@ static void worked_server(void)
     SURE(tn_server_mode(&server, &mode) == TN_OK && mode == 0);
     FEED(&server, "\xff\xfa\x22\x01\x07\xff\xf0"); /* the client acknowledges it */
     SURE(tn_server_mode(&server, &mode) == TN_OK && mode == (TN_MODE_EDIT | TN_MODE_TRAPSIG));
+    SURE(tn_server_changes(&server, &bits) == TN_OK && bits == (TN_CHANGED_MODE | TN_CHANGED_OPTION));
+    SURE(tn_server_changes(&server, &bits) == TN_OK && bits == 0);
     FEED(&server, "\xff\xfb\x1f\xff\xfa\x1f\0\x50\0\x18\xff\xf0");
     SURE(tn_server_size(&server, &width, &height) == TN_OK && width == 80 && height == 24);
+    SURE(tn_server_changes(&server, &bits) == TN_OK && bits == (TN_CHANGED_SIZE | TN_CHANGED_OPTION));
     SURE(tn_server_option(&server, false, 34, &state) == TN_OK && state == TN_OPTION_YES);
     SURE(tn_server_option(&server, true, 3, &state) == TN_OK && state == TN_OPTION_YES);
     SURE(tn_server_option(&server, true, 1, &state) == TN_OK && state == TN_OPTION_WANT_NO);
@@ -202,6 +220,7 @@ static void worked_server(void)
     SURE(tn_server_set_char(&server, TN_CHAR_INTR, 4) == TN_TAKEN);
     SURE(tn_server_set_char(&server, TN_CHAR_INTR, 5) == TN_OK);
     SURE(tn_server_char(&server, TN_CHAR_INTR, &value) == TN_OK && value == 5);
+    SURE(tn_server_changes(&server, &bits) == TN_OK && bits == TN_CHANGED_CHAR);
     SURE(tn_server_set_char(&server, TN_CHAR_INTR, TN_NO_CHAR) == TN_OK);
     SURE(tn_server_char(&server, TN_CHAR_INTR, &value) == TN_OK && value == TN_NO_CHAR);
     SURE(tn_server_set_mask(&server, buf, 33) == TN_TOO_LONG);
@@ -212,6 +231,61 @@ static void worked_server(void)
     SURE(tn_server_signal_waiting(&server, &kind) == TN_OK && kind == TN_TSTP);
     SURE(tn_server_half(&server, buf, sizeof buf, &count) == TN_OK);
     SURE(tn_server_failed(&server, &failed) == TN_OK && !failed);
+    tn_server_free(&server);
+}
+
+/* Output is spelled in one step with the echo, and sent from where it stands: a part, and then the rest. */
+static void worked_output(void)
+{
+    tn_server server = TN_HANDLE;
+    const uint8_t *bytes = NULL;
+    size_t count = 77;
+    SURE(tn_server_start(&server, &standard, 255) == TN_OK);
+    SURE(tn_server_peek(&server, &bytes, &count) == TN_OK && count == 15 && memcmp(bytes, "\xff\xfd\x22", 3) == 0);
+    SURE(tn_server_sent(&server, 12) == TN_OK);
+    SURE(tn_server_peek(&server, &bytes, &count) == TN_OK && count == 3 && memcmp(bytes, "\xff\xfb\x01", 3) == 0);
+    SURE(tn_server_sent(&server, 77) == TN_OK && tn_server_peek(&server, &bytes, &count) == TN_OK && count == 0);
+    FEED(&server, "\xff\xfd\x01" "ab"); /* DO ECHO */
+    SURE(tn_server_say(&server, (const uint8_t *)"c\n\xff", 3, &count) == TN_OK && count == 3);
+    SAYS(&server, "abc\r\n\xff\xff");
+    memset(buf, 'x', 5000);
+    SURE(tn_server_say(&server, buf, 5000, &count) == TN_OK && count == 4096);
+    SURE(tn_server_say(&server, buf, 904, &count) == TN_OK && count == 904);
+    SURE(tn_server_peek(&server, &bytes, &count) == TN_OK && count == 5000 && memcmp(bytes, buf, 5000) == 0);
+    SURE(tn_server_say(&server, NULL, 0, &count) == TN_OK && count == 0);
+    refused_call = calls + 1;
+    memset(buf, '\n', 5000);
+    SURE(tn_server_say(&server, buf, 5000, &count) == TN_MEMORY && count == 4096);
+    refused_call = 0;
+    SURE(tn_server_say(&server, NULL, 0, &count) == TN_OK && tn_server_pending(&server, &count) == TN_OK && count == 5000 + 2 * 4096);
+    tn_server_free(&server);
+}
+
+/* A flood of lines is taken as far as each finds room: no more than 511 may wait before a piece of 512 bytes. */
+static void worked_some(void)
+{
+    tn_server server = TN_HANDLE;
+    tn_kind kind = TN_DROPPED;
+    size_t taken = 77, lines = 0;
+    bool failed = true;
+    SURE(tn_server_start(&server, &standard, 255) == TN_OK);
+    memset(buf, '\n', 4096);
+    SURE(tn_server_feed_some(&server, buf, 511, &taken) == TN_OK && taken == 511);
+    SURE(tn_server_feed_some(&server, buf, 4096, &taken) == TN_OK && taken == 512);
+    SURE(tn_server_feed_some(&server, buf, 4096, &taken) == TN_OK && taken == 0);
+    for (int i = 0; i < 512; i++)
+        SURE(tn_server_take(&server, &kind) == TN_OK && kind == TN_TEXT);
+    SURE(tn_server_waiting(&server, 510, &kind) == TN_OK && kind == TN_TEXT);
+    SURE(tn_server_waiting(&server, 511, &kind) == TN_OK && kind == TN_NONE);
+    SURE(tn_server_feed_some(&server, buf, 4096, &taken) == TN_OK && taken == 512);
+    SURE(tn_server_failed(&server, &failed) == TN_OK && !failed);
+    while (tn_server_take(&server, &kind) == TN_OK && kind == TN_TEXT)
+        lines++;
+    SURE(lines == 511 + 512);
+    memset(buf, '\n', 4096);
+    SURE(tn_server_feed(&server, buf, 4096) == TN_TOO_FAR_AHEAD);
+    taken = 77;
+    SURE(tn_server_feed_some(&server, buf, 4096, &taken) == TN_FAILED && taken == 77);
     tn_server_free(&server);
 }
 
@@ -248,6 +322,27 @@ static void worked_client(void)
     SURE(tn_client_ahead(&client, &ahead) == TN_OK && ahead == 0);
     SURE(tn_client_failed(&client, &failed) == TN_OK && !failed);
     tn_client_free(&client);
+}
+
+/* What docs/C.md says of memory: each takes no more than this from malloc when it starts. */
+static void worked_memory(void)
+{
+    tn_server server = TN_HANDLE;
+    tn_client client = TN_HANDLE;
+    tn_line line = TN_HANDLE;
+    tn_decoder decoder = TN_HANDLE;
+    asked = 0;
+    SURE(tn_server_start(&server, &standard, 255) == TN_OK && asked <= 42142);
+    asked = 0;
+    SURE(tn_client_start(&client, 80, 24, 255) == TN_OK && asked <= 655);
+    asked = 0;
+    SURE(tn_line_start(&line, &standard, 255) == TN_OK && asked <= 655);
+    asked = 0;
+    SURE(tn_decoder_start(&decoder) == TN_OK && asked <= 400);
+    tn_server_free(&server);
+    tn_client_free(&client);
+    tn_line_free(&line);
+    tn_decoder_free(&decoder);
 }
 
 static void *typed_elsewhere(void *client)
@@ -352,6 +447,7 @@ static void session(void)
     tn_line line = TN_HANDLE;
     tn_decoder decoder = TN_HANDLE;
     tn_kind kind = TN_DROPPED;
+    const uint8_t *bytes = NULL;
     size_t count = 0;
     bool sent = false;
     tn_item item = { TN_NO_ITEM, 0, 0, 0 };
@@ -377,11 +473,16 @@ static void session(void)
     may(tn_server_wish(&server, false, &sent));
     deliver(&server, &client);
     may(tn_client_screen(&client, buf, sizeof buf, &count));
+    may(tn_server_feed_some(&server, (const uint8_t *)"a line\r", 7, &count));
+    may(tn_server_say(&server, buf, sizeof buf, &count));
+    may(tn_server_peek(&server, &bytes, &count));
+    may(tn_server_sent(&server, count));
     may(tn_line_start(&line, &standard, 255));
     for (const char *key = "abc\r\x04" "d\x04"; *key; key++)
         may(tn_line_key(&line, (uint8_t)*key, &kind));
     may(tn_decoder_start(&decoder));
     may(tn_decoder_feed(&decoder, (const uint8_t *)"ab\r\n\xff\xfa\x18\x01xyz\xff\xf0" "c", 14));
+    may(tn_decoder_take_run(&decoder, buf, 1, &count));
     do {
         item.kind = TN_NO_ITEM;
         may(tn_decoder_take(&decoder, &item));
@@ -425,13 +526,19 @@ static void by_server(size_t length)
 {
     tn_server server = TN_HANDLE;
     tn_kind kind = TN_DROPPED;
+    const uint8_t *bytes = NULL;
     size_t at = 0, count = 0;
     SURE(tn_server_start(&server, &standard, 255) == TN_OK);
     while (at < length) {
-        size_t piece = (size_t)(rand() % 300);
+        size_t piece = (size_t)(rand() % 800);
         piece = piece < length - at ? piece : length - at;
-        SURE(tn_server_feed(&server, stream + at, piece) == TN_OK);
-        at += piece;
+        if (piece < 300) {
+            SURE(tn_server_feed(&server, stream + at, piece) == TN_OK);
+            at += piece;
+        } else {
+            SURE(tn_server_feed_some(&server, stream + at, piece, &count) == TN_OK && count > 0);
+            at += count;
+        }
         for (;;) {
             SURE(tn_server_take(&server, &kind) == TN_OK);
             if (kind == TN_NONE)
@@ -439,17 +546,27 @@ static void by_server(size_t length)
             SURE(tn_server_text(&server, buf, sizeof buf, &count) == TN_OK);
             print_entry(kind, buf, count);
         }
-        SURE(tn_server_pull(&server, 4096, &count) == TN_OK);
-        SURE(tn_server_read(&server, buf, sizeof buf, &count) == TN_OK);
+        SURE(tn_server_say(&server, NULL, 0, &count) == TN_OK && tn_server_peek(&server, &bytes, &count) == TN_OK);
+        SURE(tn_server_sent(&server, count) == TN_OK);
     }
     tn_server_free(&server);
 }
 
+static void type_and_print(tn_line *line, uint8_t key)
+{
+    static uint8_t text[255];
+    tn_effect effect = TN_DROPPED;
+    size_t count = 0;
+    SURE(tn_line_key(line, key, &effect) == TN_OK && tn_line_text(line, text, sizeof text, &count) == TN_OK);
+    if (effect >= TN_TEXT && effect <= TN_TSTP)
+        print_entry(effect, text, count);
+}
+
+/* Data is taken in runs of up to 39 bytes, or item by item. */
 static void by_parts(size_t length)
 {
     tn_decoder decoder = TN_HANDLE;
     tn_line line = TN_HANDLE;
-    tn_effect effect = TN_DROPPED;
     size_t at = 0, count = 0;
     tn_item item = { TN_NO_ITEM, 0, 0, 0 };
     SURE(tn_decoder_start(&decoder) == TN_OK && tn_line_start(&line, &standard, 255) == TN_OK);
@@ -459,13 +576,12 @@ static void by_parts(size_t length)
         SURE(tn_decoder_feed(&decoder, stream + at, piece) == TN_OK);
         at += piece;
         do {
+            SURE(tn_decoder_take_run(&decoder, buf, (size_t)(rand() % 40), &count) == TN_OK);
+            for (size_t i = 0; i < count; i++)
+                type_and_print(&line, buf[i]);
             SURE(tn_decoder_take(&decoder, &item) == TN_OK);
-            if (item.kind != TN_BYTE && item.kind != TN_NEWLINE)
-                continue;
-            SURE(tn_line_key(&line, item.kind == TN_BYTE ? item.code : '\n', &effect) == TN_OK);
-            SURE(tn_line_text(&line, buf, sizeof buf, &count) == TN_OK);
-            if (effect >= TN_TEXT && effect <= TN_TSTP)
-                print_entry(effect, buf, count);
+            if (item.kind == TN_BYTE || item.kind == TN_NEWLINE)
+                type_and_print(&line, item.kind == TN_BYTE ? item.code : '\n');
         } while (item.kind != TN_NO_ITEM);
     }
     tn_decoder_free(&decoder);
@@ -482,8 +598,11 @@ int main(int argc, char **argv)
         worked_decoder();
         worked_spelling();
         worked_server();
+        worked_output();
+        worked_some();
         worked_client();
         worked_pair();
+        worked_memory();
         worked_threads();
     } else if (strcmp(word, "refused") == 0) {
         refuse_each();

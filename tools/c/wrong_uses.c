@@ -16,17 +16,20 @@ struct given {
     tn_option_state state;
     uint16_t width, height;
     uint8_t mode;
+    uint32_t bits;
     bool yes;
     tn_item item;
+    const uint8_t *at;
 };
 
-static const struct given blank = { "unread.", 77, TN_KILLED, TN_OPTION_WANT_NO, 77, 77, 77, true, { TN_WORD, 77, 77, 77 } };
+static const struct given blank = { "unread.", 77, TN_KILLED, TN_OPTION_WANT_NO, 77, 77, 77, 77, true,
+                                    { TN_WORD, 77, 77, 77 }, (const uint8_t *)"at" };
 
 static bool is_blank(const struct given *g)
 {
     return memcmp(g->buf, blank.buf, sizeof blank.buf) == 0 && g->count == 77 && g->effect == TN_KILLED && g->state == TN_OPTION_WANT_NO && g->width == 77
-        && g->height == 77 && g->mode == 77 && g->yes && g->item.kind == TN_WORD && g->item.code == 77
-        && g->item.option == 77 && g->item.length == 77;
+        && g->height == 77 && g->mode == 77 && g->bits == 77 && g->yes && g->item.kind == TN_WORD && g->item.code == 77
+        && g->item.option == 77 && g->item.length == 77 && g->at == blank.at;
 }
 
 #define TO_BUF g->buf, sizeof g->buf, &g->count
@@ -43,15 +46,20 @@ static bool is_blank(const struct given *g)
     X(LINE, line_char, (h, TN_CHAR_EOL, &g->width)) \
     X(DECODER, decoder_feed, (h, BYTES)) \
     X(DECODER, decoder_take, (h, &g->item)) \
+    X(DECODER, decoder_take_run, (h, TO_BUF)) \
     X(DECODER, decoder_parameters, (h, TO_BUF)) \
     X(SERVER, server_feed, (h, BYTES)) \
+    X(SERVER, server_feed_some, (h, BYTES, &g->count)) \
     X(SERVER, server_pending, (h, &g->count)) \
+    X(SERVER, server_peek, (h, &g->at, &g->count)) \
+    X(SERVER, server_sent, (h, 1)) \
     X(SERVER, server_read, (h, TO_BUF)) \
     X(SERVER, server_take, (h, &g->effect)) \
     X(SERVER, server_text, (h, TO_BUF)) \
     X(SERVER, server_forget, (h)) \
     X(SERVER, server_write, (h, BYTES, &g->count)) \
     X(SERVER, server_pull, (h, 8, &g->count)) \
+    X(SERVER, server_say, (h, BYTES, &g->count)) \
     X(SERVER, server_wish, (h, true, &g->yes)) \
     X(SERVER, server_set_char, (h, TN_CHAR_EOL, 7)) \
     X(SERVER, server_set_echo, (h, false)) \
@@ -60,6 +68,7 @@ static bool is_blank(const struct given *g)
     X(SERVER, server_waiting, (h, 0, &g->effect)) \
     X(SERVER, server_waiting_text, (h, 0, TO_BUF)) \
     X(SERVER, server_signal_waiting, (h, &g->effect)) \
+    X(SERVER, server_changes, (h, &g->bits)) \
     X(SERVER, server_size, (h, &g->width, &g->height)) \
     X(SERVER, server_mode, (h, &g->mode)) \
     X(SERVER, server_asked, (h, &g->mode)) \
@@ -236,6 +245,7 @@ static void frees_all(void)
             frees[i].free(&h);
             SURE(h.tn_private == NULL && live == 0);
             frees[i].free(&h);
+            frees[i].free(NULL);
         }
     }
 }
@@ -250,11 +260,15 @@ static void takes_no_bytes(uint8_t *at)
     NONE(tn_line_text(&line, at, 0, &g.count));
     SURE(tn_decoder_feed(&decoder, at, 0) == TN_OK);
     NONE(tn_decoder_parameters(&decoder, at, 0, &g.count));
+    NONE(tn_decoder_take_run(&decoder, at, 0, &g.count));
     SURE(tn_server_feed(&server, at, 0) == TN_OK);
     NONE(tn_server_read(&server, at, 0, &g.count));
     NONE(tn_server_text(&server, at, 0, &g.count));
     NONE(tn_server_write(&server, at, 0, &g.count));
     NONE(tn_server_pull(&server, 0, &g.count));
+    NONE(tn_server_feed_some(&server, at, 0, &g.count));
+    NONE(tn_server_say(&server, at, 0, &g.count));
+    SURE(tn_server_sent(&server, 0) == TN_OK);
     COUNTS(1, tn_server_half(&server, at, 0, &g.count));
     COUNTS(2, tn_put_byte(255, at, 0, &g.count));
     COUNTS(5, tn_put_sub(24, at, 0, NULL, 0, &g.count));

@@ -2,7 +2,7 @@
 
 ghost use Rattle.std.specs.Prelude.{◌≡◌, true, None};
 ghost use Rattle.tn_c_parts.specs.{Bytes.Gives, Calling.{Looks, Does}, Items.parameters_of};
-ghost use Rattle.tn_c_parts.specs.DecoderCalls.{IsFresh, FeedCall, TakeCall};
+ghost use Rattle.tn_c_parts.specs.DecoderCalls.{IsFresh, FeedCall, TakeCall, TakeRunCall};
 ghost use Rattle.tn_c.specs.Holding.{HoldsDecoder, CallsDecoder, Starts, NoPointer};
 
 use crate::calls::call_held;
@@ -31,7 +31,7 @@ pub extern "C" fn tn_decoder_free(alloc: Global, handle: &mut Handle)
     handle.free(alloc);
 }
 
-/// Reads a piece, cut anywhere: the items that it completes wait behind those that wait already.
+/// Reads a piece, cut anywhere: the items that it completes wait after those that wait already.
 #[unsafe(no_mangle)]
 pub extern "C" fn tn_decoder_feed(alloc: Global, handle: &mut Handle, bytes: &[u8]) -> u32
     ensures { CallsDecoder handle.old.held handle.new.held result NoPointer
@@ -47,6 +47,21 @@ pub extern "C" fn tn_decoder_take(alloc: Global, handle: &mut Handle, item: &mut
         (Does (TakeCall item.new)) }
 {
     call_held!(handle, alloc, Decoder, decoder => { decoder.take(item); Code::Done })
+}
+
+/// Moves the first bytes of data that wait, as many as stand together and fit, and says how many.
+#[unsafe(no_mangle)]
+pub extern "C" fn tn_decoder_take_run(
+    alloc: Global,
+    handle: &mut Handle,
+    buf: &mut [u8],
+    count: &mut usize,
+) -> u32
+    ensures { CallsDecoder handle.old.held handle.new.held result
+        ((buf.new ≡ buf.old) × (count.new ≡ count.old))
+        (Does (TakeRunCall buf.old buf.new count.new)) }
+{
+    call_held!(handle, alloc, Decoder, decoder => { decoder.take_run(buf, count); Code::Done })
 }
 
 /// Copies the first parameters of the item that was taken last, as many as fit, and says how many there are.

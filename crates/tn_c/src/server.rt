@@ -11,7 +11,8 @@ ghost use Rattle.tn_c_parts.specs.{Entries.{kind_number, signal_number, text_of}
 ghost use Rattle.tn_c_parts.specs.Readings.{char_given, editing_given, side_given, state_number};
 ghost use Rattle.tn_c_parts.specs.ServerCalls.{IsOpened, Acts, FeedCall, TakeCall, ForgetCall, WriteCall};
 ghost use Rattle.tn_c_parts.specs.ServerCalls.{PullCall, WishCall, SetCharCall, SetMaskCall, SetOctetsCall};
-ghost use Rattle.tn_c_parts.specs.ServerCalls.{ReadCall, IsServerChar};
+ghost use Rattle.tn_c_parts.specs.ServerCalls.{FeedSomeCall, SayCall, GivesPending, SentCall, ReadCall};
+ghost use Rattle.tn_c_parts.specs.{Changes.ChangesCall, ServerCalls.IsServerChar};
 ghost use Rattle.tn_c.specs.Holding.{HoldsServer, CallsServer, Starts, NoPointer};
 
 use crate::calls::call_held;
@@ -67,6 +68,21 @@ pub extern "C" fn tn_server_feed(alloc: Global, handle: &mut Handle, bytes: &[u8
         (FeedCall bytes.now) }
 {
     call_held!(handle, alloc, Server, server => server.feed(bytes))
+}
+
+/// Takes the first bytes of what comes from the client, as many as cannot make more entries than may wait, and
+/// says how many: none while more than 511 entries wait.
+#[unsafe(no_mangle)]
+pub extern "C" fn tn_server_feed_some(
+    alloc: Global,
+    handle: &mut Handle,
+    bytes: &[u8],
+    taken: &mut usize,
+) -> u32
+    ensures { CallsServer handle.old.held handle.new.held result (taken.new ≡ taken.old)
+        (FeedSomeCall bytes.now taken.old taken.new) }
+{
+    call_held!(handle, alloc, Server, server => server.feed_some(bytes, taken))
 }
 
 /// Takes the first entry that waits, and gives the number of its kind.
@@ -128,6 +144,20 @@ pub extern "C" fn tn_server_pull(
         (PullCall max count.old count.new) }
 {
     call_held!(handle, alloc, Server, server => server.pull(max, count))
+}
+
+/// Writes output of a job, the first bytes, says how many fit, and spells all that waits on the screen.
+#[unsafe(no_mangle)]
+pub extern "C" fn tn_server_say(
+    alloc: Global,
+    handle: &mut Handle,
+    bytes: &[u8],
+    count: &mut usize,
+) -> u32
+    ensures { CallsServer handle.old.held handle.new.held result (count.new ≡ count.old)
+        (SayCall bytes.now count.new) }
+{
+    call_held!(handle, alloc, Server, server => server.say(bytes, count))
 }
 
 /// Wishes for editing at the client, or at the server, and says whether a MODE is sent for it.
@@ -209,6 +239,30 @@ pub extern "C" fn tn_server_read(
     call_held!(handle, alloc, Server, server => { server.read(buf, count); Code::Done })
 }
 
+/// Says where the bytes that are to be sent stand, and how many they are.
+#[unsafe(no_mangle)]
+pub extern "C" fn tn_server_peek(
+    alloc: Global,
+    handle: &mut Handle,
+    bytes: &mut *const u8,
+    count: &mut usize,
+) -> u32
+    ensures { CallsServer handle.old.held handle.new.held result
+        ((bytes.new ≡ bytes.old) × (count.new ≡ count.old))
+        (Looks (GivesPending bytes.new count.new)) }
+{
+    call_held!(handle, alloc, Server, server => { server.peek(bytes, count); Code::Done })
+}
+
+/// Drops the first of the bytes that are to be sent, at most `count` of them: they were sent.
+#[unsafe(no_mangle)]
+pub extern "C" fn tn_server_sent(alloc: Global, handle: &mut Handle, count: usize) -> u32
+    ensures { CallsServer handle.old.held handle.new.held result NoPointer
+        (Does (SentCall count)) }
+{
+    call_held!(handle, alloc, Server, server => { server.sent(count); Code::Done })
+}
+
 /// Gives the number of the kind of an entry that waits, by its place from the first on.
 #[unsafe(no_mangle)]
 pub extern "C" fn tn_server_waiting(
@@ -256,6 +310,15 @@ pub extern "C" fn tn_server_signal_waiting(
         kind.new ≡ signal_number (first_signal (waiting h)))) }
 {
     call_held!(handle, alloc, Server, server => { *kind = server.signal_waiting(); Code::Done })
+}
+
+/// Says by the bits of `tn_change` what is otherwise than at the last such call, or at the start.
+#[unsafe(no_mangle)]
+pub extern "C" fn tn_server_changes(alloc: Global, handle: &mut Handle, bits: &mut u32) -> u32
+    ensures { CallsServer handle.old.held handle.new.held result (bits.new ≡ bits.old)
+        (Does (ChangesCall bits.new)) }
+{
+    call_held!(handle, alloc, Server, server => { server.changes(bits); Code::Done })
 }
 
 /// Gives the window's width and height in characters.

@@ -1,1 +1,5 @@
 pub mod Refusing
+mod FindingRoom
+mod Changing
+mod Gathering
+mod Running

@@ -2,6 +2,8 @@
 use Rattle.std.specs.Prelude.{Option, Some, None, Result, Ok, Err}
 use Rattle.tn_discipline.specs.declared.characters.CharFault.{CharFault}
 use Rattle.tn_discipline.specs.declared.characters.CharFault.TheVariants as char
+use Rattle.tn_nvt.specs.declared.decoding.NvtFault.{NvtFault}
+use Rattle.tn_nvt.specs.declared.decoding.NvtFault.TheVariants as nvt
 use Rattle.tn_pty.specs.declared.pty.PtyFault.{PtyFault}
 use Rattle.tn_pty.specs.declared.pty.PtyFault.TheVariants as pty
 use Rattle.tn_server.specs.declared.faults.ServerFault.{ServerFault}
@@ -43,6 +45,13 @@ client_code (client.Char fault) = char_code fault
 abbrev pub client_answer : {T : Type 0} → Result T ClientFault → Code
 client_answer (Ok x) = code.Done
 client_answer (Err fault) = client_code fault
+
+-- what a feed of a decoder answers
+abbrev pub nvt_answer : {T : Type 0} → Result T NvtFault → Code
+nvt_answer (Ok x) = code.Done
+nvt_answer (Err nvt.Failed) = code.Failed
+nvt_answer (Err nvt.Memory) = code.Memory
+nvt_answer (Err nvt.Refused) = code.Memory
 
 -- a call that is not refused for such a cause is refused only when out of memory
 abbrev pub server_refusal : Option ServerFault → Code

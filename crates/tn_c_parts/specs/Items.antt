@@ -5,12 +5,10 @@ use Rattle.tn_nvt.specs.{Feeding.DecoderState, declared.items.Item.Item}
 use Rattle.tn_nvt.specs.declared.items.Item.TheVariants.{Byte, Newline, Cmd, Neg, Sub}
 use Rattle.tn_c_parts.specs.declared.decoder.ItemSeen.{ItemSeen}
 
--- the items that wait to be taken, the first one first, for how many more there is room, and the item that
--- was taken last
+-- the items that wait to be taken, the first one first, and the item that was taken last
 pub record ReadStream : Type 0 where
   pub decoder : DecoderState
   pub waiting : List Item
-  pub room : ℕ
   pub item : Option Item
 
 -- 0 where there is none

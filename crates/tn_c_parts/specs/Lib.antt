@@ -4,9 +4,11 @@ pub mod Bytes
 pub mod Spelled
 pub mod Echoes
 pub mod Entries
+pub mod Waiting
 pub mod Items
 pub mod Terminals
 pub mod Readings
+pub mod Changes
 pub mod LineCalls
 pub mod DecoderCalls
 pub mod ServerCalls

@@ -1,17 +1,19 @@
 -- What each call of a held server end does.
 use Rattle.std.specs.Prelude.{◌≡◌, ◌≢◌, ◌↔◌, ◌⊎◌, ◌*◌, ◌<◌, ◌≤◌, ℕ, Bool, IsTrue, IsFalse, List, [], ◌∷◌}
-use Rattle.std.specs.Prelude.{◌++◌, length, min, drop, Option, Some, None, MatchOption}
+use Rattle.std.specs.Prelude.{◌++◌, length, min, take, drop, Option, Some, None, MatchOption, if◌then◌else◌}
+use Rattle.std.specs.Vec.{vec_ptr}
+use denote.RawPtr.{Ptr}
 use Rattle.tn_codes.specs.{Masks.filled_octets, declared.{codes.Func.Func, masks.Mask.Mask}}
 use Rattle.tn_discipline.specs.{Characters.slot, Canon.Canon}
 use Rattle.tn_nvt.specs.Feeding as nvt
 use Rattle.tn_nvt.specs.{Spelling.spells, Room.LacksRoom}
-use Rattle.tn_pty.specs.Terminal.{fitting_count}
+use Rattle.tn_pty.specs.Terminal.{fitting_count, queue_symbols}
 use Rattle.tn_server.specs.{Answering.{Feeds, StopsWithin}, Replies.opening, Steps.LacksRoomFor, Terms.chars}
 use Rattle.tn_server.specs.Calls.{End, LeadsTo, call_fault, char_fault_at, mask_fault}
 use Rattle.tn_server.specs.Events.{History, Event, begun, took, pulled, wished, char_set, mask_set}
-use Rattle.tn_server.specs.Steps.{end_after, end_after_write, end_after_pull, says, sends_mode_now}
+use Rattle.tn_server.specs.{Lines.waiting, Steps.{end_after, end_after_write, end_after_pull, says, sends_mode_now}}
 use Rattle.tn_server.specs.declared.{faults.ServerFault.ServerFault, wishes.Editing.Editing}
-use Rattle.tn_c_parts.specs.{Bytes.Copies, Entries.{kind_number, wiped_entry}, Readings.char_number}
+use Rattle.tn_c_parts.specs.{Bytes.Copies, Changes.IsSeen, Entries.{kind_number, wiped_entry}, Readings.char_number}
 use Rattle.tn_c_parts.specs.{Faults.{server_code, server_refusal}, declared.codes.Code.Code}
 use Rattle.tn_c_parts.specs.declared.server.HeldServer.{HeldServer}
 use Rattle.tn_c_parts.specs.declared.codes.Code.TheVariants as code
@@ -21,6 +23,7 @@ pub record Untouched (old new : HeldServer) : Type 0 where
   pub end : new.end ≡ old.end
   pub pending : new.pending.items ≡ old.pending.items
   pub entry : new.entry ≡ old.entry
+  pub seen : new.seen ≡ old.seen
 
 -- A call of the owner, which is this event, and which may be refused for such a cause.
 pub record Acts (e : Event) (cause : End → Option ServerFault) (answer : Code) (before after : HeldServer)
@@ -32,6 +35,7 @@ pub record Acts (e : Event) (cause : End → Option ServerFault) (answer : Code)
   pub err : answer ≢ code.Done → Untouched before after
   pub full : answer ≡ code.Memory → LacksRoomFor before.end e before.pending
   pub entry : after.entry ≡ before.entry
+  pub seen : after.seen ≡ before.seen
 
 pub record WishCall (editing : Editing) (old_sent new_sent : Bool) (answer : Code)
     (before after : HeldServer) : Type 0 where
@@ -65,6 +69,35 @@ pub record FeedCall (piece : List ℕ) (answer : Code) (before after : HeldServe
       ⊎ ((answer ≡ code.TooFarAhead) ⊎ (answer ≡ code.Closed))))
   pub shut : answer ≡ code.Closed → IsTrue before.end.terminal.closed
   pub entry : after.entry ≡ before.entry
+  pub seen : after.seen ≡ before.seen
+
+-- how many entries may wait before a piece that finds room for each entry it makes, and how long that is
+abbrev pub most_before : ℕ
+most_before = 511
+
+abbrev pub most_taken : ℕ
+most_taken = 512
+
+-- More entries wait than may before such a piece, so no byte was taken, and all stays.
+pub record TakesNone (old_taken new_taken : ℕ) (answer : Code) (before after : HeldServer) : Type 0 where
+  pub many : (h : History) → LeadsTo h before.end → most_before < length (waiting h)
+  pub answers : answer ≡ (if before.end.failed then code.Failed else code.Done)
+  pub taken : answer ≡ code.Done → new_taken ≡ 0
+  pub untaken : answer ≢ code.Done → new_taken ≡ old_taken
+  pub stays : after ≡ before
+
+-- The first bytes were taken, as many as such a piece has.
+pub record TakesFirst (bytes : List ℕ) (old_taken new_taken : ℕ) (answer : Code)
+    (before after : HeldServer) : Type 0 where
+  pub few : (h : History) → LeadsTo h before.end → length (waiting h) ≤ most_before
+  pub feeds : FeedCall (take (min (length bytes) most_taken) bytes) answer before after
+  pub taken : answer ≡ code.Done → new_taken ≡ min (length bytes) most_taken
+  pub untaken : answer ≢ code.Done → new_taken ≡ old_taken
+
+abbrev pub FeedSomeCall : List ℕ → ℕ → ℕ → Code → HeldServer → HeldServer → Type 0
+FeedSomeCall bytes old_taken new_taken answer before after =
+    TakesNone old_taken new_taken answer before after
+    ⊎ TakesFirst bytes old_taken new_taken answer before after
 
 pub record TakeCall (old_kind new_kind : ℕ) (answer : Code) (before after : HeldServer) : Type 0 where
   pub codes : (answer ≡ code.Done) ⊎ (answer ≡ code.Memory)
@@ -72,6 +105,7 @@ pub record TakeCall (old_kind new_kind : ℕ) (answer : Code) (before after : He
   pub sends : answer ≡ code.Done → after.pending.items ≡ before.pending.items ++ spells (says before.end took)
   pub entry : answer ≡ code.Done → MatchOption after.entry (before.end.terminal.entries ≡ [])
       (λ e. before.end.terminal.entries ≡ e ∷ after.end.terminal.entries)
+  pub seen : after.seen ≡ before.seen
   pub kind : answer ≡ code.Done → new_kind ≡ kind_number after.entry
   pub err : answer ≡ code.Memory → Untouched before after
   pub err_kind : answer ≡ code.Memory → new_kind ≡ old_kind
@@ -83,6 +117,7 @@ pub record WriteCall (bytes : List ℕ) (count : ℕ) (before after : HeldServer
   pub counts : count ≡ fitting_count before.end.terminal.queue bytes
   pub pending : after.pending.items ≡ before.pending.items
   pub entry : after.entry ≡ before.entry
+  pub seen : after.seen ≡ before.seen
 
 pub record PullCall (max old_count new_count : ℕ) (answer : Code) (before after : HeldServer) : Type 0 where
   pub codes : (answer ≡ code.Done) ⊎ (answer ≡ code.Memory)
@@ -91,11 +126,31 @@ pub record PullCall (max old_count new_count : ℕ) (answer : Code) (before afte
       → after.pending.items ≡ before.pending.items ++ spells (says before.end (pulled new_count))
   pub counts : answer ≡ code.Done → new_count ≡ min max (length before.end.terminal.queue)
   pub entry : after.entry ≡ before.entry
+  pub seen : after.seen ≡ before.seen
   pub err : answer ≡ code.Memory → Untouched before after
   pub err_count : answer ≡ code.Memory → new_count ≡ old_count
   pub grows : answer ≡ code.Memory → says before.end (pulled max) ≢ []
   pub full : answer ≡ code.Memory
       → LacksRoom before.pending (2 * min max (length before.end.terminal.queue))
+
+-- these bytes were written, as many as found room, and all that waited on the screen then was spelled
+pub record SayCall (bytes : List ℕ) (count : ℕ) (answer : Code) (before after : HeldServer) : Type 0 where
+  pub middle : HeldServer
+  pub symbols : ℕ
+  pub writes : WriteCall bytes count before middle
+  pub pulls : PullCall queue_symbols 0 symbols answer middle after
+
+-- where the bytes that wait to be sent stand, and how many they are
+pub record GivesPending (at : Ptr) (count : ℕ) (held : HeldServer) : Type 0 where
+  pub place : at ≡ vec_ptr held.pending
+  pub counts : count ≡ length held.pending.items
+
+-- the first of the bytes that waited to be sent, at most so many, wait no more
+pub record SentCall (count : ℕ) (before after : HeldServer) : Type 0 where
+  pub stay : after.pending.items ≡ drop count before.pending.items
+  pub end : after.end ≡ before.end
+  pub entry : after.entry ≡ before.entry
+  pub seen : after.seen ≡ before.seen
 
 -- bytes that waited to be sent were moved to a buffer
 pub record ReadCall (old_buf new_buf : List ℕ) (count : ℕ) (before after : HeldServer) : Type 0 where
@@ -103,12 +158,14 @@ pub record ReadCall (old_buf new_buf : List ℕ) (count : ℕ) (before after : H
   pub stay : after.pending.items ≡ drop count before.pending.items
   pub end : after.end ≡ before.end
   pub entry : after.entry ≡ before.entry
+  pub seen : after.seen ≡ before.seen
 
 -- the text that was taken last was wiped
 pub record ForgetCall (before after : HeldServer) : Type 0 where
   pub end : after.end ≡ before.end
   pub pending : after.pending.items ≡ before.pending.items
   pub entry : after.entry ≡ wiped_entry before.entry
+  pub seen : after.seen ≡ before.seen
 
 abbrev pub IsServerChar : HeldServer → Func → ℕ → Type 0
 IsServerChar server func value =
@@ -122,3 +179,4 @@ pub record IsOpened (canon : Canon) (held : HeldServer) : Type 0 where
   pub opens : IsFalse held.end.terminal.closed
   pub pending : held.pending.items ≡ spells opening
   pub entry : held.entry ≡ None
+  pub seen : (h : History) → LeadsTo h held.end → IsSeen h held.seen

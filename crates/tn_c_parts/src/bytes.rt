@@ -20,16 +20,23 @@ pub(crate) fn give(bytes: &[u8], buf: &mut [u8]) -> usize
     bytes.len()
 }
 
+/// Drops the first bytes, at most `count` of them: the others stay.
+pub(crate) fn drop_front(bytes: &mut Vec<u8>, count: usize)
+    ensures { bytes.new.items ≡ drop count bytes.old.items }
+{
+    if count >= bytes.len() {
+        bytes.clear();
+        return;
+    }
+    drop(bytes.drain(..count));
+}
+
 /// Moves the first bytes, as many as fit, and returns how many: the others stay.
 pub(crate) fn move_front(bytes: &mut Vec<u8>, buf: &mut [u8]) -> usize
     ensures copies { Copies bytes.old.items buf.old buf.new result }
     ensures stay { bytes.new.items ≡ drop result bytes.old.items }
 {
     let count = copy_front(bytes.as_slice(), buf);
-    if count == bytes.len() {
-        bytes.clear();
-        return count;
-    }
-    drop(bytes.drain(..count));
+    drop_front(bytes, count);
     count
 }

@@ -1,11 +1,12 @@
 //! A decoder, and the items that wait to be taken.
 
 ghost use Rattle.std.specs.Prelude.{◌≡◌};
-ghost use Rattle.tn_c_parts.specs.{Bytes.Gives, DecoderCalls.{FeedCall, TakeCall, IsFresh}};
-ghost use Rattle.tn_c_parts.specs.Items.{item_seen, parameters_of};
+ghost use Rattle.tn_c_parts.specs.{Bytes.Gives, DecoderCalls.{FeedCall, TakeCall, TakeRunCall, IsFresh}};
+ghost use Rattle.tn_c_parts.specs.{Faults.nvt_answer, Items.{item_seen, parameters_of}};
 
 use crate::bytes::give;
 use crate::codes::Code;
+use crate::waiting::Waiting;
 use std::alloc::Global;
 use std::marker::Model;
 use tn_nvt::{Decoder, Item, NvtFault};
@@ -23,6 +24,18 @@ pub struct ItemSeen {
     pub option: u8,
     /// How many parameters a subnegotiation has.
     pub length: usize,
+}
+
+// The code of what a feed answered.
+fn code_of(answer: Result<(), NvtFault>) -> Code
+    ensures { result ≡ nvt_answer answer }
+{
+    match answer {
+        Ok(()) => Code::Done,
+        Err(NvtFault::Failed) => Code::Failed,
+        Err(NvtFault::Memory) => Code::Memory,
+        Err(NvtFault::Refused) => Code::Memory,
+    }
 }
 
 // What C sees of an item.
@@ -59,21 +72,18 @@ fn parameters(item: &Option<Item>) -> &[u8]
 #[derive(Drop)]
 pub struct HeldDecoder {
     decoder: Decoder,
-    /// What waits; the item that came last stands first.
-    later_first: Vec<Item>,
+    waiting: Waiting,
     item: Option<Item>,
 }
 
 impl Model for HeldDecoder {
-    ghost use Rattle.std.specs.Prelude.{◌-◌, reverse, vec_len, vec_capacity};
     ghost use Rattle.tn_c_parts.specs.Items.{ReadStream};
 
     ghost Value = { ReadStream };
 
     ghost view = { λ held. record {
       decoder = held.decoder;
-      waiting = reverse held.later_first.items;
-      room = vec_capacity held.later_first - vec_len held.later_first;
+      waiting = held.waiting;
       item = held.item;
     } };
 }
@@ -85,31 +95,31 @@ impl HeldDecoder {
     {
         HeldDecoder {
             decoder: Decoder::new(alloc),
-            later_first: Vec::new(alloc),
+            waiting: Waiting::new(alloc),
             item: None,
         }
     }
 
-    /// Reads a piece, cut anywhere: the items that it completes wait behind those that wait already.
+    /// Reads a piece, cut anywhere: the items that it completes wait after those that wait already.
     pub fn feed(&mut self, piece: &[u8]) -> Code
         ensures { FeedCall piece.now result self.old self.new }
     {
-        self.later_first.reverse();
-        let fed = self.decoder.feed(piece, &mut self.later_first);
-        self.later_first.reverse();
-        match fed {
-            Ok(()) => Code::Done,
-            Err(NvtFault::Failed) => Code::Failed,
-            Err(_) => Code::Memory,
-        }
+        code_of(self.decoder.feed_to(piece, &mut self.waiting))
     }
 
     /// Takes the first item that waits, if there is one.
     pub fn take(&mut self, item: &mut ItemSeen)
         ensures { TakeCall item.new self.old self.new }
     {
-        self.item = self.later_first.pop();
+        self.item = self.waiting.next();
         *item = seen(&self.item);
+    }
+
+    /// Moves the first bytes of data that wait, as many as stand together and fit, and says how many.
+    pub fn take_run(&mut self, buf: &mut [u8], count: &mut usize)
+        ensures { TakeRunCall buf.old buf.new count.new self.old self.new }
+    {
+        *count = self.waiting.take_run(buf);
     }
 
     /// Copies the first parameters of the item that was taken last, as many as fit, and says how many there

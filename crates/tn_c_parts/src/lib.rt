@@ -10,6 +10,7 @@
 //! It has no handle, and exports nothing: that is `tn_c`.
 #![tactic(auto)]
 
+pub use changes::Seen;
 pub use client::HeldClient;
 pub use codes::Code;
 pub use decoder::{HeldDecoder, ItemSeen};
@@ -19,13 +20,16 @@ pub use server::HeldServer;
 pub use spelling::{spell_byte, spell_command, spell_newline, spell_sub, spell_word};
 
 mod bytes;
+mod changes;
 mod client;
 mod codes;
 mod decoder;
 mod echo;
 mod entries;
 mod flags;
+pub mod laws;
 mod line;
 mod readings;
 mod server;
 mod spelling;
+mod waiting;

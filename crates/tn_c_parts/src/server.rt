@@ -1,30 +1,39 @@
 //! A server end, what it has to send, and the entry that was taken last.
 
-ghost use Rattle.std.specs.Prelude.{◌≡◌, ◌≢◌, IfOk, IfErr, slice_get};
+ghost use Rattle.std.specs.Prelude.{◌≡◌, ◌≢◌, IfOk, IfErr, slice_get, if◌then◌else◌};
 ghost use Rattle.tn_option.specs.Options.{state_of};
 ghost use Rattle.tn_pty.specs.Terminal.{first_signal};
 ghost use Rattle.tn_server.specs.{Calls.{LeadsTo, call_fault}, Events.{History, echo_set}, Screen.size};
 ghost use Rattle.tn_server.specs.{Lines.{half, waiting}, Terms.options};
 ghost use Rattle.tn_server.specs.declared.faults.ServerFault.TheVariants as fault;
-ghost use Rattle.tn_c_parts.specs.{Bytes.Gives, Entries.{kind_number, signal_number, text_of}};
+ghost use Rattle.tn_c_parts.specs.{Bytes.Gives, Changes.ChangesCall, Entries.{kind_number, signal_number, text_of}};
 ghost use Rattle.tn_c_parts.specs.{Calling.{OfFunction, GivesChar}, ServerCalls.{IsServerChar, IsOpened}};
 ghost use Rattle.tn_c_parts.specs.Readings.{char_given, editing_given, side_given, state_number};
-ghost use Rattle.tn_c_parts.specs.ServerCalls.{FeedCall, TakeCall, ForgetCall, WriteCall, PullCall, ReadCall};
+ghost use Rattle.tn_c_parts.specs.ServerCalls.{FeedCall, FeedSomeCall, TakeCall, ForgetCall, WriteCall};
+ghost use Rattle.tn_c_parts.specs.ServerCalls.{PullCall, ReadCall};
+ghost use Rattle.tn_c_parts.specs.ServerCalls.{SayCall, GivesPending, SentCall};
 ghost use Rattle.tn_c_parts.specs.ServerCalls.{Acts, WishCall, SetCharCall, SetMaskCall, SetOctetsCall};
 ghost use Rattle.tn_c_parts.specs.declared.codes.Code.TheVariants as code;
 
-use crate::bytes::{give, move_front};
+use crate::bytes::{drop_front, give, move_front};
+use crate::changes::{Seen, change_bits, seen_of};
 use crate::codes::Code;
 use crate::entries::{entry_number, entry_text, kind_number, sig_number, text_of, wiped};
 use crate::readings::{char_given, editing_given, give_char, side_given, state_number};
 use std::alloc::Global;
 use tn_codes::{Func, Mask};
 use tn_discipline::{CharFault, Entry, Limit, Settings};
-use tn_pty::PtyFault;
+use tn_pty::{PtyFault, QUEUE_SYMBOLS};
 use tn_server::{Editing, ServerEnd, ServerFault};
 
 /// How many octets a forward mask has (RFC 1184, section 2.3).
 const MASK_OCTETS: usize = 32;
+
+/// How many entries may wait before a piece that finds room for each entry that it makes, and how many bytes
+/// such a piece has at most (`pieces_find_room` in `tn_server`).
+const MOST_BEFORE: usize = 511;
+
+const MOST_TAKEN: usize = 512;
 
 /// The code of what a call of the end answered; `$done` is done first where it was not refused.
 macro_rules! code_of {
@@ -47,12 +56,27 @@ macro_rules! code_of {
     };
 }
 
+// No byte is taken: says that, unless the end has failed.
+fn take_none(has_failed: bool, taken: &mut usize) -> Code
+    ensures answer { result ≡ (if has_failed then code.Failed else code.Done) }
+    ensures taken { result ≡ code.Done → taken.new ≡ 0 }
+    ensures untaken { result ≢ code.Done → taken.new ≡ taken.old }
+{
+    if has_failed {
+        return Code::Failed;
+    }
+    *taken = 0;
+    Code::Done
+}
+
 /// A server end, what it has to send, and the entry that was taken last.
 #[derive(Drop)]
 pub struct HeldServer {
     pub end: ServerEnd,
     pub pending: Vec<u8>,
     pub entry: Option<Entry>,
+    /// What was there at the start, or at the last call of `changes`.
+    pub seen: Seen,
 }
 
 impl HeldServer {
@@ -63,10 +87,12 @@ impl HeldServer {
     {
         let mut pending = Vec::new(alloc);
         let end = ServerEnd::start(alloc, settings, limit, &mut pending)?;
+        let seen = seen_of(&end);
         Ok(HeldServer {
             end,
             pending,
             entry: None,
+            seen,
         })
     }
 
@@ -75,6 +101,22 @@ impl HeldServer {
         ensures { FeedCall piece.now result self.old self.new }
     {
         code_of!(self.end.feed(piece, &mut self.pending), () => {})
+    }
+
+    /// Takes the first bytes of what comes from the client, as many as cannot make more entries than may
+    /// wait, and says how many. It takes none while more than 511 entries wait.
+    pub fn feed_some(&mut self, bytes: &[u8], taken: &mut usize) -> Code
+        ensures { FeedSomeCall bytes.now taken.old taken.new result self.old self.new }
+    {
+        if self.end.waiting(MOST_BEFORE).is_some() {
+            return take_none(self.end.failed(), taken);
+        }
+        let count = bytes.len().min(MOST_TAKEN);
+        let code = self.feed(&bytes[..count]);
+        if matches!(code, Code::Done) {
+            *taken = count;
+        }
+        code
     }
 
     /// Takes the first entry that waits, and gives the number of its kind.
@@ -123,6 +165,31 @@ impl HeldServer {
             },
             Err(_) => Code::Memory,
         }
+    }
+
+    /// Writes output of a job, the first bytes, says how many fit, and spells all that waits on the screen,
+    /// to be sent. `Memory` if that could not be spelled: it waits on the screen.
+    pub fn say(&mut self, bytes: &[u8], count: &mut usize) -> Code
+        ensures { SayCall bytes.now count.new result self.old self.new }
+    {
+        self.write(bytes, count);
+        let mut symbols = 0;
+        self.pull(QUEUE_SYMBOLS, &mut symbols)
+    }
+
+    /// Says where the bytes that are to be sent stand, and how many they are.
+    pub fn peek(&self, bytes: &mut *const u8, count: &mut usize)
+        ensures { GivesPending bytes.new count.new self.now }
+    {
+        *bytes = self.pending.as_ptr();
+        *count = self.pending.len();
+    }
+
+    /// Drops the first of the bytes that are to be sent, at most `count` of them: they were sent.
+    pub fn sent(&mut self, count: usize)
+        ensures { SentCall count self.old self.new }
+    {
+        drop_front(&mut self.pending, count);
     }
 
     /// Wishes for editing at the client, or at the server, and says whether a MODE is sent for it.
@@ -228,6 +295,15 @@ impl HeldServer {
             None => 0,
             Some(sig) => sig_number(sig),
         }
+    }
+
+    /// Says by the bits of `tn_change` what is otherwise than at the last such call, or at the start.
+    pub fn changes(&mut self, bits: &mut u32)
+        ensures { ChangesCall bits.new self.old self.new }
+    {
+        let seen = seen_of(&self.end);
+        *bits = change_bits(&self.seen, &seen);
+        self.seen = seen;
     }
 
     /// Gives the window's width and height in characters.

@@ -1,11 +1,14 @@
-use Rattle.std.proofs.{Common.{rules, arith}, lemmas.Grind.common_steps}
+use Rattle.std.proofs.Common.{◌≡◌, [], ◌∷◌, ap, subst}
+use Rattle.std.specs.Prelude.{MatchOption}
+use Rattle.tn_c_parts.specs.Items.{ReadStream}
 use Rattle.tn_c_parts.proofs.decoder.HeldDecoder.take.Goals as goal
 
 pub returns : goal.returns
 returns c =
     record {
-      decoder = search rules;
-      item = grind (arith, common_steps);
-      none = grind (arith, common_steps);
+      decoder = ap (λ (s : ReadStream). s.decoder) c.self.view_is;
+      item = subst (λ (s : ReadStream). MatchOption c.next.result (s.waiting ≡ []) (λ first. s.waiting ≡ first ∷ c.next.new.self)) c.self.view_is
+          c.next.ensures.item;
+      none = subst (λ (s : ReadStream). s.waiting ≡ [] → c.next.new.self ≡ []) c.self.view_is c.next.ensures.none;
       shown = c.seen.ensures;
     }

@@ -13,4 +13,5 @@ returns-in-Ok c =
       codes = inl refl;
       shut = search rules;
       entry = refl;
+      seen = refl;
     }

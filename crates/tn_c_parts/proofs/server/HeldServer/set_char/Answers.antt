@@ -17,6 +17,7 @@ returns-in-Ok-clause-call c =
       err = search rules;
       full = search rules;
       entry = refl;
+      seen = refl;
     }
 
 pub returns-in-Err-Memory-clause-call : goal.returns-in-Err-Memory-clause-call
@@ -30,6 +31,7 @@ returns-in-Err-Memory-clause-call c =
       err = search rules;
       full = search rules;
       entry = search rules;
+      seen = search rules;
     }
 
 pub returns-in-Err-Failed-clause-call : goal.returns-in-Err-Failed-clause-call
@@ -43,6 +45,7 @@ returns-in-Err-Failed-clause-call c =
       err = search rules;
       full = search rules;
       entry = search rules;
+      seen = search rules;
     }
 
 pub returns-in-Err-NotOn-clause-call : goal.returns-in-Err-NotOn-clause-call
@@ -56,6 +59,7 @@ returns-in-Err-NotOn-clause-call c =
       err = search rules;
       full = search rules;
       entry = search rules;
+      seen = search rules;
     }
 
 pub returns-in-Err-Pty-TooFarAhead-clause-call : goal.returns-in-Err-Pty-TooFarAhead-clause-call
@@ -69,6 +73,7 @@ returns-in-Err-Pty-TooFarAhead-clause-call c =
       err = search rules;
       full = search rules;
       entry = search rules;
+      seen = search rules;
     }
 
 pub returns-in-Err-Pty-Memory-clause-call : goal.returns-in-Err-Pty-Memory-clause-call
@@ -84,6 +89,7 @@ returns-in-Err-Pty-Memory-clause-call c =
           (never_pty c.args.self.now.end.failed (char_fault c.args.self.now.end.table c.args.func c.args.value) c.in-Err-Pty-Memory.field-0
           c.in-Err-Pty-Memory.field-0-0 c.in-Err-Pty-Memory.field-0-is c.in-Err-Pty-Memory.ensures.fault);
       entry = search rules;
+      seen = search rules;
     }
 
 pub returns-in-Err-Pty-Closed-clause-call : goal.returns-in-Err-Pty-Closed-clause-call
@@ -97,6 +103,7 @@ returns-in-Err-Pty-Closed-clause-call c =
       err = search rules;
       full = search rules;
       entry = search rules;
+      seen = search rules;
     }
 
 pub returns-in-Err-Char-NotSettable-clause-call : goal.returns-in-Err-Char-NotSettable-clause-call
@@ -110,6 +117,7 @@ returns-in-Err-Char-NotSettable-clause-call c =
       err = search rules;
       full = search rules;
       entry = search rules;
+      seen = search rules;
     }
 
 pub returns-in-Err-Char-Reserved-clause-call : goal.returns-in-Err-Char-Reserved-clause-call
@@ -123,6 +131,7 @@ returns-in-Err-Char-Reserved-clause-call c =
       err = search rules;
       full = search rules;
       entry = search rules;
+      seen = search rules;
     }
 
 pub returns-in-Err-Char-Taken-clause-call : goal.returns-in-Err-Char-Taken-clause-call
@@ -136,4 +145,5 @@ returns-in-Err-Char-Taken-clause-call c =
       err = search rules;
       full = search rules;
       entry = search rules;
+      seen = search rules;
     }

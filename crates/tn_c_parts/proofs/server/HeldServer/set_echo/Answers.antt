@@ -11,4 +11,5 @@ returns-in-Ok c =
       err = search rules;
       full = search rules;
       entry = refl;
+      seen = refl;
     }

@@ -11,6 +11,7 @@ returns-in-Ok-clause-call c =
       err = search rules;
       full = search rules;
       entry = refl;
+      seen = refl;
     }
 
 pub returns-in-Err-Memory-clause-call : goal.returns-in-Err-Memory-clause-call
@@ -23,4 +24,5 @@ returns-in-Err-Memory-clause-call c =
       err = search rules;
       full = λ _. c.in-Err-Memory.ensures.full (ap Err c.in-Err-Memory.field-0-is);
       entry = search rules;
+      seen = search rules;
     }

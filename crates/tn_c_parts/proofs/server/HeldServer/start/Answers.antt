@@ -10,4 +10,5 @@ returns-clause-ok c =
       opens = c.in_ok-end.ensures.opens;
       pending = search rules;
       entry = refl;
+      seen = c.seen_of-seen.ensures;
     }

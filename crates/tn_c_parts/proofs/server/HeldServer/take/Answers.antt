@@ -8,6 +8,7 @@ returns-in-Ok c =
       step = λ _. c.in-Ok.ensures.step;
       sends = λ _. c.in-Ok.ensures.out;
       entry = λ _. c.in-Ok.ensures.entry;
+      seen = refl;
       kind = λ _. c.kind_number.ensures;
       err = search rules;
       err_kind = search rules;

@@ -12,6 +12,7 @@ returns-in-Ok c =
         err = search rules;
         full = search rules;
         entry = refl;
+        seen = refl;
       };
       sent = λ _. c.in-Ok.ensures.sent;
       unsent = search rules;
