@@ -86,6 +86,21 @@ static struct done decoder_gives(void *decoder) {
     return all;
 }
 
+static struct done decoder_gives_runs(void *decoder) {
+    struct done all = {sizeof stream, 0};
+    tn_item item = {0, 0, 0, 0};
+    size_t at, count = 0;
+    for (at = 0; at < sizeof stream; at += PIECE) {
+        SURE(tn_decoder_feed(decoder, stream + at, PIECE) == TN_OK);
+        do {
+            SURE(tn_decoder_take_run(decoder, buf, sizeof buf, &count) == TN_OK);
+            all.wholes += (double)count;
+            if (count == 0) SURE(tn_decoder_take(decoder, &item) == TN_OK);
+        } while (count > 0 || item.kind != TN_NO_ITEM);
+    }
+    return all;
+}
+
 static struct done server_sends(void *server) {
     struct done all = {sizeof stream, 0};
     size_t at = 0, count = 0;
@@ -139,10 +154,10 @@ static void ours(const char *name, tn_handle end, struct done (*once)(void *)) {
     tn_end(&end);
 }
 
-static void item_by_item(const char *name) {
+static void item_by_item(const char *name, struct done (*once)(void *)) {
     tn_handle decoder = TN_HANDLE;
     SURE(tn_decoder_start(&decoder) == TN_OK);
-    ours(name, decoder, decoder_gives);
+    ours(name, decoder, once);
 }
 
 // A server whose client agreed to what was asked, and edits where that is wished for.
@@ -167,18 +182,21 @@ int main(void) {
     fill("x", 1);
     ours("tn: receiving plain text", started(false), client_shows);
     theirs("libtelnet: receiving plain text", recv_theirs);
-    item_by_item("tn: receiving plain text, item by item");
+    item_by_item("tn: receiving plain text, item by item", decoder_gives);
+    item_by_item("tn: receiving plain text, in runs", decoder_gives_runs);
     ours("tn: sending plain text", started(true), server_sends);
     theirs("libtelnet: sending plain text", send_theirs);
     fill(line, sizeof line - 1);
     ours("tn: receiving lines of 64", started(false), client_shows);
     theirs("libtelnet: receiving lines of 64", recv_theirs);
-    item_by_item("tn: receiving lines of 64, item by item");
+    item_by_item("tn: receiving lines of 64, item by item", decoder_gives);
+    item_by_item("tn: receiving lines of 64, in runs", decoder_gives_runs);
     editing("tn: a server takes edited lines", true);
     fill(mix, sizeof mix - 1);
     ours("tn: receiving a mix of escapes", started(false), client_shows);
     theirs("libtelnet: receiving a mix of escapes", recv_theirs);
-    item_by_item("tn: receiving a mix of escapes, item by item");
+    item_by_item("tn: receiving a mix of escapes, item by item", decoder_gives);
+    item_by_item("tn: receiving a mix of escapes, in runs", decoder_gives_runs);
     fill(text, sizeof text - 1);
     ours("tn: sending lines of 64", started(true), server_sends);
     theirs("libtelnet: sending lines of 64", print_theirs);

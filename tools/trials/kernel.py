@@ -11,7 +11,7 @@ Some keys are left out, since line mode is not meant to treat them as the kernel
     signals                    flush what the kernel's terminal still has to show
     ^D on an empty line        is the end of file for a reader, and is sent to a service
     ESC, ^]                    begin a cursor key, and a line to the client itself
-    ^V, ^Q, ^S                 are ordinary in line mode, which has no LNEXT, START and STOP
+    ^V                         is ordinary in line mode, which has no LNEXT
     ^?, ^U, ^D                 are ERASE, KILL and EOF in line mode, also if the terminal has other characters for these
     wide, combining, C1        take two columns or none, and the kernel rubs out one for each character
     0x80 to 0xBF, 0xD7, 0xF7   are symbols in the kernel's table, which is Latin-1, so WERASE stops there; with IUTF8 that table is asked
@@ -21,10 +21,10 @@ Some keys are left out, since line mode is not meant to treat them as the kernel
 """
 import os
 import random
-import re
 import termios
 
 from lines import at_service, reading
+from screens import Screen
 from terminal import Console
 from world import case, expect, expect_same, wait_while_more
 
@@ -35,7 +35,7 @@ LINES, MAX_KEYS = 200, 40
 WIDE = 1_000
 
 # How often a key of each function is typed, in hundredths; the other keys are ordinary ones.
-FUNCTIONS = ((termios.VERASE, 14), (termios.VWERASE, 5), (termios.VKILL, 2), (termios.VREPRINT, 2), (termios.VEOF, 2))
+FUNCTIONS = ((termios.VERASE, 14), (termios.VWERASE, 5), (termios.VKILL, 2), (termios.VREPRINT, 2), (termios.VEOF, 2), (termios.VSTOP, 1))
 
 LEFT_OUT = frozenset(b"\x03\x1c\x1a\x04" b"\x1b\x1d" b"\x16\x11\x13" b"\x7f\x15" b"\r\n")
 
@@ -49,66 +49,12 @@ LETTERS = [bytes([byte]) for byte in range(0xC0, 0x100) if byte not in (0xD7, 0x
 FIRST = b"first\r\n"
 
 
-class Screen:
-    """A screen of so many columns, on which each character takes one. After a character in the last column the next one goes to the row
-    below, which goes on with the row above."""
-
-    def __init__(self, columns, shown):
-        self.columns = columns
-        self.grid, self.goes_on = [[]], [False]
-        self.row, self.column, self.last = 0, 0, {}
-        for text in re.findall("\x1b\\[.|.", shown, re.DOTALL):
-            self.show(text)
-
-    def show(self, text):
-        if text == "\r":
-            self.last[self.row] = min(self.column, self.columns)
-            self.column = 0
-        elif text == "\n":
-            self.go_down(False)
-        elif text == "\b":
-            self.column = max(min(self.column, self.columns - 1) - 1, 0)
-        elif text == "\t":
-            self.column += 8 - self.column % 8
-        elif text == "\x1b[A":
-            self.row -= 1
-        elif text == "\x1b[C":
-            self.column += 1
-        elif text == "\x1b[J":
-            del self.grid[self.row][self.column:], self.grid[self.row + 1:], self.goes_on[self.row + 1:]
-        elif text >= " " and text != "\x7f":
-            self.put(text)
-
-    def put(self, character):
-        if self.column == self.columns:
-            self.go_down(True)
-            self.column = 0
-        row = self.grid[self.row]
-        row += " " * (self.column + 1 - len(row))
-        row[self.column] = character
-        self.column += 1
-
-    def go_down(self, goes_on):
-        self.row += 1
-        if self.row == len(self.grid):
-            self.grid.append([])
-            self.goes_on.append(goes_on)
-
-    def rows(self):
-        """Each row that ended, with those that it goes on in and without the blanks at its end, and the column in which it left the cursor."""
-        found = []
-        for place, (row, goes_on) in enumerate(zip(self.grid[:-1], self.goes_on)):
-            before = found.pop()[0] if goes_on else []
-            found.append((before + [" "] * (-len(before) % self.columns) + row, len(before) + self.last.get(place, 0)))
-        return [("".join(row).rstrip(" "), column) for row, column in found]
-
-
 class Keyboard:
     """Random lines for a terminal."""
 
     def __init__(self, characters, flags, columns, seed):
         self.chance = random.Random(seed)
-        self.own = {name: characters[name] for name, _ in FUNCTIONS}
+        self.own = {name: characters[name] for name, _ in (*FUNCTIONS, (termios.VSTART, 0))}
         left_out = LEFT_OUT.union(*self.own.values(), b"\b" if "-echoctl" in flags else b"")
         self.blanks = b" \t" if columns == WIDE else b" "
         self.symbols = [bytes([byte]) for byte in b"!#%&*+,-./:;<=>?@[]^_`{|}~" if byte not in left_out]
@@ -119,9 +65,16 @@ class Keyboard:
         place = self.chance.random() * 100
         for name, share in FUNCTIONS:
             if place < share and self.own[name] != b"\0":
-                return self.ordinary() + self.own[name] if name == termios.VEOF else self.own[name]
+                return self.function(name)
             place -= share
         return self.ordinary()
+
+    def function(self, name):
+        if name == termios.VEOF:
+            return self.ordinary() + self.own[name]
+        if name == termios.VSTOP:
+            return self.own[name] + self.ordinary() + self.own[termios.VSTART]
+        return self.own[name]
 
     def ordinary(self):
         kinds = (b"abcxyzABCXYZ0189_", self.blanks, self.symbols, self.controls, self.others)

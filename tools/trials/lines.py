@@ -2,7 +2,9 @@
 import os
 import re
 import socket
+import time
 
+from screens import Screen
 from services import Service, answering, start_redis, strict_mail
 from terminal import Terminal
 from world import case, expect, expect_same, wait_until
@@ -57,14 +59,29 @@ def characters_and_words_are_erased_whole(world):
 @case(each={"WERASE and REPRINT": (["werase", "^X", "rprnt", "^Y"], b"a b\x18c\x19d\x17\r", b"a cd\x17", b"a b\b \bc^Y\r\na cd^W\r\n"),
             "no IUTF8": (["-iutf8"], b"\xc3\xa9\x7f\r", b"\xc3", b"\xc3\xa9\b \b\r\n"),
             "no ECHOCTL": (["-echoctl"], b"a\x01\x7fb\r", b"ab", b"a\x01\b \bab\r\n"),
+            "no IXON": (["-ixon"], b"a\x13b\x11\r", b"a\x13b\x11", b"a^Sb^Q\r\n"),
             "no WERASE": (["werase", "undef"], b"a\x17\r", b"a\x17", b"a^W\r\n"),
-            "--keys standard": ([], b"a b\x17\xc3\xa9\x7f\r", b"a b\x17\xc3", b"a b^W\xc3\xa9\b \b\r\n", "--keys", "standard"),
+            "--keys standard": ([], b"a b\x17\x13\xc3\xa9\x7f\r", b"a b\x17\x13\xc3", b"a b^W^S\xc3\xa9\b \b\r\n", "--keys", "standard"),
             "--no-history": ([], b"a\r\x1b[Ab\r", b"b", b"a\r\n\ab\r\n", "--no-history")})
 def lines_are_edited_as_the_terminal_is_set(world, flags, keys, line, shown, *words):
     service, terminal = at_service(world, reading, *words, flags=flags)
     terminal.type(keys, shown)
     service.wait_for(line + b"\r\n")
     expect(bytes(service.got).split(b"\r\n")[-2] == line, f"the service got {bytes(service.got)!r}")
+    terminal.leave()
+
+
+@case(each={"^S and ^Q": (b"\x13", b"\x11"), "other characters": (b"\x01", b"\x02", "stop", "^A", "start", "^B"),
+            "a signal after ^S": (b"\x13", b"\x03")})
+def the_screen_stops_and_goes_on(world, stop, start, *flags):
+    service, terminal = at_service(world, reading, flags=flags)
+    terminal.type(b"a", b"a")
+    os.write(terminal.master, stop + b"b\rc")
+    service.wait_for(b"ab\r\n")
+    say(service, b"news\r\n")
+    time.sleep(0.3)  # Nothing is to be shown.
+    expect(terminal.shown.endswith(b"a"), "something is shown at a screen that is stopped")
+    terminal.type(start, b"ab\r\n", b"news\r\n")
     terminal.leave()
 
 
@@ -80,6 +97,51 @@ def lines_that_were_typed_come_back(world):
     terminal.type(b"f\r", b"f\r\n")
     terminal.type(b"\x1b[A\x1b[A!\r", b"second!\r\n")
     service.wait_for(b"first\r\nsecond\r\nhalf\r\nsecond!\r\n")
+    terminal.leave()
+
+
+@case
+def left_and_right_move_within_the_line(world):
+    service, terminal = at_service(world, reading)
+    terminal.type(b"helo", b"helo")
+    terminal.type(b"\x1b[D", b"\b \bo\b")
+    terminal.type(b"l", b"\x1b[Jlo\b")
+    terminal.type(b"\x1bOC!", b"\x1b[Jo!")
+    terminal.type(b"\x1b[C", b"\a")
+    terminal.type(b"\r", b"\r\n")
+    service.wait_for(b"hello!\r\n")
+    for keys, line in ((b"a\xc3\xa9\x1b[D\x1b[Db\r", b"ba\xc3\xa9"), (b"abc\x1b[D\x1b[D\x7fd\r", b"dbc"), (b"one two\x1b[D\x17x\r", b"one xo"),
+                       (b"abc\x1b[D\x15d\r", b"d"), (b"ac\x1b[Db\x1b[A\x1b[B!\r", b"abc!"), (b"ab\x1b[D\x12c\r", b"acb"), (b"ac\x1b[Db\x04", b"abc"),
+                       (b"\x1b[Dlost\x1b[D\x03a\r", b"a")):
+        before = len(service.got)
+        os.write(terminal.master, keys)
+        wait_until(lambda: service.got[before:] in (line + b"\r\n", line), f"the service gets {line!r}")
+    terminal.leave()
+
+
+@case
+def a_line_that_is_full_takes_nothing_in_its_midst(world):
+    service, terminal = at_service(world, reading, "--line", "255", columns=10_000)
+    terminal.paste(b"x" * 250 + b"\x1b[D\x1b[D" + b"y" * 10)
+    terminal.see(b"\a" * 6)
+    os.write(terminal.master, b"\r")
+    service.wait_for(b"\r\n")
+    expect_same(b"x" * 248 + b"yyyyxx\r\n", bytes(service.got), "what the service got")
+    terminal.leave()
+
+
+@case
+def a_line_is_edited_in_its_midst_over_several_rows(world):
+    service, terminal = at_service(world, reading, columns=10)
+    begin = len(terminal.shown)
+    terminal.type(b"0123456789abcdefghijkl" + b"\x1b[D" * 16 + b"X", b"X")
+    say(service, b"news\r\n")
+    terminal.see(b"news\r\n012345X")
+    terminal.type(b"\x7fYZ\r", b"\r\n")
+    service.wait_for(b"012345YZ6789abcdefghijkl\r\n")
+    terminal.catch_up()
+    rows = Screen(10, terminal.shown[begin:].decode()).rows()
+    expect_same(["news", "012345YZ6789abcdefghijkl"], [row for row, _ in rows], "the rows that are shown")
     terminal.leave()
 
 

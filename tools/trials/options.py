@@ -1,6 +1,6 @@
 """Each option of `tn serve` and `tn connect` has its effect at the program. Those that are not tried here:
 
-    tn serve     --host                             piped.the_host_that_was_asked_for_is_the_one
+    tn serve     --host                             piped.the_host_that_was_asked_for_is_the_one, the module paths
                  --until, --verbose                 notes
                  --idle, --longest                  notes.a_peer_gets_the_cause_of_its_end and others
                  --to, --crlf, --cr, --line-cut     gateway

@@ -1,4 +1,5 @@
 """`tn connect --plain` with services that take lines, from pipes and at a pseudoterminal."""
+import os
 import socket
 import struct
 import subprocess
@@ -32,6 +33,12 @@ def resets(service, connection):
     """Reads a line, and resets the connection."""
     service.read(connection)
     connection.setsockopt(socket.SOL_SOCKET, socket.SO_LINGER, struct.pack("ii", 1, 0))
+
+
+def holding(service, connection):
+    """Reads all, and says what the case has it say."""
+    service.connection = connection
+    service.read_all(connection)
 
 
 def from_pipe(world, talk, data, *options):
@@ -137,9 +144,46 @@ def lines_are_edited_at_a_terminal(world):
     expect_in_order(terminal.shown, b"helo\x08 \x08lo\r\n", b"got hello\r\n", b"half^C\r\n", b"b\r\ngot b\r\n")
 
 
+@case
+def lines_are_edited_as_in_line_mode(world):
+    service, terminal = plain_terminal(world, holding, flags=["iutf8"])
+    terminal.type(b"h\xc3\xa9\x7fi one\x17two\r", "hé\b \bi one\b \b\b \b\b \btwo\r\n".encode())
+    service.wait_for(b"hi two\r\n")
+    terminal.type(b"\x1b[A!", b"hi two!")
+    service.connection.sendall(b"news\n")
+    terminal.see(b"\b \b" * 7 + b"news\r\nhi two!")
+    terminal.type(b"\r", b"\r\n")
+    service.wait_for(b"hi two!\r\n")
+    terminal.type(b"a", b"a")
+    os.write(terminal.master, b"\x13b")
+    time.sleep(0.3)  # Nothing is to be shown.
+    expect(terminal.shown.endswith(b"a"), "a key is shown at a screen that is stopped")
+    terminal.type(b"\x11\r", b"b\r\n")
+    service.wait_for(b"ab\r\n")
+    terminal.type(b"\x04")
+    terminal.end()
+
+
+@case
+def a_long_line_is_drawn_over_rows(world):
+    service, terminal = plain_terminal(world, holding, columns=40)
+    # The launcher tells the size of the window once the connection stands, and it is read before the next keys.
+    terminal.type(b"first\r", b"first\r\n")
+    service.wait_for(b"first\r\n")
+    time.sleep(1)
+    terminal.type(b"x" * 90, b"x" * 40 + b" \r" + b"x" * 40 + b" \r" + b"x" * 10)
+    terminal.resize(40, 30)
+    time.sleep(1)
+    terminal.type(b"\r", b"\r\n")
+    service.wait_for(b"x" * 90 + b"\r\n")
+    terminal.type(b"y" * 31, b"y" * 30 + b" \ry")
+    terminal.type(b"\r\x04")
+    terminal.end()
+
+
 @case(each={"of 1,000 bytes": (1_000,), "as long as one may be": (4_094,)})
 def a_long_line_is_sent_whole(world, length):
-    service, terminal = plain_terminal(world, listening)
+    service, terminal = plain_terminal(world, listening, columns=10_000)
     terminal.paste(b"x" * length + b"\r")
     terminal.see(b"x" * length + b"\r\n")
     service.wait_for(b"x" * length + b"\r\n")
@@ -150,7 +194,7 @@ def a_long_line_is_sent_whole(world, length):
 
 @case(each={"4,095 by default": (4_094,), "--line 255": (254, "--line", "255")})
 def a_full_line_refuses_keys_and_is_sent_as_it_is_shown(world, most, *words):
-    service, terminal = plain_terminal(world, listening, *words)
+    service, terminal = plain_terminal(world, listening, *words, columns=10_000)
     terminal.paste(b"x" * most + b"yyy")
     terminal.see(b"x" * most + b"\x07\x07\x07")
     expect_same(b"", bytes(service.got), "what went before RETURN")

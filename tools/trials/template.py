@@ -5,7 +5,7 @@ import shutil
 import subprocess
 
 import basics
-from ends import Peer
+from ends import DO, IAC, IP, NAWS, NO_GO_AHEAD, Peer, SB, SE, WILL
 from world import case, expect, expect_in_order, expect_same, free_port, wait_until
 
 # How many seconds a program may take to be built.
@@ -60,5 +60,21 @@ def a_service_from_the_template_answers(world):
     wait_until(lambda: basics.is_listened_to(port), "the service listens")
     for name in (b"ada", b"grace"):
         peer = Peer(world, port, name=f"the peer {name.decode()} got").is_served()
-        peer.send(name + b"\r\n\4")
-        expect_in_order(peer.read_to_end(), b"hello, " + name + b"\r\n", b"bye\r\n")
+        peer.read_until(b"name?\r\n")
+        peer.send(name + b"\r\nsecret\r\n\4")
+        expect_in_order(peer.read_to_end(), b"name?\r\npassword: \r\nhello, " + name + b"\r\n", b"bye\r\n")
+    hides_a_password_and_knows_the_window(world, port)
+
+
+def hides_a_password_and_knows_the_window(world, port):
+    agreed = NO_GO_AHEAD + bytes([IAC, DO, 1, IAC, WILL, NAWS, IAC, SB, NAWS, 0, 100, 0, 30, IAC, SE])
+    peer = Peer(world, port, opening=agreed, name="the peer with an echo got")
+    peer.is_served().read_until(b"name?\r\n")
+    peer.send(b"ada\r\n")
+    peer.read_until(b"ada\r\npassword: ")
+    peer.send(b"secret\r\n")
+    peer.read_until(b"password: \r\nhello, ada\r\n")
+    peer.send(b"shown" + bytes([IAC, IP]))
+    peer.read_until(b"hello, ada\r\nshown", b"\r\n100 columns, 30 lines\r\nname?\r\n")
+    peer.send(b"\25\4")
+    expect(b"secret" not in peer.read_to_end(), "the password is not echoed")

@@ -1,12 +1,12 @@
 //! The client end: the calls that its owner makes.
 
 ghost use Rattle.std.specs.Prelude.{◌≡◌, ◌≢◌, ◌++◌, ◌∷◌, ℕ, List, true, IsTrue, false, IsFalse, None, []};
-ghost use Rattle.std.specs.Prelude.{length, take, IfOk, IfErr, IsOk, OnOk, OnErr, IsErrOf};
+ghost use Rattle.std.specs.Prelude.{length, take, is_some, IfOk, IfErr, IsOk, OnOk, OnErr, IsErrOf};
 ghost use Rattle.tn_nvt.specs.{Room.LacksRoom, Spelling.{spells, lf}};
 ghost use Rattle.tn_nvt.specs.Feeding as nvt;
 ghost use Rattle.tn_option.specs.Options.{state_of};
 ghost use Rattle.tn_client.specs.Events.{History, begun, resized, proposed, sent};
-ghost use Rattle.tn_client.specs.{Terms.{options, mode, chars}, Lines.{held_bytes, ahead, count_under}};
+ghost use Rattle.tn_client.specs.{Terms.{options, mode, chars, forward}, Lines.{held_bytes, ahead, count_under}};
 ghost use Rattle.tn_client.specs.{Replies.{size_items, sent_as}, Calls.{LeadsTo, call_fault, propose_fault}};
 ghost use Rattle.tn_client.specs.Answering.{AnswersBy, Feeds, StopsWithin, SaysNothing, Untouched};
 ghost use Rattle.tn_client.specs.Steps.{end_after_key, says_key, says_new_line, says_typed, shows_key};
@@ -379,6 +379,14 @@ impl ClientEnd {
         ensures stands { (h : History) → LeadsTo h self.now → result ≡ chars h }
     {
         self.table.chars()
+    }
+
+    /// Whether the server has set a forward mask (RFC 1184, section 2.3).
+    pub fn forwards(&self) -> bool
+        ensures value { result ≡ is_some self.now.forward }
+        ensures stands { (h : History) → LeadsTo h self.now → result ≡ is_some (forward h) }
+    {
+        self.forward.is_some()
     }
 
     /// Where an option stands; `No` for each that no end knows.

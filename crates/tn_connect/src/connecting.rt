@@ -187,7 +187,7 @@ fn wait_for_looks(reader: &TcpStream, patience: u32) -> Result<(), ConnectFault>
     ensures fault { IfErr result IsOfNetwork }
 {
     if patience > 0 {
-        reader.set_read_timeout(Some(Duration::from_millis(LOOK)))?;
+        reader.set_read_timeout(Some(Duration::from_millis(u64::from(LOOK))))?;
     }
     Ok(())
 }
@@ -240,10 +240,14 @@ fn talk_from<H: Host, K: Read + Drop + Send + 'static, S: Write, Q: Queue>(
             talk_by(rt, alloc, incoming, outgoing, keys, screen, &connecting)
         },
         KeySource::Input => {
+            let Ok(link) = Arc::try_clone(&typing.link) else {
+                return Err(SessionFault::Memory);
+            };
             let keys = Patient {
                 rt,
                 keys: console_of(rt, alloc, typing, &connecting),
                 seconds: connecting.wait,
+                link,
                 is_over: flags.is_over,
                 has_ended: flags.has_ended,
             };
@@ -271,7 +275,7 @@ fn console_of<H: Host, K: Read + Drop>(
     Console::new(rt, alloc, typing, keyboard_of(connecting))
 }
 
-// The keys of a terminal, which are edited as lines while the server takes whole lines.
+// The keys of a terminal, which are edited as lines while the client holds lines until they end.
 fn line_keys_of<H: Host, K: Read + Drop>(
     rt: H,
     alloc: Global,
@@ -279,8 +283,8 @@ fn line_keys_of<H: Host, K: Read + Drop>(
     connecting: &Connecting,
 ) -> Result<LineKeys<H, K>, AllocError> {
     let mode = LineMode {
-        is_wanted: connecting.line_mode.is_some(),
-        limit: connecting.line_mode.unwrap_or(connecting.line_limit),
+        limit: connecting.line_mode,
+        session_limit: connecting.line_limit,
         editing: connecting.editing,
         returns: connecting.returns,
         screen: screen_of(&typing),

@@ -14,8 +14,7 @@ pub use fault::ConnectFault;
 pub use news::News;
 pub use settings::{ClientContext, Connecting, KeySource, Plain};
 pub use talks::{TalkReport, connect_plain};
-pub use tn_lines::LineEnd;
-pub use tn_lines_client::{Over, ReadLog};
+pub use tn_lines::{LineEnd, Over, ReadLog};
 pub use tn_network::{Dialing, Family};
 pub use tn_sockets::{
     EditKeys, EditorSettings, Host, Link, OwnCharacters, ReturnKey, Screen, Words,

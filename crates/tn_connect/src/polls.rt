@@ -2,7 +2,7 @@
 
 ghost use Rattle.std.specs.Prelude.{◌≡◌, Some, true};
 ghost use Rattle.tn_connect.specs.{Told.{TellsLine, speaks_telnet}, Warnings.count_in};
-ghost use Rattle.tn_lines_client.specs.Openings.{warned_on};
+ghost use Rattle.tn_lines.specs.Openings.{warned_on};
 ghost use Rattle.tn_streams.specs.Known.{known_writing};
 
 use crate::settings::{KeySource, Plain};
@@ -12,7 +12,7 @@ use libc::types::pollfd;
 use std::mem;
 use std::sync::Wait;
 use std::time::{Clock, Instant};
-use tn_lines_client::{Await, Ready, Wants};
+use tn_lines::{Await, Ready, Wants};
 use tn_sockets::Link;
 use tn_streams::{Drain, write_all};
 
@@ -33,7 +33,8 @@ const LEAVING: i32 = 1_000;
 
 const TELNET: &[u8] = b"tn: the other end speaks Telnet: leave out --plain\n";
 
-/// Waits by POSIX's `poll`. Keys of a reader of which nothing else is known can always be read.
+/// Waits by POSIX's `poll`. Keys of a reader of which nothing else is known can always be read, and so can keys that were
+/// read and wait to be taken.
 #[derive(Drop)]
 pub(crate) struct Polling<'a, H, E> {
     rt: H,
@@ -157,6 +158,9 @@ impl<'a, H: Clock + Copy + Wait, E> Polling<'a, H, E> {
         if wants.room && poll(&mut waited, LEAVING) > 0 && waited[0].revents & POLLOUT != 0 {
             return Ready::Room;
         }
+        if self.link.is_interrupted() {
+            return Ready::Interrupt;
+        }
         Ready::Leave
     }
 
@@ -205,7 +209,7 @@ impl<'a, H: Clock + Copy + Wait, E: Drain> Await for Polling<'a, H, E> {
         if self.link.is_left() {
             return self.leave(wants);
         }
-        if wants.keys && self.origin == KeySource::Reader {
+        if wants.keys && (self.origin == KeySource::Reader || self.link.has_keys()) {
             return Ready::Keys;
         }
         self.hears_next = !self.hears_next;

@@ -2,6 +2,7 @@
 
 use std::alloc::{AllocError, Global};
 use std::sync::Arc;
+use tn_discipline::Chars;
 use tn_session::{Gate, Origin, Place, Terms};
 use tn_sockets::Link;
 
@@ -30,6 +31,8 @@ impl Gate for Publisher {
     }
 
     fn agreed(&self, terms: Terms) {
+        let goes_whole = goes_whole(&terms);
+        self.link.note_whole(goes_whole);
         self.link.note_suppressed(terms.suppressed);
         self.link.note_editing(terms.linemode, terms.edits);
         self.link.note_echo(terms.echoed);
@@ -40,4 +43,10 @@ impl Gate for Publisher {
     fn over(&self) {
         self.link.close();
     }
+}
+
+// Whether a line that is edited here goes as a whole once it ends: a signal in it goes as its command, which leaves
+// the line as it is, no byte of it is in a forward mask, and the standard characters edit it.
+fn goes_whole(terms: &Terms) -> bool {
+    terms.traps && !terms.forwards && terms.chars == Chars::standard()
 }

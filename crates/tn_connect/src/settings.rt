@@ -61,6 +61,8 @@ pub struct Plain {
     pub port: u16,
     /// How many bytes a line that is typed at a terminal has at most.
     pub line_limit: Limit,
+    /// How lines are edited at a terminal.
+    pub editing: EditorSettings,
     pub line_end: LineEnd,
     /// Where the lines come from: they are edited where it is a terminal.
     pub origin: KeySource,

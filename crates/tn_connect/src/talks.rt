@@ -1,10 +1,8 @@
 //! `tn connect --plain`: a talk with a service that takes lines and negotiates nothing.
 
-ghost use Rattle.std.specs.Prelude.{◌≡◌, ◌≢◌, [], IfOk, Ok};
-ghost use Rattle.tn_connect.specs.{Clients.ConnectsBy, Talks.{kind_of, plain_keyboard, talked_over}};
-ghost use Rattle.tn_connect.specs.Talks.{HeardToTheEnd, HoldsTalk, HoldsTyped, RunsTalk, is_terminal};
-ghost use Rattle.tn_connect.specs.Warnings.{count_in};
-ghost use Rattle.tn_lines.specs.Kinds.{LeadsTo};
+ghost use Rattle.std.specs.Prelude.{◌≡◌, ◌≢◌, IfOk, Ok};
+ghost use Rattle.tn_connect.specs.{Clients.ConnectsBy, Talks.{RunsTalk, is_terminal}, Warnings.count_in};
+ghost use Rattle.tn_connect.specs.Talks.{plain_keyboard, talked_over, HeardToTheEnd, HoldsTalk, HoldsTyped};
 ghost use Rattle.tn_network.specs.{Asked.ReachesBy, Dialing.suits};
 
 use crate::causes::{note, note_log, note_unsent};
@@ -13,20 +11,19 @@ use crate::news::{tell_that_it_stands, wait_for_terminal};
 use crate::polls::Polling;
 use crate::settings::{ClientContext, KeySource, Plain};
 use crate::warnings::Warnings;
-use std::alloc::{AllocError, Global};
+use std::alloc::Global;
+use std::fs::File;
 use std::io::{Read, Write};
 use std::net::TcpStream;
 use std::os::fd::AsRawFd;
 use std::snapshot::Snapshot;
 use std::sync::Wait;
 use std::time::Clock;
-use tn_discipline::Settings;
-use tn_lines::{AnyLines, FileLines, KeyLines};
-use tn_lines_client::{Over, ReadLog, Talk, TalkFault};
+use tn_lines::{Over, ReadLog, Talk, TalkFault};
 use tn_network::{Network, reach_by};
 use tn_sockets::{
-    About, Connection, Host, Keyboard, Link, Logged, Noted, NotedWriter, PlainKeys, ReturnKey,
-    Terminal, Trace, WriteLog,
+    About, Connection, Host, Keyboard, LineSettings, Link, Logged, Noted, NotedWriter, PlainKeys,
+    PlainLines, ReturnKey, Sizes, Terminal, Trace, WriteLog,
 };
 use tn_streams::{Drain, Finish, Source};
 
@@ -34,7 +31,7 @@ use tn_streams::{Drain, Finish, Source};
 #[derive(Drop)]
 pub struct TalkReport {
     pub over: Over,
-    /// The keys that were read.
+    /// The lines that were read.
     pub typed: ReadLog,
     /// What the service said.
     pub heard: ReadLog,
@@ -46,19 +43,6 @@ pub struct TalkReport {
     pub warned: Warnings,
     /// The connection that it was held over, for contracts.
     pub connection: Snapshot<TcpStream>,
-}
-
-fn lines_of(alloc: Global, plain: Plain) -> Result<AnyLines, AllocError>
-    ensures { IfOk result (λ lines. LeadsTo (kind_of plain) [] lines) }
-{
-    let line_end = plain.line_end;
-    match plain.origin {
-        KeySource::Terminal(_) => {
-            let lines = KeyLines::new(alloc, Settings::standard(), plain.line_limit, line_end)?;
-            Ok(AnyLines::Typed(lines))
-        },
-        KeySource::Reader | KeySource::Input => Ok(AnyLines::Read(FileLines::new(line_end))),
-    }
 }
 
 /// Talks by these streams, until the service has closed, the connection is broken, or the user has left.
@@ -81,13 +65,12 @@ fn talk<
     screen: &mut S,
 ) -> Result<TalkReport, TalkFault>
     requires unwarned { count_in ready.warned ≡ 0 }
-    ensures talked { IfOk result (HoldsTalk plain (K.remaining keys) (S.contents screen.old)
+    ensures talked { IfOk result (HoldsTalk plain.line_end plain.origin (K.remaining keys) (S.contents screen.old)
         (S.contents screen.new)) }
     ensures connection { IfOk result (λ report. report.connection ≡ connection) }
     ensures closed { IfOk result (HeardToTheEnd (N.remaining service)) }
 {
-    let at_terminal = is_terminal(plain.origin);
-    let mut talk = Talk::new(alloc, lines_of(alloc, plain)?, at_terminal);
+    let mut talk = Talk::new(alloc, plain.line_end, is_terminal(plain.origin));
     let mut writer = Logged::new(writer);
     let over = talk.run(rt, &mut ready, &mut keys, &mut service, &mut writer, screen)?;
     let (_, told) = writer.into_parts();
@@ -140,7 +123,7 @@ pub fn connect_plain<H: Host + Network, K: Read + Drop, S: Write, E: Drain>(
     screen: &mut S,
     notes: ClientContext<'_, E>,
 ) -> Result<TalkReport, ConnectFault>
-    ensures talked { IfOk result (RunsTalk plain (K.remaining keys) (S.contents screen.old)
+    ensures talked { IfOk result (RunsTalk plain.line_end plain.origin (K.remaining keys) (S.contents screen.old)
         (S.contents screen.new)) }
     ensures reached { ConnectsBy talked_over
         (ReachesBy (suits plain.dialing) (H.finds rt host.now plain.port) (H.dials rt)) result }
@@ -174,6 +157,12 @@ pub fn connect_plain<H: Host + Network, K: Read + Drop, S: Write, E: Drain>(
     };
     let around = Around {
         about,
+        lines: LineSettings {
+            limit: plain.line_limit,
+            editing: plain.editing,
+            screen: copy_of(&terminal),
+            sizes: Sizes::new(sizes),
+        },
         terminal: Terminal::new(terminal, stands),
         trace: &trace,
     };
@@ -188,11 +177,17 @@ pub fn connect_plain<H: Host + Network, K: Read + Drop, S: Write, E: Drain>(
 #[derive(Drop)]
 struct Around<'a, H> {
     about: About<'a>,
+    lines: LineSettings,
     terminal: Terminal,
     trace: &'a Trace<H>,
 }
 
-// The same, over a connection that stands. It takes eight, as they go together nowhere else.
+// A terminal's file once more.
+fn copy_of(terminal: &Option<File>) -> Option<File> {
+    terminal.as_ref()?.try_clone().ok()
+}
+
+// Talks over a connection that stands. It takes eight, as they go together nowhere else.
 fn talk_over<H: Host, K: Read + Drop, S: Write, E: Drain>(
     rt: H,
     alloc: Global,
@@ -204,7 +199,7 @@ fn talk_over<H: Host, K: Read + Drop, S: Write, E: Drain>(
     around: Around<'_, H>,
 ) -> Result<Result<TalkReport, TalkFault>, ConnectFault>
     ensures talked { IfOk result (λ talked. IfOk talked
-        (HoldsTyped plain (K.remaining keys) (S.contents screen.old) (S.contents screen.new))) }
+        (HoldsTyped plain.line_end plain.origin (K.remaining keys) (S.contents screen.old) (S.contents screen.new))) }
     ensures connection { IfOk result (λ talked. IfOk talked (λ report. talked_over report ≡ stream)) }
 {
     let over = Snapshot::of(&stream);
@@ -212,6 +207,7 @@ fn talk_over<H: Host, K: Read + Drop, S: Write, E: Drain>(
     service.set_nonblocking(true)?;
     let Around {
         about,
+        lines,
         terminal,
         trace,
     } = around;
@@ -221,6 +217,13 @@ fn talk_over<H: Host, K: Read + Drop, S: Write, E: Drain>(
     let ready = Polling::new(rt, &plain, service.as_raw_fd(), errors, link);
     let service = Noted::new(service, link, trace);
     let connection = NotedWriter::new(connection, link, trace);
+    if is_terminal(plain.origin) {
+        let keys = PlainLines::new(rt, alloc, keys, link, lines)?;
+        let edited = talk(
+            &rt, alloc, plain, over, ready, keys, service, connection, screen,
+        );
+        return Ok(edited);
+    }
     let talked = talk(
         &rt, alloc, plain, over, ready, keys, service, connection, screen,
     );

@@ -4,16 +4,16 @@ ghost use Rattle.std.specs.{Prelude.{◌≡◌, None}, Io.{ReadsAtMost, KnownByt
 ghost use Rattle.tn_streams.specs.Beside.{TellsNext};
 
 use std::alloc::Global;
+use std::io;
 use std::io::{ErrorKind, Read};
 use std::sync::atomic::{AtomicBool, Ordering};
 use std::sync::{Arc, Wait};
-use std::time::{Clock, Duration};
-use std::{io, thread};
+use std::time::Clock;
 use tn_sockets::Link;
 use tn_streams::{Source, WindowSize, nothing_to_say};
 
 /// After how many milliseconds it is looked whether more can come, and how often that is in a second.
-pub(crate) const LOOK: u64 = 200;
+pub(crate) const LOOK: u16 = 200;
 
 pub(crate) const LOOKS: u64 = 5;
 
@@ -99,6 +99,7 @@ pub(crate) struct Patient<H, K> {
     pub(crate) rt: H,
     pub(crate) keys: K,
     pub(crate) seconds: u32,
+    pub(crate) link: Arc<Link, Global>,
     pub(crate) is_over: Arc<AtomicBool, Global>,
     pub(crate) has_ended: Arc<AtomicBool, Global>,
 }
@@ -109,7 +110,7 @@ impl<H: Clock + Wait, K> Patient<H, K> {
             if self.is_over.load(Ordering::SeqCst) {
                 return;
             }
-            thread::sleep(&self.rt, Duration::from_millis(LOOK));
+            self.link.wait_for_close(&self.rt, LOOK);
         }
     }
 }

@@ -1,3 +1,4 @@
 pub mod Typing
 pub mod AsBefore
 pub mod Recalling
+pub mod Entering

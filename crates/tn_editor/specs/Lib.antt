@@ -4,6 +4,7 @@ pub mod Edited
 pub mod Expanding
 pub mod EditedLines
 pub mod Changing
+pub mod Entering
 pub mod Following
 pub mod Whole
 pub mod Recalling

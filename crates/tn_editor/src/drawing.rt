@@ -12,6 +12,9 @@ use tn_codes::Func;
 use tn_discipline::{BELL, Limit, Role, Sig};
 use unicode_width::UnicodeWidthChar;
 
+/// Wipes the screen after the cursor (ECMA-48, ED).
+const WIPE: &[u8] = b"\x1b[J";
+
 /// Bytes that are no character are shown as U+FFFD.
 const BROKEN: &[u8] = b"\xef\xbf\xbd";
 
@@ -140,6 +143,75 @@ impl Drawn {
     /// - Out of memory: a part of it was appended, or nothing.
     pub fn again(&mut self, editor: &Editor, out: &mut Vec<u8>) -> Result<(), AllocError> {
         self.follow(editor, out)
+    }
+
+    /// Appends what shows these bytes after the half line. The cursor stays at the end of the half line, and what is
+    /// shown is not part of it: `wipe_rest` takes it away before anything else is drawn.
+    ///
+    /// # Errors
+    ///
+    /// - Out of memory: a part of it was appended, or nothing.
+    pub fn rest(
+        &mut self,
+        editor: &Editor,
+        rest: &[u8],
+        out: &mut Vec<u8>,
+    ) -> Result<(), AllocError> {
+        if rest.is_empty() || !editor.roles.settings().flags.echo {
+            return Ok(());
+        }
+        let end = self.cursor;
+        let mut from = 0usize;
+        for _ in 0..rest.len() {
+            let left = rest.get(from..).unwrap_or(&[]);
+            let bytes = first_character(left, editor.keys.iutf8);
+            if bytes.is_empty() {
+                break;
+            }
+            from = from.saturating_add(bytes.len());
+            self.put(
+                bytes,
+                whole_look(bytes, editor.keys.iutf8, self.echoctl),
+                out,
+            )?;
+        }
+        self.return_to(end, out)
+    }
+
+    /// Appends what wipes all that is shown after the cursor.
+    ///
+    /// # Errors
+    ///
+    /// - Out of memory: a part of it was appended, or nothing.
+    pub fn wipe_rest(&self, out: &mut Vec<u8>) -> Result<(), AllocError> {
+        out.extend_from_slice(WIPE)
+    }
+
+    // Goes back, and leaves what is there.
+    fn return_to(&mut self, target: usize, out: &mut Vec<u8>) -> Result<(), AllocError> {
+        let window = self.window();
+        let rows = (self.cursor / window).saturating_sub(target / window);
+        if rows == 0 {
+            for _ in 0..self.cursor.saturating_sub(target) {
+                out.push(8)?;
+            }
+        } else {
+            self.go_up(rows, target % window, out)?;
+        }
+        self.cursor = target;
+        Ok(())
+    }
+
+    // Goes so many rows up, to this column.
+    fn go_up(&self, rows: usize, column: usize, out: &mut Vec<u8>) -> Result<(), AllocError> {
+        for _ in 0..rows {
+            out.extend_from_slice(b"\x1b[A")?;
+        }
+        out.push(b'\r')?;
+        for _ in 0..column {
+            out.extend_from_slice(b"\x1b[C")?;
+        }
+        Ok(())
     }
 
     // The window's columns: without an edge as many as a line can take.
@@ -324,17 +396,28 @@ impl Drawn {
                 out.extend_from_slice(b"\x08 \x08")?;
             }
         } else {
-            for _ in 0..rows {
-                out.extend_from_slice(b"\x1b[A")?;
-            }
-            out.push(b'\r')?;
-            for _ in 0..target % window {
-                out.extend_from_slice(b"\x1b[C")?;
-            }
-            out.extend_from_slice(b"\x1b[J")?;
+            self.go_up(rows, target % window, out)?;
+            out.extend_from_slice(WIPE)?;
         }
         self.cursor = target;
         Ok(())
+    }
+}
+
+/// The bytes of the first of some characters.
+pub fn first_character(bytes: &[u8], iutf8: bool) -> &[u8] {
+    let Some(first) = bytes.first() else {
+        return bytes;
+    };
+    let length = usize::from(announced(iutf8, *first)).min(bytes.len());
+    bytes.get(..length).unwrap_or(bytes)
+}
+
+// How a character is drawn that has these bytes, and no more.
+fn whole_look(bytes: &[u8], iutf8: bool, echoctl: bool) -> Look {
+    match look_of(bytes, iutf8, echoctl) {
+        Look::Unfinished => Look::Broken,
+        look => look,
     }
 }
 

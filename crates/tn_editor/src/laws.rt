@@ -1,14 +1,15 @@
 //! Laws of the definitions.
 
+ghost use Rattle.tn_editor.specs.Edited.{nothing_typed};
 ghost use Rattle.std.specs.Prelude.{◌≡◌, ℕ, Some, List, All, [], ◌∷◌, ◌++◌};
 ghost use Rattle.tn_discipline.specs.{Canon.{Canon, typed_entries, typed_half}, Characters.AreAllowed};
 ghost use Rattle.tn_discipline.specs.{Entries.{entries_of, half_of}, declared.keys.Role.Role};
-ghost use Rattle.tn_editor.specs.{EditKeys.{Terminal, edit_role_of_key, edit_roles_of}};
-ghost use Rattle.tn_editor.specs.Edited.{Editing, after_half, line_bytes, edited_next, edited_all};
-ghost use Rattle.tn_editor.specs.Edited.{edited, edited_entries, edited_half};
-ghost use Rattle.tn_editor.specs.{Whole.{IsCharacter, IsWholeOrNone, bytes_typed}, Expanding.{expanded, expanded_key}};
-ghost use Rattle.tn_editor.specs.{Recalling.{IsItself, recalling}, Expanding.expanded_from};
-ghost use Rattle.tn_editor.specs.{Expanding.IsAsBefore, Changing.{Typed, typed_all, typed_gains, expanded_roles}};
+ghost use Rattle.tn_editor.specs.{EditKeys.{Terminal, edit_role_of_key, edit_roles_of}, Entering.whole_lines};
+ghost use Rattle.tn_editor.specs.Edited.{Editing, after_half, line_bytes, edited_next, edited_all, edited};
+ghost use Rattle.tn_editor.specs.{Edited.{edited_entries, edited_half}, Recalling.{IsItself, recalling}};
+ghost use Rattle.tn_editor.specs.Whole.{IsCharacter, IsWholeOrNone, bytes_typed};
+ghost use Rattle.tn_editor.specs.Expanding.{expanded, expanded_key, expanded_from, IsAsBefore};
+ghost use Rattle.tn_editor.specs.Changing.{Typed, typed_all, typed_gains, expanded_roles};
 
 /// For every list of keys, the keys that they become give at a plain terminal the entries, and leave the half
 /// line, that they give and leave at a terminal with the editing keys.
@@ -30,6 +31,15 @@ pub fn expanded_roles_edit_the_line()
     ensures half { (canon : Canon) (before : List Role) (typed : List Typed) →
         let e = after_half (half_of canon.limit before) in
         half_of canon.limit (before ++ expanded_roles canon e typed) ≡ line_bytes (typed_all canon e typed) }
+{}
+
+/// If a line goes to a plain terminal once it ends, and a signal at once, that terminal gives the entries that a terminal
+/// with the editing keys gives, whatever was typed there before, if no half line was left. So all settings may change
+/// within a line.
+pub fn whole_lines_give_the_entries()
+    ensures { (canon : Canon) (before : List Role) (typed : List Typed) → half_of canon.limit before ≡ [] →
+        entries_of canon.limit (before ++ whole_lines canon nothing_typed typed)
+        ≡ entries_of canon.limit before ++ typed_gains canon nothing_typed typed }
 {}
 
 /// One more key goes on from what the keys before it left.

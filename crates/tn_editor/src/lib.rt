@@ -14,7 +14,7 @@
 #![tactic(auto)]
 
 pub use cursor_keys::{Arrow, Arrows, Pressed};
-pub use drawing::Drawn;
+pub use drawing::{Drawn, first_character};
 pub use edit_keys::{EditKeys, EditRole, Words};
 pub use editor::{Editor, Presses};
 pub use history::History;

@@ -4,7 +4,8 @@ use Rattle.std.specs.Prelude.{◌≡◌, ℕ, IsTrue, Option, Some, List}
 use Rattle.crossbeam_channel.specs.Claims.{view}
 use Rattle.tn_connect.specs.{Clients.{RunsClient, window_of}, Sent.TookWhatWasWritten}
 use Rattle.tn_connect.specs.declared.{connected.Connected.Connected, settings.Connecting.Connecting}
-use Rattle.tn_discipline.specs.{Canon.typed_entries, declared.reads.Entry.Entry}
+use Rattle.tn_discipline.specs.{Canon.typed_entries, Keys.roles_of, declared.reads.Entry.Entry}
+use Rattle.tn_editor.specs.{Changing.{Typed, typed_gains}, Edited.nothing_typed, Entering.whole_lines}
 use Rattle.tn_two_sessions.specs.Transcripts.{IsCarried, keys_of}
 use Rattle.tn_serve.specs.{Servers.{RunsServer, terminal_of}, declared.conversed.Conversed.Conversed}
 use Rattle.tn_serve.specs.declared.settings.SessionOptions.{SessionOptions}
@@ -72,3 +73,15 @@ abbrev pub HeadlineOfPrograms : {J : Type 0} → JobFacts J → Type 0
 HeadlineOfPrograms facts =
     (p : Programs facts) → p.connecting.line_limit ≡ p.options.line_limit
     → IsCarried (server_transcript p) (client_transcript p) → ReadsWhatIsTyped p
+
+-- The keys that the client read are those of lines that were edited before, each of which went once it ended: then the job
+-- took a prefix of the entries that one local terminal with the editing keys gives for what was typed, and all of
+-- them if both ran to the end.
+abbrev pub ReadsEditedLines : {J : Type 0} → JobFacts J → Type 0
+ReadsEditedLines facts =
+    (p : Programs facts) (typed : List Typed) → p.connecting.line_limit ≡ p.options.line_limit
+    → IsCarried (server_transcript p) (client_transcript p)
+    → (let canon = (terminal_of p.options).canon in
+    roles_of canon.settings (keys_of canon.settings p.joined.inputs) ≡ whole_lines canon nothing_typed typed
+    → let given = typed_gains canon nothing_typed typed in
+    IsPrefixOf (taken p) given × (RanToTheEnd p → taken p ≡ given))

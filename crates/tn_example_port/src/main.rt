@@ -12,7 +12,7 @@ use std::net::{Ipv4Addr, TcpListener, TcpStream};
 use std::{io, thread};
 use tn_discipline::{Entry, Text};
 use tn_jobs::{After, Job, Reaction};
-use tn_serve::{Call, Finished, Never, Service, Serving, serve_on};
+use tn_serve::{Call, Finished, Never, Peer, Service, Serving, serve_on};
 use tn_session::Maker;
 
 fn main(rt: HostRuntime) -> io::Result<()> {
@@ -30,6 +30,13 @@ fn main(rt: HostRuntime) -> io::Result<()> {
     Ok(())
 }
 
+fn is_of_this_machine(peer: Peer) -> bool {
+    match peer {
+        Peer::Address(address) => address.ip().is_loopback(),
+        Peer::Unix => true,
+    }
+}
+
 #[derive(Drop)]
 struct Quoters;
 
@@ -40,7 +47,7 @@ impl Service for Quoters {
 
     // Clients of this machine alone are quoted.
     fn session(&mut self, _alloc: Global, call: Call) -> Result<OneQuoter, AllocError> {
-        Ok(OneQuoter(call.peer.ip().is_loopback()))
+        Ok(OneQuoter(is_of_this_machine(call.peer)))
     }
 
     fn ended(&mut self, _number: usize, _finished: &Finished) {}

@@ -1,14 +1,26 @@
 -- What the job says.
-use Rattle.std.specs.Prelude.{ℕ, List, ◌++◌, codes}
+use Rattle.std.specs.Prelude.{◌≡◌, ℕ, Option, Some, None, List, ◌++◌, codes}
 use Rattle.tn_discipline.specs.declared.reads.Entry.{Entry, TheVariants.{Text, Eof, Signal}}
 use Rattle.tn_jobs.specs.declared.{reactions.Reaction.Reaction, verdicts.After.After}
-use Rattle.tn_jobs.specs.declared.verdicts.After.TheVariants.{Stay, Done}
+use Rattle.tn_jobs.specs.declared.verdicts.After.TheVariants.{Done, Hide, Show}
 
 abbrev pub says : List ℕ → After → Reaction
 says words after = record { text = words; after = after }
 
--- a name is greeted, a signal asks for one, and the end of the file ends the job
-abbrev pub answer : Entry → Reaction
-answer (Text name) = says (codes "hello, " ++ name) Stay
-answer (Signal sig) = says (codes "name?\n") Stay
-answer Eof = says (codes "bye\n") Done
+abbrev pub bye : Reaction
+bye = says (codes "bye\n") Done
+
+-- after a name its password is asked for, which is not echoed, and then the name is greeted; at a signal the
+-- user reads the size of the window, which no clause knows; the end of the file ends the job
+abbrev pub Answers : Entry → Option (List ℕ) → Reaction → Type 0
+Answers (Text name) None reaction = reaction ≡ says (codes "password: ") Hide
+Answers (Text password) (Some name) reaction = reaction ≡ says (codes "\nhello, " ++ name) Show
+Answers (Signal sig) name reaction = reaction.after ≡ Show
+Answers Eof name reaction = reaction ≡ bye
+
+-- the name whose password is asked for, after this entry
+abbrev pub asked : Entry → Option (List ℕ) → Option (List ℕ)
+asked (Text name) None = Some name
+asked (Text password) (Some name) = None
+asked (Signal sig) name = None
+asked Eof name = None

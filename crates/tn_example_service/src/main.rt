@@ -8,7 +8,9 @@ use std::alloc::{AllocError, Global};
 use std::env;
 use std::io::Write;
 use std::process::ExitCode;
-use tn_serve::{At, Call, Finished, Never, Service, Serving, serve};
+use tn_discipline::Text;
+use tn_serve::{At, Call, Finished, Hook, Host, Never, Service, Serving, serve};
+use tn_services::{Greeted, Greeting};
 use tn_session::Maker;
 
 mod greeter;
@@ -39,10 +41,10 @@ fn main(rt: HostRuntime) -> ExitCode {
     let served = serve(
         rt,
         alloc,
-        at,
+        &[at],
         serving,
         Never,
-        Greeters,
+        Greeters { _rt: rt },
         &Discard,
         &mut causes,
     );
@@ -59,30 +61,41 @@ fn port_of(rt: &HostRuntime, alloc: Global) -> Option<u16> {
     words.get(1)?.as_str().parse::<u16>().ok()
 }
 
-/// Gives each session a job of its own.
+/// What each user reads first.
+const FIRST: &[u8] = b"name?\n";
+
+/// Gives each session a job of its own, whose user reads `FIRST` first. What a job waits for wants the handle.
 #[derive(Drop)]
-struct Greeters;
+struct Greeters<H> {
+    _rt: H,
+}
 
-impl Service for Greeters {
-    type Job = Greeter;
+impl<H: Host> Service for Greeters<H> {
+    type Job = Greeted<Greeter>;
 
-    type Jobs = OneJob;
+    type Jobs = Greeting<OneJob>;
 
-    fn session(&mut self, _alloc: Global, _call: Call) -> Result<OneJob, AllocError> {
-        Ok(OneJob(Some(Greeter)))
+    fn session(&mut self, alloc: Global, call: Call) -> Result<Greeting<OneJob>, AllocError> {
+        let mut text = Vec::new(alloc);
+        text.extend_from_slice(FIRST)?;
+        let Call { hook, .. } = call;
+        Ok(Greeting::new(OneJob(Some(hook)), Text::from(text)))
     }
 
     fn ended(&mut self, _number: usize, _finished: &Finished) {}
 }
 
-// Gives the job, unless it was given already.
+// Makes the job, which gets the hook, unless it was made already.
 #[derive(Drop)]
-struct OneJob(Option<Greeter>);
+struct OneJob(Option<Hook>);
 
 impl Maker for OneJob {
     type Job = Greeter;
 
     fn next(&mut self, _alloc: Global) -> Result<Option<Greeter>, AllocError> {
-        Ok(self.0.take())
+        match self.0.take() {
+            Some(hook) => Ok(Some(Greeter::new(Some(hook)))),
+            None => Ok(None),
+        }
     }
 }

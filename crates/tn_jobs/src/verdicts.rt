@@ -1,7 +1,7 @@
 //! What becomes of a job after each of its steps (POSIX.1-2017, XBD 11.1.4).
 
 ghost use Rattle.std.specs.Prelude.{◌≡◌};
-ghost use Rattle.tn_jobs.specs.Judging.{judged};
+ghost use Rattle.tn_jobs.specs.Judging.{echo_asked, judged};
 
 /// What a job does next, after the text that it wrote.
 #[derive(Clone, Copy, Debug, PartialEq, Eq)]
@@ -14,6 +14,23 @@ pub enum After {
     Done,
     /// It stops itself, as at the signal of the SUSP character.
     Stop,
+    /// It goes on, and what is typed from now on is not echoed, as while a password is typed.
+    Hide,
+    /// It goes on, and what is typed from now on is echoed.
+    Show,
+}
+
+impl After {
+    /// Whether what is typed from now on is to be echoed. `None` leaves the echo as it is.
+    pub fn echo(self) -> Option<bool>
+        ensures { result ≡ echo_asked self }
+    {
+        match self {
+            After::Hide => Some(false),
+            After::Show => Some(true),
+            After::Stay | After::WantsInput | After::Done | After::Stop => None,
+        }
+    }
 }
 
 /// Where a job stands.
@@ -53,8 +70,12 @@ pub fn judge(state: JobState, wrote: bool, after: After, tostop: bool) -> Option
         (JobState::Stopped(_), _) | (JobState::Ended, _) => return None,
         (JobState::Background, _) if wrote && tostop => (false, JobState::Stopped(Why::Ttou)),
         (JobState::Background, After::WantsInput) => (wrote, JobState::Stopped(Why::Ttin)),
-        (JobState::Foreground, After::WantsInput | After::Stay) => (wrote, JobState::Foreground),
-        (JobState::Background, After::Stay) => (wrote, JobState::Background),
+        (JobState::Foreground, After::WantsInput | After::Stay | After::Hide | After::Show) => {
+            (wrote, JobState::Foreground)
+        },
+        (JobState::Background, After::Stay | After::Hide | After::Show) => {
+            (wrote, JobState::Background)
+        },
         (_, After::Stop) => (wrote, JobState::Stopped(Why::Tstp)),
         (_, After::Done) => (wrote, JobState::Ended),
     };

@@ -1,7 +1,7 @@
 pub mod Ends
-pub mod Taking
-pub mod Parts
-pub mod Moving
-pub mod Typing
 pub mod Reading
 pub mod Showing
+pub mod Writing
+pub mod FirstBytes
+pub mod Going
+pub mod Ending

@@ -1,8 +1,7 @@
 -- A file that is read in pieces.
 use Rattle.std.proofs.Common.{◌≡◌, ◌<◌, ℕ, ◌+◌, ◌==◌, Bool, false, List, [], ◌∷◌, ◌++◌, length, take, get_or, refl, sym, ap, ◌∙◌, append-nil, append_assoc}
 use Rattle.std.proofs.lemmas.List.{take_more}
-use Rattle.tn_lines.specs.{Files.{byte_said, said_from, ends_in_return, said_of_file, Reads}, declared.file_lines.FileLines.FileLines}
-use Rattle.tn_lines.specs.declared.line_ends.LineEnd.{LineEnd}
+use Rattle.tn_lines.specs.{Said.{byte_said, said_from, ends_in_return, said_of, Reads}, declared.{lines.Lines.Lines, line_ends.LineEnd.LineEnd}}
 
 pub said_from-append : (e : LineEnd) (after : Bool) (xs ys : List ℕ)
     → said_from e after (xs ++ ys) ≡ said_from e after xs ++ said_from e (ends_in_return after xs) ys
@@ -15,14 +14,14 @@ pub ends-append : (after : Bool) (xs ys : List ℕ) → ends_in_return after (xs
 ends-append after [] ys = refl
 ends-append after (x ∷ xs) ys = ends-append (x == 13) xs ys
 
-pub reads_all : (old new : FileLines) (bytes said : List ℕ) → new.line_end ≡ old.line_end → new.after_return ≡ ends_in_return old.after_return bytes
+pub reads_all : (old new : Lines) (bytes said : List ℕ) → new.line_end ≡ old.line_end → new.after_return ≡ ends_in_return old.after_return bytes
     → said ≡ said_from old.line_end old.after_return bytes → Reads old bytes said new
 reads_all old new bytes said same after is = record {
   leads = λ before had. after ∙ ap (λ (b : Bool). ends_in_return b bytes) had ∙ sym (ends-append false before bytes);
   says = λ before had.
       said_from-append old.line_end false before bytes
-      ∙ ap (λ (b : Bool). said_of_file old.line_end before ++ said_from old.line_end b bytes) (sym had)
-      ∙ ap (λ (l : List ℕ). said_of_file old.line_end before ++ l) (sym is);
+      ∙ ap (λ (b : Bool). said_of old.line_end before ++ said_from old.line_end b bytes) (sym had)
+      ∙ ap (λ (l : List ℕ). said_of old.line_end before ++ l) (sym is);
   line_end = same;
 }
 

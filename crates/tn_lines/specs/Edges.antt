@@ -1,20 +1,20 @@
--- What a screen shows of what a service says: its bytes as they are, and at a terminal a carriage return
--- before each line feed that has none.
+-- The bytes that a screen shows of what a service says: as they are, and at a terminal with a carriage return before each
+-- line feed that has none.
 use Rattle.std.specs.Prelude.{◌≡◌, ℕ, ◌==◌, Bool, false, not, ◌&&◌, List, [], ◌∷◌, ◌++◌, if◌then◌else◌}
-use Rattle.tn_lines.specs.{Files.ends_in_return, declared.left_edge.LeftEdge.LeftEdge}
+use Rattle.tn_lines.specs.{Said.ends_in_return, declared.left_edge.LeftEdge.LeftEdge}
 
 abbrev pub byte_shown : Bool → Bool → ℕ → List ℕ
 byte_shown at_terminal after_return byte =
     if byte == 10 then (if at_terminal && not after_return then 13 ∷ 10 ∷ [] else byte ∷ []) else byte ∷ []
 
--- where a carriage return came before them, or not
-abbrev pub shown_behind : Bool → Bool → List ℕ → List ℕ
-shown_behind at_terminal after_return [] = []
-shown_behind at_terminal after_return (byte ∷ bytes) =
-    byte_shown at_terminal after_return byte ++ shown_behind at_terminal (byte == 13) bytes
+-- a carriage return came before them, or did not
+abbrev pub shown_from : Bool → Bool → List ℕ → List ℕ
+shown_from at_terminal after_return [] = []
+shown_from at_terminal after_return (byte ∷ bytes) =
+    byte_shown at_terminal after_return byte ++ shown_from at_terminal (byte == 13) bytes
 
 abbrev pub at_screen : Bool → List ℕ → List ℕ
-at_screen at_terminal bytes = shown_behind at_terminal false bytes
+at_screen at_terminal bytes = shown_from at_terminal false bytes
 
 -- these bytes were taken
 abbrev pub HasShown : List ℕ → LeftEdge → Type 0

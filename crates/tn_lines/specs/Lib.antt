@@ -1,9 +1,7 @@
 pub mod LineEnds
-pub mod Taken
 pub mod Said
-pub mod Shown
-pub mod Steps
-pub mod Leading
-pub mod Files
-pub mod Kinds
 pub mod Edges
+pub mod Ending
+pub mod Logs
+pub mod Openings
+pub mod Talking

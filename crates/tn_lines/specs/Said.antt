@@ -1,27 +1,35 @@
--- What a service is told of typed keys: the lines of the entries that they give at the user's terminal, each
--- once, in order, each with its line end, up to the end of file.
-use Rattle.std.specs.Prelude.{ℕ, Bool, true, false, List, [], ◌∷◌, ◌++◌}
-use Rattle.tn_discipline.specs.{Canon.Canon, Entries.entries_of, declared.reads.Entry.Entry}
-use Rattle.tn_discipline.specs.declared.reads.Entry.TheVariants.{Text, Eof, Signal}
-use Rattle.tn_lines.specs.{LineEnds.line_said, Taken.taken, declared.line_ends.LineEnd.LineEnd}
+-- The bytes that a service gets of lines: theirs as they are, and for each line end, which is CR, LF or CR LF, the one
+-- that was chosen.
+use Rattle.std.specs.Prelude.{◌≡◌, ℕ, ◌==◌, Bool, false, List, [], ◌∷◌, ◌++◌, if◌then◌else◌}
+use Rattle.tn_lines.specs.{LineEnds.end_bytes, declared.{line_ends.LineEnd.LineEnd, lines.Lines.Lines}}
 
--- a line that the end of file closed has no line feed, and goes as it is
-abbrev pub due : LineEnd → List Entry → List ℕ
-due line_end [] = []
-due line_end (Text line ∷ entries) = line_said line_end line ++ due line_end entries
-due line_end (Signal sig ∷ entries) = due line_end entries
-due line_end (Eof ∷ entries) = []
+-- a line feed after a carriage return ends the same line
+abbrev pub byte_said : LineEnd → Bool → ℕ → List ℕ
+byte_said line_end after_return byte =
+    if byte == 13 then end_bytes line_end
+    else (if byte == 10 then (if after_return then [] else end_bytes line_end) else byte ∷ [])
 
--- the end of file is among them
-abbrev pub has_ended : List Entry → Bool
-has_ended [] = false
-has_ended (Text line ∷ entries) = has_ended entries
-has_ended (Signal sig ∷ entries) = has_ended entries
-has_ended (Eof ∷ entries) = true
+-- a carriage return came before them, or did not
+abbrev pub said_from : LineEnd → Bool → List ℕ → List ℕ
+said_from line_end after_return [] = []
+said_from line_end after_return (byte ∷ bytes) =
+    byte_said line_end after_return byte ++ said_from line_end (byte == 13) bytes
 
--- the entries of the keys that are taken
-abbrev pub entries_taken : Canon → List ℕ → List Entry
-entries_taken canon keys = entries_of canon.limit (taken canon keys)
+-- a carriage return is the last of them, or came before them if there is none
+abbrev pub ends_in_return : Bool → List ℕ → Bool
+ends_in_return after_return [] = after_return
+ends_in_return after_return (byte ∷ bytes) = ends_in_return (byte == 13) bytes
 
-abbrev pub said_of : Canon → LineEnd → List ℕ → List ℕ
-said_of canon line_end keys = due line_end (entries_taken canon keys)
+abbrev pub said_of : LineEnd → List ℕ → List ℕ
+said_of line_end bytes = said_from line_end false bytes
+
+-- these bytes were read
+abbrev pub LeadsTo : List ℕ → Lines → Type 0
+LeadsTo bytes lines = lines.after_return ≡ ends_in_return false bytes
+
+-- Whatever was read before, with these bytes it leads to the new lines; and these bytes more are said.
+pub record Reads (old : Lines) (bytes said : List ℕ) (new : Lines) : Type 0 where
+  pub leads : (before : List ℕ) → LeadsTo before old → LeadsTo (before ++ bytes) new
+  pub says : (before : List ℕ) → LeadsTo before old
+      → said_of old.line_end (before ++ bytes) ≡ said_of old.line_end before ++ said
+  pub line_end : new.line_end ≡ old.line_end

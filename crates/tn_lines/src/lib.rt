@@ -1,28 +1,32 @@
-//! What goes to a service that takes lines and negotiates nothing: the lines that a user edits at a terminal
-//! of its own, or those of a file, each with the line end that was chosen.
+//! A client for services that take lines and negotiate nothing: `tn connect --plain`.
 //!
 //! ```
-//! let mut lines = KeyLines::new(alloc, Settings::standard(), Limit::standard(), LineEnd::CrLf)?;
-//! lines.take(b"PINH\x7fG\r", &mut output)?; // said: "PING\r\n"; shown: "PINH\x08 \x08G\r\n"
-//! let mut lines = FileLines::new(LineEnd::CrLf);
-//! lines.take(b"PING\n", &mut output)?; // said: "PING\r\n"; nothing is shown
+//! let mut lines = Lines::new(LineEnd::CrLf);
+//! lines.take(b"PING\n", &mut said)?; // said: "PING\r\n"
+//! let mut talk = Talk::new(alloc, LineEnd::CrLf, at_terminal);
+//! let over = talk.run(&rt, &mut ready, &mut keys, &mut service, &mut connection, &mut screen)?;
 //! ```
 //!
-//! It reads and writes nothing itself. A terminal's keys are edited as `tn_discipline` says; of a file
-//! nothing is edited.
+//! One begins with `Talk`, and with `Await`, which tells it what can be done next. A thread waits until keys or bytes of the
+//! service can be read, or the connection takes more. Nothing is proved of the order in which that is: what is sent and
+//! shown is proved for every order.
 #![tactic(auto)]
 
-pub use any_lines::AnyLines;
-pub use file_lines::FileLines;
-pub use key_lines::KeyLines;
+pub use fault::TalkFault;
 pub use left_edge::LeftEdge;
 pub use line_ends::LineEnd;
-pub use outputs::Output;
+pub use lines::Lines;
+pub use read_log::ReadLog;
+pub use ready::{Await, Ready, Wants};
+pub use talk::{Over, Talk};
 
-mod any_lines;
-mod file_lines;
-mod key_lines;
+mod fault;
 pub mod laws;
 mod left_edge;
 mod line_ends;
-mod outputs;
+mod lines;
+mod opening;
+mod read_log;
+mod ready;
+mod talk;
+mod unsent;

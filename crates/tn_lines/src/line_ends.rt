@@ -1,9 +1,7 @@
 //! How a line ends on its way to a service.
 
-ghost use Rattle.std.specs.Prelude.{◌≡◌, [], ◌∷◌, ◌++◌, OnOk};
-ghost use Rattle.tn_lines.specs.LineEnds.{end_bytes, line_said};
-
-use std::alloc::AllocError;
+ghost use Rattle.std.specs.Prelude.{◌≡◌};
+ghost use Rattle.tn_lines.specs.LineEnds.{end_bytes};
 
 /// What stands at the end of each line that a service gets.
 #[derive(Clone, Copy, Debug, PartialEq, Eq)]
@@ -27,22 +25,4 @@ impl LineEnd {
             LineEnd::Cr => b"\r",
         }
     }
-}
-
-/// Appends the line of these bytes and one more behind them, as a service gets it.
-pub(crate) fn say_line(
-    front: &[u8],
-    last: u8,
-    line_end: LineEnd,
-    said: &mut Vec<u8>,
-) -> Result<(), AllocError>
-    ensures { OnOk result (said.new.items ≡ said.old.items ++ line_said line_end (front.now ++ last ∷ [])) }
-{
-    said.extend_from_slice(front)?;
-    if last == b'\n' {
-        said.extend_from_slice(line_end.bytes())?;
-        return Ok(());
-    }
-    said.push(last)?;
-    Ok(())
 }

@@ -10,3 +10,4 @@ pub mod Agreeing
 pub mod Handling
 pub mod Turning
 pub mod Requesting
+pub mod Echoing

@@ -9,3 +9,4 @@ pub mod Hearing
 pub mod Agreeing
 pub mod Welcoming
 pub mod Requests
+pub mod Echoing

@@ -1,7 +1,11 @@
 //! What is asked of a network.
 
 use crate::handed::{connection_of, listener_at};
+use crate::paths;
+use crate::paths::{is_unix, names_path};
+use crate::peers::Peer;
 use crate::sourced::dial_from;
+use std::fs::{File, Files};
 use std::io;
 use std::io::{ErrorKind, Write};
 use std::net::{
@@ -15,15 +19,17 @@ pub trait Network {
     ghost use Rattle.std.specs.{Prelude.{ℕ, List, Option, Result}, declared.io.Error.Error};
     ghost use Rattle.std.specs.declared.net.{socket_addr.SocketAddr.SocketAddr, tcp.TcpListener.TcpListener};
     ghost use Rattle.std.specs.{declared.net.tcp.TcpStream.TcpStream, Net.ToAddrs.HostAddrs};
+    ghost use Rattle.tn_network.specs.declared.peers.Peer.{Peer};
 
-    // a listener at this host and this port, or the one that is handed in at this descriptor
+    // a listener at this host and this port, at this path, which is `unix:` and a path for a host, or the one
+    // that is handed in at this descriptor
     ghost listens: { Self → List ℕ → ℕ → Option ℕ → Result TcpListener Error → Type 0 };
 
     // one more handle of the same listener
     ghost shares: { Self → TcpListener → Result TcpListener Error → Type 0 };
 
-    // the connection of this number, counted from 0, of this listener
-    ghost accepts: { Self → TcpListener → ℕ → Result (TcpStream × SocketAddr) Error → Type 0 };
+    // a connection of this listener, as the one of this number, counted from 0
+    ghost accepts: { Self → TcpListener → ℕ → Result (TcpStream × Peer) Error → Type 0 };
 
     // a connection is told these words and that no more comes
     ghost dismisses: { Self → TcpStream → List ℕ → TcpStream → Type 0 };
@@ -34,17 +40,24 @@ pub trait Network {
     // a connection to this address
     ghost dials: { Self → SocketAddr → Result TcpStream Error → Type 0 };
 
-    /// Listens at a host, an address or a name that has one; or at the socket that the process was started
-    /// with at this descriptor. If that socket is a connection, it is the first that comes.
+    // a connection to the socket of this name, which is `unix:` and its path
+    ghost joins: { Self → List ℕ → Result TcpStream Error → Type 0 };
+
+    /// Listens at a host, an address or a name that has one, or `unix:` and the path of a socket, which has
+    /// no port; or at the socket that the process was started with at this descriptor. If that socket is a
+    /// connection, it is the first that comes.
     fn listen(&self, host: &str, port: u16, handed: Option<u16>) -> io::Result<TcpListener>
         ensures { listens self.now host.now port handed result };
 
     fn share(&self, listener: &TcpListener) -> io::Result<TcpListener>
         ensures { shares self.now listener.now result };
 
-    /// Waits for the connection of this number, and for whom it is from.
-    fn accept(&self, listener: &TcpListener, number: u64) -> io::Result<(TcpStream, SocketAddr)>
+    /// Waits for a connection, which is to have this number, and for whom it is from.
+    fn accept(&self, listener: &TcpListener, number: u64) -> io::Result<(TcpStream, Peer)>
         ensures { accepts self.now listener.now number result };
+
+    /// Removes the file of a listener at a path.
+    fn remove(&self, listener: &TcpListener);
 
     /// Tells a connection these words, and that no more comes. It is not closed. Where it takes them not,
     /// they are dropped.
@@ -63,9 +76,14 @@ pub trait Network {
         seconds: u32,
     ) -> io::Result<TcpStream>
         ensures { dials self.now address result };
+
+    /// Asks for a connection to the socket of this name, which is `unix:` and its path. While others wait for
+    /// it, it is asked for again, for a second at most.
+    fn join(&self, name: &str) -> io::Result<TcpStream>
+        ensures { joins self.now name.now result };
 }
 
-impl<H: Net<Listener = TcpListener, Stream = TcpStream>> Network for H {
+impl<H: Net<Listener = TcpListener, Stream = TcpStream> + Files<File = File>> Network for H {
     ghost listens = { λ _ _ _ _ _. Unit {0} };
 
     ghost shares = { λ _ _ _. Unit {0} };
@@ -78,9 +96,12 @@ impl<H: Net<Listener = TcpListener, Stream = TcpStream>> Network for H {
 
     ghost dials = { λ _ _ _. Unit {0} };
 
+    ghost joins = { λ _ _ _. Unit {0} };
+
     fn listen(&self, host: &str, port: u16, handed: Option<u16>) -> io::Result<TcpListener> {
         match handed {
             Some(descriptor) => listener_at(descriptor),
+            None if names_path(host) => paths::listen_at(self, host),
             None => TcpListener::bind(self, (host, port)),
         }
     }
@@ -89,13 +110,17 @@ impl<H: Net<Listener = TcpListener, Stream = TcpStream>> Network for H {
         listener.try_clone()
     }
 
-    fn accept(&self, listener: &TcpListener, number: u64) -> io::Result<(TcpStream, SocketAddr)> {
-        match listener.accept() {
+    fn accept(&self, listener: &TcpListener, number: u64) -> io::Result<(TcpStream, Peer)> {
+        match next_of(listener) {
             Err(error) if number == 0 && error.kind() == ErrorKind::InvalidInput => {
                 connection_of(listener)
             },
             accepted => accepted,
         }
+    }
+
+    fn remove(&self, listener: &TcpListener) {
+        paths::remove(self, listener);
     }
 
     fn dismiss(&self, mut stream: TcpStream, words: &[u8]) -> TcpStream {
@@ -123,4 +148,17 @@ impl<H: Net<Listener = TcpListener, Stream = TcpStream>> Network for H {
         let time = Duration::from_secs(u64::from(seconds));
         TcpStream::connect_timeout(self, &address, time)
     }
+
+    fn join(&self, name: &str) -> io::Result<TcpStream> {
+        paths::join(name)
+    }
+}
+
+// The next connection of a listener.
+fn next_of(listener: &TcpListener) -> io::Result<(TcpStream, Peer)> {
+    if is_unix(listener) {
+        return Ok((paths::accept(listener)?, Peer::Unix));
+    }
+    let (stream, address) = listener.accept()?;
+    Ok((stream, Peer::Address(address)))
 }

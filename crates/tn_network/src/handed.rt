@@ -1,8 +1,10 @@
 //! A socket that this process was started with, which `std::net` has no call for.
 
+use crate::paths::is_unix;
+use crate::peers::Peer;
 use os::FromRawFd;
 use std::io;
-use std::net::{SocketAddr, TcpListener, TcpStream};
+use std::net::{TcpListener, TcpStream};
 use std::os::fd::{IntoRawFd, OwnedFd};
 
 /// One more handle of the socket at this descriptor. It listens, or it is a connection, which `connection_of`
@@ -10,7 +12,7 @@ use std::os::fd::{IntoRawFd, OwnedFd};
 ///
 /// # Errors
 ///
-/// There is no socket of IPv4 or IPv6 there.
+/// There is no socket of IPv4, IPv6 or the Unix domain there.
 pub(crate) fn listener_at(descriptor: u16) -> io::Result<TcpListener> {
     let lent = at(descriptor);
     let ours = own(&lent);
@@ -26,14 +28,23 @@ fn at(descriptor: u16) -> TcpListener {
 
 fn own(lent: &TcpListener) -> io::Result<TcpListener> {
     let ours = lent.try_clone()?;
-    ours.local_addr()?;
+    if !is_unix(&ours) {
+        ours.local_addr()?;
+    }
     ours.set_nonblocking(false)?;
     Ok(ours)
 }
 
 /// The connection that a socket is, if it listens to none, and whom it is with.
-pub(crate) fn connection_of(listener: &TcpListener) -> io::Result<(TcpStream, SocketAddr)> {
+pub(crate) fn connection_of(listener: &TcpListener) -> io::Result<(TcpStream, Peer)> {
     let stream = TcpStream::from(OwnedFd::from(listener.try_clone()?));
-    let peer = stream.peer_addr()?;
+    let peer = peer_of(&stream)?;
     Ok((stream, peer))
+}
+
+fn peer_of(stream: &TcpStream) -> io::Result<Peer> {
+    if is_unix(stream) {
+        return Ok(Peer::Unix);
+    }
+    Ok(Peer::Address(stream.peer_addr()?))
 }

@@ -13,10 +13,14 @@
 
 pub use asking::Network;
 pub use dialing::{Dialing, Family};
-pub use reaching::{Trying, Unheard, reach, reach_by};
+pub use paths::{ListeningOn, names_path};
+pub use peers::Peer;
+pub use reaching::{Trying, Unheard, reach, reach_by, reach_service};
 
 mod asking;
 mod dialing;
 mod handed;
+mod paths;
+mod peers;
 mod reaching;
 mod sourced;

@@ -1,10 +1,11 @@
 //! A connection to a host.
 
 ghost use Rattle.std.specs.Prelude.{◌≡◌, [], OnOk};
-ghost use Rattle.tn_network.specs.{Asked.{Reaches, ReachesBy}, Dialing.suits};
+ghost use Rattle.tn_network.specs.{Asked.{Reaches, ReachesBy, ReachesService, names_path}, Dialing.suits};
 
 use crate::asking::Network;
 use crate::dialing::Dialing;
+use crate::paths::names_path;
 use std::io;
 use std::io::{ErrorKind, Write};
 use std::net::{HostAddrs, IpAddr, SocketAddr, TcpStream};
@@ -35,6 +36,33 @@ pub fn reach<N: Network, T: Trying>(
     ensures uncaused { OnOk result (causes.new.items ≡ []) }
 {
     reach_by(net, host, port, Dialing::within(seconds), trying, causes)
+}
+
+/// Connects to a service: to the socket that `host` names by `unix:` and a path, or by any of the addresses of
+/// `host`, each of which is waited for so many seconds. If that cannot be, `causes` gets a line for each.
+pub fn reach_service<N: Network>(
+    net: &N,
+    host: &str,
+    port: u16,
+    seconds: u32,
+    causes: &mut Vec<u8>,
+) -> io::Result<TcpStream>
+    ensures { ReachesService (names_path host.now) (N.joins net.now host.now)
+        (N.finds net.now host.now port) (N.dials net.now) result }
+{
+    if !names_path(host) {
+        return reach(net, host, port, seconds, &mut Unheard, causes);
+    }
+    let joined = net.join(host);
+    note_unjoined(causes, host, &joined);
+    joined
+}
+
+// Notes why the socket of this name takes no connection, if that is so.
+fn note_unjoined(causes: &mut Vec<u8>, name: &str, joined: &io::Result<TcpStream>) {
+    if let Err(error) = joined {
+        let _ = writeln!(causes, "tn: {}: {}", name, error);
+    }
 }
 
 /// Connects to a host, an address or a name: of its addresses that are asked for, to the first that takes a

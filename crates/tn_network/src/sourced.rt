@@ -17,9 +17,9 @@ const MILLISECONDS: u32 = 1_000;
 
 /// An address as C has it, and how many of its bytes are used.
 #[derive(Clone, Copy)]
-struct RawAddress {
-    bytes: [u8; c::_SS_SIZE],
-    length: u32,
+pub(crate) struct RawAddress {
+    pub(crate) bytes: [u8; c::_SS_SIZE],
+    pub(crate) length: u32,
 }
 
 /// Asks for a connection from an address of this machine, for at most this many seconds; at 0 as long as the
@@ -92,14 +92,14 @@ fn time_of(seconds: u32) -> i32 {
 }
 
 // The error of a call of C's, if there is one.
-fn check(status: i32) -> io::Result<()> {
+pub(crate) fn check(status: i32) -> io::Result<()> {
     if status < 0 {
         return Err(last_error());
     }
     Ok(())
 }
 
-fn last_error() -> io::Error {
+pub(crate) fn last_error() -> io::Error {
     io::Error::from_raw_os_error(os::errno())
 }
 

@@ -1,20 +1,21 @@
 -- Where a server could listen, there is no cause; and what is as before is so whatever came of the words.
-use Rattle.std.proofs.Common.{◌≡◌, ℕ, inl, inr, List, Option, Result, Ok, Err}
+use Rattle.std.proofs.Common.{◌≡◌, ℕ, inl, inr, List, Result, Ok, Err}
 use Rattle.std.specs.declared.{io.Error.Error, net.tcp.TcpListener.TcpListener}
+use Rattle.tn_network.specs.Asked.{Place}
 use Rattle.tn_serve.specs.{Causes.IsCaused, declared.fault.ServeFault.ServeFault}
 use Rattle.tn_serve.specs.declared.fault.ServeFault.TheVariants as serve
 use Rattle.tn_program.specs.{Told.{UnlessConnected, UnlessNetwork, UnlessTelling}, declared.outcome.Outcome.Outcome}
 use Rattle.tn_program.specs.declared.outcome.Outcome.TheVariants as outcome
 
-pub uncaused : {A : Type 0} (host : List ℕ) (port : ℕ) (handed : Option ℕ) (listens : List ℕ → ℕ → Option ℕ → Result TcpListener Error → Type 0)
-    (old new : List ℕ) (result : Result A ServeFault) → IsCaused host port handed listens old new result
+pub uncaused : {A : Type 0} (places : List Place) (listens : Place → Result TcpListener Error → Type 0)
+    (old new : List ℕ) (result : Result A ServeFault) → IsCaused places listens old new result
     → UnlessNetwork result (new ≡ old)
-uncaused host port handed listens old new (Ok done) (inl same) = same
-uncaused host port handed listens old new (Ok done) (inr (told, (error, refused, fails))) = absurd fails
-uncaused host port handed listens old new (Err serve.Limit) (inl same) = same
-uncaused host port handed listens old new (Err serve.Limit) (inr (told, (error, refused, fails))) = absurd fails
-uncaused host port handed listens old new (Err serve.Network) caused = _
-uncaused host port handed listens old new (Err serve.Memory) caused = _
+uncaused places listens old new (Ok done) (inl same) = same
+uncaused places listens old new (Ok done) (inr (place, among, told, (error, refused, fails))) = absurd fails
+uncaused places listens old new (Err serve.Limit) (inl same) = same
+uncaused places listens old new (Err serve.Limit) (inr (place, among, told, (error, refused, fails))) = absurd fails
+uncaused places listens old new (Err serve.Network) caused = _
+uncaused places listens old new (Err serve.Memory) caused = _
 
 unless_network : {A : Type 0} (result : Result A ServeFault) (same : Type 0) → same → UnlessNetwork result same
 unless_network (Ok done) same is = is

@@ -3,3 +3,4 @@ pub mod Asked
 pub mod Causes
 pub mod Origins
 pub mod ServicePorts
+pub mod Places

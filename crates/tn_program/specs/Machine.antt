@@ -2,7 +2,7 @@
 use Rattle.std.specs.{Prelude.{ℕ, List, Option, Result}, Net.ToAddrs.HostAddrs, declared.io.Error.Error}
 use Rattle.std.specs.declared.net.{socket_addr.SocketAddr.SocketAddr, tcp.TcpListener.TcpListener}
 use Rattle.std.specs.declared.net.tcp.TcpStream.{TcpStream}
-use Rattle.tn_network.specs.Asked.{Asking, asking}
+use Rattle.tn_network.specs.{Asked.{Asking, asking}, declared.peers.Peer.Peer}
 use Rattle.tn_serve.specs.declared.served.Served.{Served}
 use Rattle.tn_words.specs.declared.settings.ServeWords.{ServeWords}
 
@@ -16,7 +16,7 @@ pub record Machine : Type 1 where
 
 abbrev pub machine_of : (List ℕ → ℕ → Option ℕ → Result TcpListener Error → Type 0)
     → (TcpListener → Result TcpListener Error → Type 0)
-    → (TcpListener → ℕ → Result (TcpStream × SocketAddr) Error → Type 0)
+    → (TcpListener → ℕ → Result (TcpStream × Peer) Error → Type 0)
     → (List ℕ → ℕ → Result HostAddrs Error → Type 0) → (SocketAddr → Result TcpStream Error → Type 0)
     → (List ℕ → Type 0) → (ServeWords → Served → Type 0) → Machine
 machine_of listens shares accepts finds dials sees serves =

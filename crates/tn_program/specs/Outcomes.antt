@@ -14,9 +14,9 @@ use Rattle.tn_serve.specs.{Causes.FailsBy, Ends.{IfAny, ServesUntil}, declared.f
 use Rattle.tn_serve.specs.declared.served.Served.{Served}
 use Rattle.tn_serve.specs.declared.fault.ServeFault.TheVariants as serve
 use Rattle.tn_machines.specs.Ending.{EndsWhole}
-use Rattle.tn_network.specs.{Asked.{Listens, ReachesBy}, Dialing.suits}
+use Rattle.tn_network.specs.{Asked.{Listens, ReachesBy, at_place}, Dialing.suits}
 use Rattle.tn_program.specs.{Machine.Machine, Ports.{IsPort, IsUnknown}, declared.outcome.Outcome.Outcome}
-use Rattle.tn_program.specs.{Statuses.status_of, Settings.{UnlessMemory, count_as, plain_as, window_as}}
+use Rattle.tn_program.specs.{Statuses.status_of, Settings.{UnlessMemory, count_as, origin_as, places_as, window_as}}
 use Rattle.tn_program.specs.declared.outcome.Outcome.TheVariants as outcome
 use Rattle.tn_roster.specs.Held.{IsLimit}
 use Rattle.tn_streams.specs.Known.{KnownTyping}
@@ -31,9 +31,8 @@ pub record EndsServing (machine : Machine) (serving : ServeWords) (ended : Resul
     (old new : Option (List ℕ)) : Type 0 where
   pub all : IfOk ended (ServesUntil (count_as serving.count)
       (IfAny machine.sees (option_map string_bytes serving.until)))
-  pub listened : UnlessMemory ended (Listens
-      (machine.network.listens (string_bytes serving.host) serving.socket.port serving.socket.handed)
-      machine.network.shares machine.network.accepts (λ (served : Served). served.accepted)
+  pub listened : UnlessMemory ended (Listens (at_place machine.network.listens) machine.network.shares
+      machine.network.accepts (places_as serving) (λ (served : Served). served.accepted)
       (λ error ended. FailsBy error ended) ended)
   pub counted : IfOk ended (machine.serves serving)
   pub limit : IsErrOf ended serve.Limit → ¬ IsLimit serving.sessions
@@ -62,7 +61,7 @@ pub record EndsTalking (machine : Machine) (connecting : ConnectWords)
   pub plain : connecting.plain ≡ Some line_end
   pub port : ℕ
   pub is_port : IsPort connecting.port port
-  pub ran : IfOk ended (RunsTalk (plain_as connecting port line_end origin) bytes old new)
+  pub ran : IfOk ended (RunsTalk line_end (origin_as connecting.characters origin) bytes old new)
   pub reached : ConnectsBy talked_over (ReachesBy (suits connecting.dialing)
       (machine.network.finds (string_bytes connecting.host) port) machine.network.dials) ended
       ⊎ IsUnknown connecting.port ended

@@ -10,8 +10,8 @@ use Rattle.tn_lines.specs.declared.line_ends.LineEnd.{LineEnd}
 use Rattle.tn_serve.specs.{Causes.FailsBy, Ends.{IfAny, ServesUntil}, declared.fault.ServeFault.ServeFault}
 use Rattle.tn_serve.specs.declared.served.Served.{Served}
 use Rattle.tn_machines.specs.Ending.{EndsWhole}
-use Rattle.tn_network.specs.{Asked.{Listens, ReachesBy}, Dialing.suits}
-use Rattle.tn_program.specs.{Machine.Machine, Ports.IsPort, Settings.{count_as, plain_as, window_as}}
+use Rattle.tn_network.specs.{Asked.{Listens, ReachesBy, at_place}, Dialing.suits}
+use Rattle.tn_program.specs.{Machine.Machine, Ports.IsPort, Settings.{count_as, origin_as, places_as, window_as}}
 use Rattle.tn_words.specs.Words.{AskFor, AsksForHelp, AsksForVersion, version_line}
 use Rattle.tn_words.specs.declared.words.Asked.{Asked}
 use Rattle.tn_words.specs.declared.words.Asked.TheVariants.{Local, Replay, Decode, World, Serve, Connect}
@@ -38,9 +38,8 @@ RunsAsked machine Decode origin bytes old new = IfSome bytes (λ stream. Decodes
 RunsAsked machine World origin bytes old new = IfSome bytes (λ script. PlaysScript script old new)
 RunsAsked machine (Serve serving) origin bytes old new = (served : Served)
     × ServesUntil (count_as serving.count) (IfAny machine.sees (option_map string_bytes serving.until)) served
-    × Listens (machine.network.listens (string_bytes serving.host) serving.socket.port serving.socket.handed)
-    machine.network.shares machine.network.accepts
-    (λ (served : Served). served.accepted) (λ error ended. FailsBy error ended) (ok served)
+    × Listens (at_place machine.network.listens) machine.network.shares machine.network.accepts
+    (places_as serving) (λ (served : Served). served.accepted) (λ error ended. FailsBy error ended) (ok served)
     × machine.serves serving served × (new ≡ old)
 RunsAsked machine (Connect connecting) origin bytes old new = (port : ℕ) × IsPort connecting.port port
     × (((connected : Connected) × (connecting.plain ≡ None)
@@ -49,7 +48,7 @@ RunsAsked machine (Connect connecting) origin bytes old new = (port : ℕ) × Is
     × ConnectsBy connection_of (ReachesBy (suits connecting.dialing)
     (machine.network.finds (string_bytes connecting.host) port) machine.network.dials) (ran connected))
     ⊎ ((line_end : LineEnd) × (report : TalkReport) × (connecting.plain ≡ Some line_end)
-    × RunsTalk (plain_as connecting port line_end origin) bytes old new report
+    × RunsTalk line_end (origin_as connecting.characters origin) bytes old new report
     × ConnectsBy talked_over (ReachesBy (suits connecting.dialing)
     (machine.network.finds (string_bytes connecting.host) port) machine.network.dials) (talked report)))
 

@@ -1,16 +1,16 @@
 -- What was asked for, as sessions over connections take it.
 use Rattle.std.specs.Prelude.{◌≡◌, ◌||◌, ◌&&◌, not, is_some, ◌/◌, ℕ, Bool, true, IsTrue, false, Option, None}
-use Rattle.std.specs.Prelude.{Some, IsSome, unwrap_or, Result, List, codes, eqb, nat_eq, if◌then◌else◌, Ok}
-use Rattle.std.specs.{Prelude.{Err, string_bytes}, List.starts_with, Str.bytes_eq}
+use Rattle.std.specs.Prelude.{Some, IsSome, unwrap_or, Result, List, [], ◌∷◌, map, codes, eqb, nat_eq, Ok}
+use Rattle.std.specs.Prelude.{if◌then◌else◌, Err, string_bytes, vec_items}
+use Rattle.std.specs.{List.{list_all, starts_with}, Str.bytes_eq}
+use Rattle.tn_network.specs.Asked.{Place, names_path}
 use Rattle.tn_services.specs.declared.{answerers.Answerers.Answerers, cutting.LineFormat.LineFormat}
 use Rattle.tn_services.specs.declared.dialing.Joiner.{Joiner}
 use Rattle.tn_serve.specs.declared.{fault.ServeFault.ServeFault, settings.SessionOptions.SessionOptions}
 use Rattle.tn_serve.specs.declared.fault.ServeFault.TheVariants.{Network, Memory, Limit as BadLimit}
 use Rattle.tn_connect.specs.declared.settings.KeySource.{KeySource, TheVariants.{Reader, Input, Terminal}}
-use Rattle.tn_connect.specs.declared.settings.Plain.{Plain}
 use Rattle.tn_sockets.specs.{Mapping.none_own, declared.returns.ReturnKey.ReturnKey}
 use Rattle.tn_sockets.specs.declared.returns.ReturnKey.TheVariants.{CrNul, CrLf, Lf}
-use Rattle.tn_lines.specs.declared.line_ends.LineEnd.{LineEnd}
 use Rattle.tn_server.specs.declared.wishes.Editing.{Editing, TheVariants.{Local, Remote}}
 use Rattle.tn_session.specs.Facts.{Window}
 use Rattle.tn_words.specs.declared.settings.Characters.{Characters, TheVariants.{Own, Standard}}
@@ -35,15 +35,28 @@ UnlessMemory (Err Network) asked = asked
 UnlessMemory (Err BadLimit) asked = asked
 UnlessMemory (Err Memory) asked = Unit {0}
 
--- whether a host is of loopback, by its text
+-- whether a host is of loopback, by its text, or a path of this machine
 abbrev pub is_loopback : List ℕ → Bool
 is_loopback host =
     starts_with eqb host (codes "127.") || bytes_eq host (codes "::1") || bytes_eq host (codes "localhost")
+    || names_path host
 
 -- whether only this machine reaches a server, as far as its words tell: nothing is known of a socket that is
 -- handed in
 abbrev pub is_local : ServeWords → Bool
-is_local asked = not (is_some asked.socket.handed) && is_loopback (string_bytes asked.host)
+is_local asked =
+    not (is_some asked.socket.handed)
+    && list_all (λ host. is_loopback (string_bytes host)) (vec_items asked.hosts)
+
+-- where a server listens: at each of these hosts, or as the socket is handed in
+abbrev pub places_at : List (List ℕ) → ℕ → Option ℕ → List Place
+places_at hosts port None = map (λ host. record { host = host; port = port; handed = None }) hosts
+places_at hosts port (Some descriptor) =
+    record { host = []; port = port; handed = Some descriptor } ∷ []
+
+abbrev pub places_as : ServeWords → List Place
+places_as asked =
+    places_at (map string_bytes (vec_items asked.hosts)) asked.socket.port asked.socket.handed
 
 -- how many sessions one address may have: as many as all may, for 0 and, if none are named, at a local
 -- server; elsewhere half of all, and one at least
@@ -129,17 +142,3 @@ origin_as Standard (Terminal own) = Terminal none_own
 origin_as Standard Reader = Reader
 origin_as Standard Input = Input
 origin_as Own origin = origin
-
--- a talk with a service that takes lines
-abbrev pub plain_as : ConnectWords → ℕ → LineEnd → KeySource → Plain
-plain_as asked port line_end origin =
-    record {
-      port = port;
-      line_limit = asked.line_limit;
-      line_end = line_end;
-      origin = origin_as asked.characters origin;
-      escape = escape_as asked.escape;
-      wait = asked.wait;
-      patience = asked.patience;
-      dialing = asked.dialing;
-    }

@@ -3,8 +3,8 @@ use Rattle.std.specs.Prelude.{ℕ, Result, Ok, Err}
 use Rattle.tn_cli.specs.Faults.{status_after}
 use Rattle.tn_connect.specs.declared.{fault.ConnectFault.ConnectFault, talks.TalkReport.TalkReport}
 use Rattle.tn_connect.specs.declared.fault.ConnectFault.TheVariants as connect
-use Rattle.tn_lines_client.specs.declared.talk.Over.{Over}
-use Rattle.tn_lines_client.specs.declared.talk.Over.TheVariants as over
+use Rattle.tn_lines.specs.declared.talk.Over.{Over}
+use Rattle.tn_lines.specs.declared.talk.Over.TheVariants as over
 use Rattle.tn_serve.specs.declared.fault.ServeFault.{ServeFault}
 use Rattle.tn_serve.specs.declared.fault.ServeFault.TheVariants as serve
 use Rattle.tn_program.specs.declared.outcome.Outcome.{Outcome}

@@ -29,13 +29,13 @@ pub fn own_characters(text: &[u8]) -> Option<OwnCharacters>
 }
 
 /// How many bytes tell how a terminal edits lines.
-pub const EDITS_LENGTH: usize = 8;
+pub const EDITS_LENGTH: usize = 12;
 
-/// How a terminal edits lines, by a text: two hexadecimal digits each, of WERASE and REPRINT, `00` if there is none,
-/// and of whether IUTF8 and ECHOCTL are set.
+/// How a terminal edits lines, by a text: two hexadecimal digits each, of WERASE, REPRINT, START and STOP, `00` if there
+/// is none, and of whether IUTF8 and ECHOCTL are set.
 pub fn editor_settings(text: &[u8]) -> Option<EditorSettings> {
-    let bytes = <[u8; 4] as FromHex>::from_hex(text).ok()?;
-    let [werase, rprnt, iutf8, echoctl] = bytes;
+    let bytes = <[u8; 6] as FromHex>::from_hex(text).ok()?;
+    let [werase, rprnt, start, stop, iutf8, echoctl] = bytes;
     Some(EditorSettings {
         keys: EditKeys {
             werase: character_of(werase),
@@ -43,6 +43,8 @@ pub fn editor_settings(text: &[u8]) -> Option<EditorSettings> {
             iutf8: iutf8 != 0,
             words: Words::Symbols,
         },
+        start: character_of(start),
+        stop: character_of(stop),
         echoctl: echoctl != 0,
         has_history: true,
     })

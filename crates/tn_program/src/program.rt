@@ -268,6 +268,7 @@ fn run_plain<
         sizes,
         stands,
         terminal,
+        editor,
         link,
         ..
     } = streams;
@@ -285,7 +286,7 @@ fn run_plain<
         causes,
         link,
     };
-    let plain = plain_of(asked, port, line_end, origin);
+    let plain = plain_of(asked, port, line_end, origin, editor);
     let host = asked.host.as_str();
     Outcome::Talked(connect_plain(rt, alloc, host, plain, reader, writer, notes))
 }

@@ -1,9 +1,10 @@
 //! `tn serve`: its own job, or a line service that each session is joined to.
 
-ghost use Rattle.std.specs.Prelude.{◌≡◌, IfOk, IfSome, IsErrOf, option_map, string_bytes};
-ghost use Rattle.tn_serve.specs.{Causes.{FailsBy, IsCaused}, Ends.{IfAny, ServesUntil}};
-ghost use Rattle.tn_network.specs.Asked.{Listens};
-ghost use Rattle.tn_program.specs.Settings.{UnlessMemory, count_as};
+ghost use Rattle.std.specs.Prelude.{◌≡◌, [], Some, IfOk, IfSome, IsErrOf, None, map, option_map, string_bytes};
+ghost use Rattle.std.specs.Prelude.{vec_items};
+ghost use Rattle.tn_serve.specs.{Causes.{FailsBy, IsCaused, place_at}, Ends.{IfAny, ServesUntil}};
+ghost use Rattle.tn_network.specs.Asked.{Listens, at_place};
+ghost use Rattle.tn_program.specs.Settings.{UnlessMemory, count_as, places_as, places_at};
 ghost use Rattle.tn_roster.specs.Held.{IsLimit};
 
 use crate::counting::Serves;
@@ -35,12 +36,10 @@ where
     H: Host + Network + Lookout + Replacing + Eprint,
     ensures all { IfOk result (ServesUntil (count_as asked.now.count)
         (IfAny (H.sees rt) (option_map string_bytes asked.now.until))) }
-    ensures listened { UnlessMemory result (Listens
-        (H.listens rt (string_bytes asked.now.host) asked.now.socket.port asked.now.socket.handed)
-        (H.shares rt) (H.accepts rt) (λ (served : Served). served.accepted)
+    ensures listened { UnlessMemory result (Listens (at_place (H.listens rt)) (H.shares rt) (H.accepts rt)
+        (places_as asked.now) (λ (served : Served). served.accepted)
         (λ error ended. FailsBy error ended) result) }
-    ensures caused { IsCaused (string_bytes asked.now.host) asked.now.socket.port
-        asked.now.socket.handed (H.listens rt)
+    ensures caused { IsCaused (places_as asked.now) (at_place (H.listens rt))
         causes.old.items causes.new.items result }
     ensures counted { IfOk result (⟦<H as Serves>⟧.serves rt asked.now) }
     ensures limit { IsErrOf result ServeFault.Limit → ¬ IsLimit asked.now.sessions }
@@ -97,26 +96,20 @@ where
     L: Log,
     ensures all { IfOk result (ServesUntil (count_as asked.now.count)
         (IfAny (H.sees rt) (option_map string_bytes asked.now.until))) }
-    ensures listened { UnlessMemory result (Listens
-        (H.listens rt (string_bytes asked.now.host) asked.now.socket.port asked.now.socket.handed)
-        (H.shares rt) (H.accepts rt) (λ (served : Served). served.accepted)
+    ensures listened { UnlessMemory result (Listens (at_place (H.listens rt)) (H.shares rt) (H.accepts rt)
+        (places_as asked.now) (λ (served : Served). served.accepted)
         (λ error ended. FailsBy error ended) result) }
-    ensures caused { IsCaused (string_bytes asked.now.host) asked.now.socket.port
-        asked.now.socket.handed (H.listens rt)
+    ensures caused { IsCaused (places_as asked.now) (at_place (H.listens rt))
         causes.old.items causes.new.items result }
     ensures counted { IfOk result (⟦<H as Serves>⟧.serves rt asked.now) }
     ensures limit { IsErrOf result ServeFault.Limit → ¬ IsLimit asked.now.sessions }
 {
     let serving = serving_of(asked);
     let until = until_of(rt, alloc, asked)?;
-    let at = At {
-        host: asked.host.as_str(),
-        port: asked.socket.port,
-        handed: asked.socket.handed,
-    };
+    let at = places_of(alloc, asked)?;
     let Some(to) = &asked.to else {
         let service = answering_of(asked);
-        return serve(rt, alloc, at, serving, until, service, log, causes);
+        return serve(rt, alloc, &at, serving, until, service, log, causes);
     };
     let service = Joining {
         rt,
@@ -126,7 +119,48 @@ where
         lines: lines_of(asked),
         banner,
     };
-    serve(rt, alloc, at, serving, until, service, log, causes)
+    serve(rt, alloc, &at, serving, until, service, log, causes)
+}
+
+// Where to listen.
+fn places_of(alloc: Global, asked: &tn_words::ServeWords) -> Result<Vec<At<'_>>, AllocError>
+    ensures { IfOk result (λ places. map place_at (vec_items places) ≡ places_as asked.now) }
+{
+    let tn_words::Socket { port, handed } = asked.socket;
+    match handed {
+        Some(descriptor) => handed_place(alloc, port, descriptor),
+        None => places_at(alloc, &asked.hosts, port),
+    }
+}
+
+// At the socket that is handed in.
+fn handed_place<'a>(alloc: Global, port: u16, descriptor: u16) -> Result<Vec<At<'a>>, AllocError>
+    ensures { IfOk result (λ places. map place_at (vec_items places)
+        ≡ places_at [] port (Some descriptor)) }
+{
+    let mut places = Vec::new(alloc);
+    places.push(At {
+        host: "",
+        port,
+        handed: Some(descriptor),
+    })?;
+    Ok(places)
+}
+
+// At each of these hosts.
+fn places_at(alloc: Global, hosts: &[String], port: u16) -> Result<Vec<At<'_>>, AllocError>
+    ensures { IfOk result (λ places. map place_at (vec_items places)
+        ≡ places_at (map string_bytes hosts.now) port None) }
+{
+    let mut places = Vec::new(alloc);
+    for host in hosts {
+        places.push(At {
+            host: host.as_str(),
+            port,
+            handed: None,
+        })?;
+    }
+    Ok(places)
 }
 
 // The file that ends the server, if one was named.

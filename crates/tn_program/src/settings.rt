@@ -1,17 +1,18 @@
 //! What was asked for, as sessions over connections take it.
 
-ghost use Rattle.std.specs.Prelude.{◌≡◌, option_map, string_bytes};
+ghost use Rattle.std.specs.{List.list_all, Prelude.{◌≡◌, option_map, string_bytes}};
 ghost use Rattle.tn_connect.specs.Clients.{window_of};
-ghost use Rattle.tn_program.specs.Settings.{count_as, escape_as, lines_as, options_as, origin_as, plain_as};
+ghost use Rattle.tn_program.specs.Settings.{count_as, escape_as, lines_as, options_as, origin_as};
 ghost use Rattle.tn_program.specs.Settings.{half_of, idle_as, is_local, is_loopback, line_mode_as};
 ghost use Rattle.tn_program.specs.Settings.{per_host_as, return_as, usual_per_host, window_as};
 
 use log::Level;
 use std::alloc::{AllocError, Global};
 use tn_connect::{
-    Connecting, EditKeys, EditorSettings, KeySource, OwnCharacters, Plain, ReturnKey,
+    Connecting, EditKeys, EditorSettings, KeySource, OwnCharacters, Plain, ReturnKey, Words,
 };
 use tn_discipline::Limit;
+use tn_network::names_path;
 use tn_serve::{Call, Finished, NoteFormat, NoteStyle, Service, Serving, SessionOptions};
 use tn_server::Editing;
 use tn_services::{Answerer, Answerers, LineFormat};
@@ -76,15 +77,23 @@ fn is_local(asked: &tn_words::ServeWords) -> bool
     ensures { result ≡ is_local asked.now }
 {
     let handed = asked.socket.handed.is_some();
-    !handed && is_loopback(&asked.host)
+    let are_loopback = are_loopback(&asked.hosts);
+    !handed && are_loopback
 }
 
-// Whether a host is of loopback, by its text. A name that only resolves to such an address is none.
+fn are_loopback(hosts: &[String]) -> bool
+    ensures { result ≡ list_all (λ host. is_loopback (string_bytes host)) hosts.now }
+{
+    hosts.iter().all(|host| is_loopback(host))
+}
+
+// Whether a host is of loopback, by its text, or a path of this machine. A name that only resolves to such an
+// address is none.
 fn is_loopback(host: &String) -> bool
     ensures { result ≡ is_loopback (string_bytes host.now) }
 {
     let host = host.as_str();
-    host.starts_with("127.") || host == "::1" || host == "localhost"
+    host.starts_with("127.") || host == "::1" || host == "localhost" || names_path(host)
 }
 
 // How many sessions one address may have.
@@ -229,13 +238,22 @@ pub(crate) fn plain_of(
     port: u16,
     line_end: LineEnd,
     origin: KeySource,
+    editor: EditorSettings,
 ) -> Plain
-    ensures { result ≡ plain_as asked.now port line_end origin }
+    ensures port { result.port ≡ port }
+    ensures limit { result.line_limit ≡ asked.now.line_limit }
+    ensures line_end { result.line_end ≡ line_end }
+    ensures origin { result.origin ≡ origin_as asked.now.characters origin }
+    ensures escape { result.escape ≡ escape_as asked.now.escape }
+    ensures wait { result.wait ≡ asked.now.wait }
+    ensures patience { result.patience ≡ asked.now.patience }
+    ensures dialing { result.dialing ≡ asked.now.dialing }
 {
     let wait = asked.wait;
     Plain {
         port,
         line_limit: asked.line_limit,
+        editing: plain_editor_of(asked, editor),
         line_end,
         origin: origin_of(asked.characters, origin),
         escape: escape_of(asked.escape),
@@ -257,21 +275,37 @@ fn origin_of(characters: Characters, origin: KeySource) -> KeySource
     }
 }
 
-// How lines are edited at a terminal with these settings. With the standard characters it has no editing keys.
+// How lines are edited at a terminal with these settings. With the standard characters it has no editing keys, and none
+// that stops the screen.
 fn editor_of(asked: &tn_words::ConnectWords, editor: EditorSettings) -> EditorSettings {
-    let keys = match asked.characters {
-        Characters::Own => editor.keys,
-        Characters::Standard => EditKeys {
-            werase: None,
-            rprnt: None,
-            iutf8: false,
-            words: editor.keys.words,
-        },
+    let (keys, start, stop) = match asked.characters {
+        Characters::Own => (editor.keys, editor.start, editor.stop),
+        Characters::Standard => (plain_keys(editor.keys.words), None, None),
     };
     EditorSettings {
         keys,
+        start,
+        stop,
         echoctl: editor.echoctl,
         has_history: asked.history,
+    }
+}
+
+fn plain_keys(words: Words) -> EditKeys {
+    EditKeys {
+        werase: None,
+        rprnt: None,
+        iutf8: false,
+        words,
+    }
+}
+
+// How they are edited without Telnet. The terminal itself stops its screen then.
+fn plain_editor_of(asked: &tn_words::ConnectWords, editor: EditorSettings) -> EditorSettings {
+    EditorSettings {
+        start: None,
+        stop: None,
+        ..editor_of(asked, editor)
     }
 }
 

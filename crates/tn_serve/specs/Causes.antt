@@ -1,8 +1,9 @@
 -- Why a server could not listen.
 use Rattle.std.specs.Prelude.{◌≡◌, ℕ, ◌==◌, ◌⊎◌, Bool, false, Option, None, Some, List, [], ◌∷◌, ◌++◌, codes}
-use Rattle.std.specs.{Prelude.{decimal, if◌then◌else◌, Result, Ok, Err}, List.list_any}
+use Rattle.std.specs.{Prelude.{Contains, decimal, if◌then◌else◌, Result, Ok, Err}, List.list_any}
 use Rattle.std.specs.declared.{io.Error.Error, net.tcp.TcpListener.TcpListener}
-use Rattle.tn_serve.specs.{Faults.IsToldAs, declared.fault.ServeFault.ServeFault}
+use Rattle.tn_network.specs.Asked.{Place, names_path}
+use Rattle.tn_serve.specs.{Faults.IsToldAs, declared.{fault.ServeFault.ServeFault, listening.At.At}}
 
 -- it failed by what this error is told as
 abbrev pub FailsBy : {A : Type 0} → Error → Result A ServeFault → Type 0
@@ -11,6 +12,10 @@ FailsBy error (Err fault) = IsToldAs error fault
 
 abbrev refused : Error → Result TcpListener Error
 refused error = Err error
+
+-- the place at which a listener is asked for
+abbrev pub place_at : At → Place
+place_at at = record { host = at.host.now; port = at.port; handed = at.handed }
 
 -- whether a text begins with a bracket
 abbrev pub is_bracketed : List ℕ → Bool
@@ -24,9 +29,10 @@ bracketed host =
     then (if is_bracketed host then host else codes "[" ++ host ++ codes "]")
     else host
 
--- the place of a listener: this host and port, or the descriptor at which it is handed in
+-- the place of a listener: this host and port, the name of its path, or the descriptor at which it is handed in
 abbrev pub place_of : List ℕ → ℕ → Option ℕ → List ℕ
-place_of host port None = bracketed host ++ codes ":" ++ decimal port
+place_of host port None =
+    if names_path host then host else (bracketed host ++ codes ":" ++ decimal port)
 place_of host port (Some descriptor) = codes "descriptor " ++ decimal descriptor
 
 -- the line tells that nothing listens at this place, and why, in words of its own
@@ -40,10 +46,15 @@ abbrev pub HasTold : List ℕ → ℕ → Option ℕ → List ℕ → List ℕ �
 HasTold host port handed old new =
     (line : List ℕ) × TellsWhyNot host port handed line × (new ≡ old ++ line)
 
--- There is a cause only where the listener that was asked for was refused, and then it tells that.
-abbrev pub IsCaused : {A : Type 0} → List ℕ → ℕ → Option ℕ → (List ℕ → ℕ → Option ℕ → Result TcpListener Error → Type 0)
-    → List ℕ → List ℕ → Result A ServeFault → Type 0
-IsCaused host port handed listens old new result =
+-- There is a cause only if a listener that was asked for at one of these places was refused, and then it
+-- tells that.
+abbrev pub IsToldOf : List Place → (Place → Result TcpListener Error → Type 0) → List ℕ → List ℕ
+    → (Error → Type 0) → Type 0
+IsToldOf places listens old new fails =
     (new ≡ old)
-    ⊎ (HasTold host port handed old new
-    × ((error : Error) × listens host port handed (refused error) × FailsBy error result))
+    ⊎ ((place : Place) × Contains places place × HasTold place.host place.port place.handed old new
+    × ((error : Error) × listens place (refused error) × fails error))
+
+abbrev pub IsCaused : {A : Type 0} → List Place → (Place → Result TcpListener Error → Type 0)
+    → List ℕ → List ℕ → Result A ServeFault → Type 0
+IsCaused places listens old new result = IsToldOf places listens old new (λ error. FailsBy error result)

@@ -1,13 +1,13 @@
 -- How the sessions of a server ended.
 use Rattle.std.specs.Prelude.{◌≡◌, ◌≤◌, ◌⊎◌, ℕ, pos, IsTrue, false, Option, Some, None, Result, Ok, Err, IfOk}
 use Rattle.std.specs.{Prelude.IsOk, IoError.raw_os_error, declared.io.Error.Error}
-use Rattle.std.specs.declared.net.{socket_addr.SocketAddr.SocketAddr, tcp.TcpStream.TcpStream}
+use Rattle.std.specs.declared.net.tcp.TcpStream.{TcpStream}
 use Rattle.tn_serve.specs.declared.{acceptor.Accepted.Accepted, conversed.{Conversed.Conversed, Ran.Ran}}
 use Rattle.tn_serve.specs.declared.{finished.Finished.Finished, served.Served.Served}
 use Rattle.tn_machines.specs.{Ending.EndsWhole, declared.faults.{Ended.Ended, SessionFault.SessionFault}}
 use Rattle.tn_machines.specs.declared.faults.Ended.TheVariants.{HangUp, Done, Fault}
 use Rattle.tn_machines.specs.declared.faults.SessionFault.TheVariants.{Start}
-use Rattle.tn_network.specs.Asked.{AcceptsAll}
+use Rattle.tn_network.specs.{Asked.AcceptsAll, declared.peers.Peer.Peer}
 use Rattle.tn_session.specs.declared.parties.Report.{Report}
 
 -- the session came to its report, and ended without a fault
@@ -61,7 +61,7 @@ IsBroken error =
 
 -- each connection of a number below this count was accepted, and where it says so, it was told that no more
 -- are to come
-pub record AcceptsUntil (accepts : ℕ → Result (TcpStream × SocketAddr) Error → Type 0) (ended : Type 0)
+pub record AcceptsUntil (accepts : ℕ → Result (TcpStream × Peer) Error → Type 0) (ended : Type 0)
     (accepted : Accepted) : Type 0 where
   pub all : AcceptsAll accepts accepted.count
   pub told : IsTrue accepted.is_told → ended

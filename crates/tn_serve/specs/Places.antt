@@ -1,9 +1,10 @@
 -- How many sessions there may be, of all and of one host.
-use Rattle.std.specs.Prelude.{◌≡◌, ◌≤◌, ◌+◌, ◌⊎◌, ℕ, Bool, List, [], ◌∷◌, ◌++◌, count_by, length}
-use Rattle.std.specs.{Prelude.{if◌then◌else◌, get_or}, Net.{Socket.socket_ip, Addr.ipv6_segments}}
-use Rattle.std.specs.declared.net.{ip_addr.IpAddr.{IpAddr, TheVariants.{V4, V6}}, ipv6_addr.Ipv6Addr.Ipv6Addr}
-use Rattle.std.specs.declared.net.{socket_addr.SocketAddr.SocketAddr, tcp.TcpStream.TcpStream}
+use Rattle.std.specs.Prelude.{◌≡◌, ◌≤◌, ◌+◌, ◌⊎◌, ℕ, Bool, false, Option, None, Some, List, [], ◌∷◌, ◌++◌}
+use Rattle.std.specs.{Prelude.{count_by, length, if◌then◌else◌, get_or}, Net.Socket.socket_ip}
+use Rattle.std.specs.{Net.Addr.ipv6_segments, declared.net.ip_addr.IpAddr.{IpAddr, TheVariants.{V4, V6}}}
+use Rattle.std.specs.declared.net.{ipv6_addr.Ipv6Addr.Ipv6Addr, tcp.TcpStream.TcpStream}
 use Rattle.std.specs.contracts.net.ip_addr.IpAddrPartialEq.TheImpl as comparing
+use Rattle.tn_network.specs.declared.peers.Peer.{Peer, TheVariants.{Address, Unix}}
 use Rattle.tn_serve.specs.{declared.caller.Caller.Caller, Turns.{live_of, with_one}}
 use Rattle.tn_roster.specs.Held.{Held, held_count, is_held}
 
@@ -25,13 +26,25 @@ host_of (V6 a) = V6 (subnet_of a)
 abbrev pub is_same : IpAddr → IpAddr → Bool
 is_same = comparing.ghosts.eq
 
--- how many of these sessions are from this host
-abbrev pub count_at : {S : Type 0} → (S → SocketAddr) → IpAddr → List S → ℕ
-count_at peer_of host started = count_by (λ s. is_same (host_of (socket_ip (peer_of s))) host) started
+-- the address as which a peer is counted, if it is; one over a socket of the Unix domain is not, since such
+-- peers have no bound of their own
+abbrev pub counted_as : Peer → Option IpAddr
+counted_as (Address address) = Some (host_of (socket_ip address))
+counted_as Unix = None
 
--- how many of these sessions are from the host of this peer
-abbrev pub count_from : {S : Type 0} → (S → SocketAddr) → SocketAddr → List S → ℕ
-count_from peer_of peer started = count_at peer_of (host_of (socket_ip peer)) started
+-- whether both are counted as one host
+abbrev pub is_one_host : Option IpAddr → Option IpAddr → Bool
+is_one_host (Some one) (Some other) = is_same one other
+is_one_host (Some one) None = false
+is_one_host None other = false
+
+-- how many of these sessions are counted as from this host
+abbrev pub count_at : {S : Type 0} → (S → Peer) → Option IpAddr → List S → ℕ
+count_at peer_of host started = count_by (λ s. is_one_host (counted_as (peer_of s)) host) started
+
+-- how many of these sessions are counted as from the host of this peer
+abbrev pub count_from : {S : Type 0} → (S → Peer) → Peer → List S → ℕ
+count_from peer_of peer started = count_at peer_of (counted_as peer) started
 
 -- there are as many as there may be: of all, or of those from one host
 abbrev pub HasNoPlace : Held → ℕ → ℕ → Type 0
@@ -59,7 +72,7 @@ AreHeldBeside number roster started number_of =
     HoldsSo roster (with_one number (live_of started number_of)) (length started + 1)
 
 -- the same sessions run, or one more, over this connection, from this peer and with this serial number
-abbrev pub RunsOver : {S : Type 0} → (S → TcpStream) → (S → Caller) → TcpStream → SocketAddr → ℕ → List S →
+abbrev pub RunsOver : {S : Type 0} → (S → TcpStream) → (S → Caller) → TcpStream → Peer → ℕ → List S →
     List S → Type 0
 RunsOver {S} stream_of caller_of stream peer serial old new = (new ≡ old) ⊎ ((s : S) × (new ≡ old ++ s ∷ [])
     × (stream_of s ≡ stream) × ((caller_of s).peer ≡ peer) × ((caller_of s).serial ≡ serial))

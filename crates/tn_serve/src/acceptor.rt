@@ -1,6 +1,8 @@
 //! Connections are accepted in a thread of their own.
 
-ghost use Rattle.std.specs.Prelude.{◌≡◌, true, IsTrue, false, IsFalse, Ok, IfErr, IfNone, IfOk, IfSome};
+ghost use Rattle.std.specs.Prelude.{◌≡◌, true, Contains, IsTrue, false, IsFalse, Ok, IfErr, IfNone, IfOk};
+ghost use Rattle.std.specs.Prelude.{IfSome, vec_items};
+ghost use Rattle.tn_network.specs.Asked.{AcceptsAtOne};
 ghost use Rattle.tn_serve.specs.Ends.{AcceptsUntil, AreEnough, IsBroken};
 
 use crate::events::Event;
@@ -10,15 +12,15 @@ use crate::until::Until;
 use crossbeam_channel::{Receiver, RecvTimeoutError, Sender};
 use libc::net as c;
 use libc::types::pollfd;
-use std::alloc::Global;
+use std::alloc::{AllocError, Global};
 use std::io::ErrorKind;
-use std::net::{SocketAddr, TcpListener, TcpStream};
+use std::net::{TcpListener, TcpStream};
 use std::os::fd::AsRawFd;
 use std::snapshot::Snapshot;
 use std::thread::{Promise, PromisedHandle};
 use std::time::Duration;
 use std::{io, thread};
-use tn_network::Network;
+use tn_network::{Network, Peer};
 use tn_sockets::Host;
 
 /// How many milliseconds lie between two attempts where the machine can give no connection.
@@ -32,13 +34,13 @@ const LOOK: i32 = 1_000;
 #[derive(Drop)]
 pub(crate) struct Acceptor<H, U> {
     pub(crate) rt: H,
-    pub(crate) listener: TcpListener,
+    pub(crate) listeners: Vec<TcpListener>,
     pub(crate) events: Sender<Event, Global>,
     pub(crate) over: Receiver<(), Global>,
     pub(crate) count: u64,
     /// Each connection is of a proxy, and begins with the line that says for whom.
     pub(crate) is_proxied: bool,
-    /// Others have the listener too, and go on with it.
+    /// Others have the listeners too, and go on with them.
     pub(crate) is_handed: bool,
     pub(crate) until: U,
 }
@@ -46,8 +48,8 @@ pub(crate) struct Acceptor<H, U> {
 /// A connection that was accepted, and for whom it is.
 #[derive(Drop)]
 struct Came {
-    stream: (TcpStream, SocketAddr),
-    whom: SocketAddr,
+    stream: (TcpStream, Peer),
+    whom: Peer,
 }
 
 /// How many connections were accepted.
@@ -86,47 +88,66 @@ impl Accepted {
 #[derive(Drop)]
 pub(crate) struct AcceptorSays<H, U> {
     pub(crate) rt: Snapshot<H>,
-    pub(crate) listener: Snapshot<TcpListener>,
+    pub(crate) listeners: Snapshot<Vec<TcpListener>>,
     pub(crate) until: Snapshot<U>,
 }
 
 impl<H: Network, U: Until> Promise<Accepted> for AcceptorSays<H, U> {
+    ghost use Rattle.std.specs.Prelude.{vec_items};
+    ghost use Rattle.tn_network.specs.Asked.{AcceptsAtOne};
     ghost use Rattle.tn_serve.specs.Ends.{AcceptsUntil};
 
-    ghost kept_by = { λ p accepted.
-        AcceptsUntil (H.accepts p.rt.value p.listener.value) (U.ends p.until.value) accepted };
+    ghost kept_by = { λ p accepted. AcceptsUntil
+        (AcceptsAtOne (H.accepts p.rt.value) (vec_items p.listeners.value)) (U.ends p.until.value) accepted };
 }
 
 impl<H: Host + Network, U: Until + Drop + Send + 'static> Acceptor<H, U> {
     /// Runs it in a thread of its own, where one can be had.
-    pub(crate) fn start(self) -> Option<PromisedHandle<Accepted, AcceptorSays<H, U>>>
+    pub(crate) fn start(
+        self,
+        waiting: Waiting,
+    ) -> Option<PromisedHandle<Accepted, AcceptorSays<H, U>>>
         ensures rt { IfSome result (λ handle. handle.promise.rt.value ≡ self.rt) }
-        ensures listener { IfSome result (λ handle. handle.promise.listener.value ≡ self.listener) }
+        ensures listeners { IfSome result (λ handle. handle.promise.listeners.value ≡ self.listeners) }
         ensures until { IfSome result (λ handle. handle.promise.until.value ≡ self.until) }
     {
         let rt = self.rt;
         let promise = AcceptorSays {
             rt: Snapshot::of(&rt),
-            listener: Snapshot::of(&self.listener),
+            listeners: Snapshot::of(&self.listeners),
             until: Snapshot::of(&self.until),
         };
         let work = move || -> Accepted
-            ensures { AcceptsUntil (H.accepts self.rt self.listener) (U.ends self.until) result }
-        { self.run() };
+            ensures { AcceptsUntil (AcceptsAtOne (H.accepts self.rt) (vec_items self.listeners))
+                (U.ends self.until) result }
+        { self.run(waiting) };
         match thread::spawn_with(&rt, promise, work) {
             Ok(handle) => Some(handle),
             Err(_) => None,
         }
     }
 
-    // Runs until the last connection was accepted, none is to come any more, the listener is broken, or
-    // nobody listens any more.
-    fn run(self) -> Accepted
-        ensures { AcceptsUntil (H.accepts self.rt self.listener) (U.ends self.until) result }
+    // Runs until the last connection was accepted, none is to come any more, a listener is broken, or nobody
+    // listens any more. The files of listeners at paths are gone then.
+    fn run(self, waiting: Waiting) -> Accepted
+        ensures { AcceptsUntil (AcceptsAtOne (H.accepts self.rt) (vec_items self.listeners))
+            (U.ends self.until) result }
     {
-        let mut spare = self.rt.share(&self.listener).ok();
+        let accepted = self.accept_all(waiting);
+        if !self.is_handed {
+            remove_files(&self.rt, &self.listeners);
+        }
+        accepted
+    }
+
+    fn accept_all(&self, waiting: Waiting) -> Accepted
+        ensures { AcceptsUntil (AcceptsAtOne (H.accepts self.now.rt) (vec_items self.now.listeners))
+            (U.ends self.now.until) result }
+    {
+        let mut waiting = waiting;
+        let mut spare = self.spare();
         for number in 0..self.count {
-            let Ok(next) = self.next(number, &mut spare) else {
+            let Ok(next) = self.next(number, &mut waiting, &mut spare) else {
                 let _ = self.events.send(&self.rt, Event::Closed);
                 return Accepted::untold(number);
             };
@@ -163,12 +184,12 @@ impl<H: Host + Network, U: Until + Drop + Send + 'static> Acceptor<H, U> {
         }
     }
 
-    // Takes no more connections: also those that wait are refused, unless others go on with the listener.
+    // Takes no more connections: also those that wait are refused, unless others go on with the listeners.
     fn close(&self, count: u64) -> Accepted
         ensures count { result.count ≡ count }
     {
         if !self.is_handed {
-            let _ = c::shutdown(self.listener.as_raw_fd(), c::SHUT_RDWR);
+            shut(&self.listeners);
         }
         let _ = self.events.send(&self.rt, Event::Closed);
         Accepted {
@@ -180,10 +201,15 @@ impl<H: Host + Network, U: Until + Drop + Send + 'static> Acceptor<H, U> {
     // The connection of this number, or none where it is told that none is to come any more. One that its
     // peer closed before it was accepted is skipped. If the machine has no descriptor but the spare one, the
     // connection is told `full`. If it has no memory, or not even that descriptor, this is reported once, and it
-    // is tried again after a pause. It fails if the listener is broken.
-    fn next(&self, number: u64, spare: &mut Option<TcpListener>) -> io::Result<Option<Came>>
-        ensures came { IfOk result (λ next. IfSome next (λ came.
-            H.accepts self.now.rt self.now.listener number (Ok came.stream))) }
+    // is tried again after a pause. It fails if a listener is broken.
+    fn next(
+        &self,
+        number: u64,
+        waiting: &mut Waiting,
+        spare: &mut Option<TcpListener>,
+    ) -> io::Result<Option<Came>>
+        ensures came { IfOk result (λ next. IfSome next (λ came. AcceptsAtOne
+            (H.accepts self.now.rt) (vec_items self.now.listeners) number (Ok came.stream))) }
         ensures told { IfOk result (λ next. IfNone next (U.ends self.now.until)) }
         ensures broken { IfErr result IsBroken }
     {
@@ -192,10 +218,10 @@ impl<H: Host + Network, U: Until + Drop + Send + 'static> Acceptor<H, U> {
             if self.until.is_over() {
                 return Ok(None);
             }
-            if !comes(&self.listener) {
+            let Some(listener) = self.called(waiting) else {
                 continue;
-            }
-            match self.rt.accept(&self.listener, number) {
+            };
+            match self.rt.accept(listener, number) {
                 Ok(stream) => {
                     if let Some(whom) = self.whom(&stream.0, stream.1) {
                         return Ok(Some(Came { stream, whom }));
@@ -204,7 +230,7 @@ impl<H: Host + Network, U: Until + Drop + Send + 'static> Acceptor<H, U> {
                 Err(error) if is_passing(error.kind()) => {},
                 Err(error) if is_broken(&error) => return Err(error),
                 Err(error) => {
-                    if !self.refuse(number, spare, &error) {
+                    if !self.refuse(listener, number, spare, &error) {
                         self.starve(error, is_starved);
                         is_starved = true;
                     }
@@ -214,8 +240,22 @@ impl<H: Host + Network, U: Until + Drop + Send + 'static> Acceptor<H, U> {
         Err(io::Error::from_raw_os_error(libc::EBADF))
     }
 
+    // The listener at which a connection waits, if one comes soon.
+    fn called(&self, waiting: &mut Waiting) -> Option<&TcpListener>
+        ensures { IfSome result (λ listener. Contains (vec_items self.now.listeners) listener.now) }
+    {
+        let place = waiting.next()?;
+        self.listeners.get(place)
+    }
+
+    // One more descriptor, which is given up if there is no other.
+    fn spare(&self) -> Option<TcpListener> {
+        let listener = self.listeners.first()?;
+        self.rt.share(listener).ok()
+    }
+
     // For whom this connection from `peer` is. `None`, which is reported, if a proxy does not say it.
-    fn whom(&self, stream: &TcpStream, peer: SocketAddr) -> Option<SocketAddr> {
+    fn whom(&self, stream: &TcpStream, peer: Peer) -> Option<Peer> {
         if !self.is_proxied {
             return Some(peer);
         }
@@ -228,10 +268,16 @@ impl<H: Host + Network, U: Until + Drop + Send + 'static> Acceptor<H, U> {
 
     // Accepts the connection that waits in place of the spare descriptor, tells it `full` and closes it after a
     // pause. False if there is no such descriptor, or another thread took it.
-    fn refuse(&self, number: u64, spare: &mut Option<TcpListener>, error: &io::Error) -> bool {
+    fn refuse(
+        &self,
+        listener: &TcpListener,
+        number: u64,
+        spare: &mut Option<TcpListener>,
+        error: &io::Error,
+    ) -> bool {
         let was_there = is_without_descriptor(error) && spare.take().is_some();
         let accepted = if was_there {
-            self.rt.accept(&self.listener, number).ok()
+            self.rt.accept(listener, number).ok()
         } else {
             None
         };
@@ -243,12 +289,12 @@ impl<H: Host + Network, U: Until + Drop + Send + 'static> Acceptor<H, U> {
             None => false,
         };
         if spare.is_none() {
-            *spare = self.rt.share(&self.listener).ok();
+            *spare = self.spare();
         }
         is_told
     }
 
-    fn turn_away(&self, stream: TcpStream, peer: SocketAddr, error: &io::Error) {
+    fn turn_away(&self, stream: TcpStream, peer: Peer, error: &io::Error) {
         let told = self.rt.dismiss(stream, b"full\r\n");
         thread::sleep(&self.rt, Duration::from_millis(PAUSE));
         drop(told);
@@ -267,14 +313,61 @@ impl<H: Host + Network, U: Until + Drop + Send + 'static> Acceptor<H, U> {
     }
 }
 
-// Waits for a connection. False where none came for a while. A socket that is a connection can be written to.
-fn comes(listener: &TcpListener) -> bool {
-    let mut ready = [pollfd {
-        fd: listener.as_raw_fd(),
-        events: c::POLLIN | c::POLLOUT,
-        revents: 0,
-    }];
-    c::poll(&mut ready, LOOK) > 0
+/// For which listeners the system is asked whether a connection waits.
+#[derive(Drop)]
+pub(crate) struct Waiting {
+    sockets: Vec<pollfd>,
+    /// The listener at which one waited last.
+    last: usize,
+}
+
+impl Waiting {
+    /// For a connection at each of these listeners. A socket that is a connection can be written to.
+    pub(crate) fn new(alloc: Global, listeners: &[TcpListener]) -> Result<Waiting, AllocError> {
+        let mut sockets = Vec::new(alloc);
+        for listener in listeners {
+            sockets.push(pollfd {
+                fd: listener.as_raw_fd(),
+                events: c::POLLIN | c::POLLOUT,
+                revents: 0,
+            })?;
+        }
+        Ok(Waiting { sockets, last: 0 })
+    }
+
+    // The place of a listener at which a connection waits: of several the next after the last. `None` if none
+    // comes for a while.
+    fn next(&mut self) -> Option<usize> {
+        if c::poll(self.sockets.as_mut_slice(), LOOK) <= 0 {
+            return None;
+        }
+        let after = self.last.saturating_add(1);
+        let place = ready_from(&self.sockets, after).or(ready_from(&self.sockets, 0))?;
+        self.last = place;
+        Some(place)
+    }
+}
+
+fn ready_from(sockets: &[pollfd], first: usize) -> Option<usize> {
+    for place in first..sockets.len() {
+        if sockets[place].revents != 0 {
+            return Some(place);
+        }
+    }
+    None
+}
+
+fn shut(listeners: &[TcpListener]) {
+    for listener in listeners {
+        let _ = c::shutdown(listener.as_raw_fd(), c::SHUT_RDWR);
+    }
+}
+
+/// Removes the files of those of these listeners that are at paths.
+pub(crate) fn remove_files<N: Network>(net: &N, listeners: &[TcpListener]) {
+    for listener in listeners {
+        net.remove(listener);
+    }
 }
 
 fn is_passing(kind: ErrorKind) -> bool {

@@ -1,10 +1,10 @@
 //! A connection that comes to a server.
 
-use crate::events::Event;
+use crate::events::{Event, SaysEnd};
 use crossbeam_channel::Sender;
 use std::alloc::{AllocError, Global};
-use std::net::SocketAddr;
 use std::sync::Wait;
+use tn_network::Peer;
 use tn_sockets::Hook;
 
 /// A connection that is to have a session.
@@ -13,7 +13,7 @@ pub struct Call {
     /// The session's number, from 0 on. Another session gets it once this one has ended.
     pub number: usize,
     /// Who it is with.
-    pub peer: SocketAddr,
+    pub peer: Peer,
     pub hook: Hook,
     pub notes: Notes,
 }
@@ -48,5 +48,11 @@ impl Notes {
     /// dropped.
     pub fn note_cut<R: Wait>(&self, rt: &R, bytes: usize) {
         let _ = self.events.try_send(rt, Event::Cut(self.number, bytes));
+    }
+}
+
+impl SaysEnd for Notes {
+    fn say_end<R: Wait>(&self, rt: &R) {
+        let _ = self.events.send(rt, Event::Ended(self.number));
     }
 }

@@ -1,7 +1,7 @@
 //! Who a session is with.
 
-use std::net::SocketAddr;
 use std::time::{Clock, Duration, Instant};
+use tn_network::Peer;
 
 /// Who a session is with, and since when.
 #[derive(Clone, Copy)]
@@ -10,7 +10,7 @@ pub(crate) struct Caller {
     pub(crate) number: usize,
     /// Which of the accepted connections it is, from 1 on. No other has it.
     pub(crate) serial: u64,
-    pub(crate) peer: SocketAddr,
+    pub(crate) peer: Peer,
     pub(crate) since: Option<Instant>,
 }
 

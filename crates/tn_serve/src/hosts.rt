@@ -1,13 +1,23 @@
 //! By which address a host is counted, and shown.
 
 ghost use Rattle.std.specs.Prelude.{◌≡◌};
-ghost use Rattle.tn_serve.specs.Places.{host_of, subnet_of};
+ghost use Rattle.tn_serve.specs.Places.{counted_as, host_of, subnet_of};
 
 use std::net::{IpAddr, Ipv6Addr, SocketAddr};
+use tn_network::Peer;
 
-/// The address as which a host is counted: that of IPv4, or the first 64 bits of IPv6. A host chooses the
-/// others (RFC 4291, 2.5.1).
-pub(crate) fn host_of(address: IpAddr) -> IpAddr
+/// The address as which a peer is counted, if it is. One over a Unix-domain socket is not: no bound is its own.
+pub(crate) fn counted_as(peer: Peer) -> Option<IpAddr>
+    ensures { result ≡ counted_as peer }
+{
+    match peer {
+        Peer::Address(address) => Some(host_of(address.ip())),
+        Peer::Unix => None,
+    }
+}
+
+// That of IPv4, or the first 64 bits of IPv6. A host chooses the others (RFC 4291, 2.5.1).
+fn host_of(address: IpAddr) -> IpAddr
     ensures { result ≡ host_of address }
 {
     match address {
@@ -24,6 +34,12 @@ fn subnet_of(address: Ipv6Addr) -> Ipv6Addr
 }
 
 /// An address of IPv4 that IPv6 carries (RFC 4291, 2.5.5.2), as that of IPv4; any other as it is.
-pub(crate) fn shown(peer: SocketAddr) -> SocketAddr {
-    SocketAddr::new(peer.ip().to_canonical(), peer.port())
+pub(crate) fn shown(peer: Peer) -> Peer {
+    match peer {
+        Peer::Address(address) => Peer::Address(SocketAddr::new(
+            address.ip().to_canonical(),
+            address.port(),
+        )),
+        Peer::Unix => peer,
+    }
 }

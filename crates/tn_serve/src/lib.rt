@@ -2,7 +2,7 @@
 //!
 //! ```
 //! let at = At { host: "127.0.0.1", port: 2323, handed: None };
-//! serve(rt, alloc, at, serving, Never, service, &log, &mut causes)?;
+//! serve(rt, alloc, &[at], serving, Never, service, &log, &mut causes)?;
 //! ```
 //!
 //! Nothing is proved about what a connection carries: the sessions are proved for whatever their readers
@@ -21,6 +21,7 @@ pub use service::Service;
 pub use serving::{serve, serve_on};
 pub use session::serve_connection;
 pub use settings::{Serving, SessionOptions};
+pub use tn_network::Peer;
 pub use tn_sockets::{Hook, Host};
 pub use turns::Turn;
 pub use until::{Never, Until};

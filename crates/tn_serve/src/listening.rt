@@ -1,15 +1,18 @@
 //! A listener at a host.
 
-ghost use Rattle.std.specs.Prelude.{◌≡◌, ◌⊎◌, ◌++◌, IfOk, OnOk, codes, decimal};
-ghost use Rattle.tn_serve.specs.Causes.{HasTold, TellsWhyNot, bracketed, place_of};
+ghost use Rattle.std.specs.Prelude.{◌≡◌, ◌⊎◌, ◌++◌, IfErr, IfOk, OnOk, codes, decimal, map, vec_items};
+ghost use Rattle.std.specs.Prelude.{Err, IsErrOf};
+ghost use Rattle.tn_network.specs.Asked.{AreRefusedAt, GiveEach, at_place};
+ghost use Rattle.tn_serve.specs.Causes.{HasTold, IsToldOf, TellsWhyNot, bracketed, place_at, place_of};
 
+use crate::acceptor::remove_files;
 use std::alloc::{AllocError, Global};
 use std::io;
 use std::net::TcpListener;
-use tn_network::Network;
+use tn_network::{Network, names_path};
 
-/// Where to listen: at a host, which is an address or a name that has one, and at this port of it; or at the
-/// socket that the process was started with at this descriptor.
+/// Where to listen: at a host, which is an address or a name that has one, and at this port of it; at a path,
+/// if the host is `unix:` and that path; or at the socket that the process was started with at this descriptor.
 #[derive(Clone, Copy)]
 pub struct At<'a> {
     pub host: &'a str,
@@ -17,8 +20,36 @@ pub struct At<'a> {
     pub handed: Option<u16>,
 }
 
-/// Listens there. Where that cannot be, `causes` gets a line, which says why.
-pub(crate) fn listen_at<N: Network>(
+/// Listens at each of these places. If that cannot be at one, `causes` gets a line, which says why, and those
+/// before it are given up.
+pub(crate) fn listen_all<N: Network>(
+    net: &N,
+    alloc: Global,
+    at: &[At<'_>],
+    causes: &mut Vec<u8>,
+) -> io::Result<Vec<TcpListener>>
+    ensures given { IfOk result (λ listeners.
+        GiveEach (at_place (N.listens net.now)) (map place_at at.now) (vec_items listeners)) }
+    ensures refused { IfErr result (AreRefusedAt (at_place (N.listens net.now)) (map place_at at.now)) }
+    ensures uncaused { OnOk result (causes.new.items ≡ causes.old.items) }
+    ensures caused { IsToldOf (map place_at at.now) (at_place (N.listens net.now))
+        causes.old.items causes.new.items (IsErrOf result) }
+{
+    let mut listeners = Vec::new(alloc);
+    for place in at {
+        match listen_at(net, alloc, *place, causes) {
+            Ok(listener) => listeners.push(listener)?,
+            Err(error) => {
+                remove_files(net, &listeners);
+                return Err(error);
+            },
+        }
+    }
+    Ok(listeners)
+}
+
+// Listens there. If that cannot be, `causes` gets a line, which says why.
+fn listen_at<N: Network>(
     net: &N,
     alloc: Global,
     at: At<'_>,
@@ -75,6 +106,7 @@ fn push_place(
 {
     match handed {
         Some(descriptor) => push_descriptor(alloc, line, descriptor),
+        None if names_path(host) => line.extend_from_slice(host.as_bytes()),
         None => push_port(alloc, line, host, port),
     }
 }

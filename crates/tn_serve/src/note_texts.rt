@@ -8,13 +8,15 @@ use crate::traffic::Passed;
 use log::{Level, Log, error, info, log, warn};
 use std::fmt::Display;
 use std::io::ErrorKind;
-use std::net::SocketAddr;
+use std::net::TcpListener;
 use std::time::Duration;
 use std::{fmt, io, str};
+use tn_network::{ListeningOn, Peer};
 use tn_session::{Ended, SessionFault};
 
 /// Notes where connections are accepted.
-pub(crate) fn listening<L: Log>(log: &L, address: &SocketAddr) {
+pub(crate) fn listening<L: Log>(log: &L, listener: &TcpListener) {
+    let address = ListeningOn(listener);
     info!(log; target: "listening", address:% = address; "listening on {}", address);
 }
 
@@ -27,7 +29,7 @@ pub(crate) fn began<L: Log>(log: &L, caller: &Caller) {
 }
 
 /// Notes that a connection got no session, since as many as allowed were running.
-pub(crate) fn full<L: Log>(log: &L, serial: u64, peer: &SocketAddr) {
+pub(crate) fn full<L: Log>(log: &L, serial: u64, peer: &Peer) {
     info!(
         log; target: "full", serial = serial, peer:% = peer;
         "no session (serial {}) from {}: full", serial, peer
@@ -52,7 +54,7 @@ pub(crate) fn telnet<L: Log>(log: &L, caller: &Caller) {
 }
 
 /// Notes that a connection got no session, since it did not begin with the line of a proxy.
-pub(crate) fn unproxied<L: Log>(log: &L, peer: &SocketAddr) {
+pub(crate) fn unproxied<L: Log>(log: &L, peer: &Peer) {
     warn!(
         log; target: "unproxied", peer:% = peer;
         "no session from {}: it does not begin with a PROXY line", peer
@@ -60,7 +62,7 @@ pub(crate) fn unproxied<L: Log>(log: &L, peer: &SocketAddr) {
 }
 
 /// Notes that a connection got no session, since the machine had a descriptor only to tell it so.
-pub(crate) fn full_by<L: Log>(log: &L, peer: &SocketAddr, error: &io::Error) {
+pub(crate) fn full_by<L: Log>(log: &L, peer: &Peer, error: &io::Error) {
     warn!(
         log; target: "full", peer:% = peer, cause:% = error;
         "no session from {}: full, {}", peer, error

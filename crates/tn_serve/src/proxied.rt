@@ -4,6 +4,7 @@ use std::io::Read;
 use std::net::{IpAddr, SocketAddr, TcpStream};
 use std::str;
 use std::time::{Clock, Duration, Instant};
+use tn_network::Peer;
 
 /// How many bytes the line has at most, with its CR LF.
 const MOST: usize = 107;
@@ -13,11 +14,7 @@ const TIME: u64 = 1;
 
 /// For whom a proxy connects from `peer`, by the line with which the connection begins; nothing after the line
 /// is read. `peer` itself if the proxy does not know. `None` if no such line comes in time.
-pub(crate) fn peer_behind<C: Clock>(
-    clock: &C,
-    stream: &TcpStream,
-    peer: SocketAddr,
-) -> Option<SocketAddr> {
+pub(crate) fn peer_behind<C: Clock>(clock: &C, stream: &TcpStream, peer: Peer) -> Option<Peer> {
     stream
         .set_read_timeout(Some(Duration::from_secs(TIME)))
         .ok()?;
@@ -45,7 +42,7 @@ fn read_byte(mut stream: &TcpStream) -> Option<u8> {
 }
 
 /// The source that a line names, or `peer` if it names none.
-fn source_of(line: &[u8], peer: SocketAddr) -> Option<SocketAddr> {
+fn source_of(line: &[u8], peer: Peer) -> Option<Peer> {
     let line = line.strip_suffix(b"\r\n")?.strip_prefix(b"PROXY ")?;
     let mut words = line.split(|byte| *byte == b' ');
     match words.next()? {
@@ -56,5 +53,5 @@ fn source_of(line: &[u8], peer: SocketAddr) -> Option<SocketAddr> {
     let address = IpAddr::parse_ascii(words.next()?).ok()?;
     let _own = words.next()?;
     let port = str::from_utf8(words.next()?).ok()?.parse().ok()?;
-    Some(SocketAddr::new(address, port))
+    Some(Peer::Address(SocketAddr::new(address, port)))
 }

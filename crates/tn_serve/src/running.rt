@@ -1,10 +1,9 @@
 //! The sessions that are started and not yet joined, and how the earlier ones ended.
 
-ghost use Rattle.std.specs.Net.Socket.{socket_ip};
 ghost use Rattle.std.specs.Prelude.{◌≡◌, ◌<◌, ◌≤◌, ◌+◌, ◌-◌, ◌^◌, ◌++◌, ◌∷◌, [], IsTrue, IsFalse, IfSome};
 ghost use Rattle.std.specs.Prelude.{◌≢◌, All, IfNone, vec_items, vec_len, vec_capacity};
 ghost use Rattle.tn_serve.specs.Counted.{HasEnded, StillCounts, facts_of, server_of};
-ghost use Rattle.tn_serve.specs.Places.{HasNoPlace, count_at, count_from, host_of, is_same};
+ghost use Rattle.tn_serve.specs.Places.{HasNoPlace, count_at, count_from, counted_as, is_one_host};
 ghost use Rattle.tn_serve.specs.Turns.{IsOneEnd, IsOneMore, live_of};
 ghost use Rattle.tn_roster.specs.Held.{Enters};
 
@@ -13,16 +12,17 @@ use crate::caller::Caller;
 use crate::conversed::Ran;
 use crate::draining::Due;
 use crate::finished::Finished;
-use crate::hosts::host_of;
+use crate::hosts::counted_as;
 use crate::served::Served;
 use crate::session::SessionSays;
 use crate::traffic::Noted;
 use log::Log;
 use std::alloc::Global;
 use std::marker::PhantomData;
-use std::net::{IpAddr, SocketAddr, TcpStream};
+use std::net::{IpAddr, TcpStream};
 use std::thread::{PromisedHandle, Threads};
 use tn_jobs::Job;
+use tn_network::Peer;
 use tn_roster::Roster;
 use tn_session::Maker;
 
@@ -56,16 +56,19 @@ impl<M: Maker, O: Asked<M>> Started<M, O> {
         }
     }
 
-    fn is_from(&self, host: &IpAddr) -> bool
-        ensures { result ≡ is_same (host_of (socket_ip self.now.caller.peer)) host.now }
+    fn is_from(&self, host: Option<IpAddr>) -> bool
+        ensures { result ≡ is_one_host (counted_as self.now.caller.peer) host }
     {
-        host_of(self.caller.peer.ip()) == *host
+        match (counted_as(self.caller.peer), host) {
+            (Some(one), Some(other)) => one == other,
+            _ => false,
+        }
     }
 }
 
-// How many of these sessions are from this host.
-fn count_of<M: Maker, O: Asked<M>>(started: &[Started<M, O>], host: &IpAddr) -> usize
-    ensures { result ≡ count_at (λ s. s.caller.peer) host.now started.now }
+// How many of these sessions are counted as from this host.
+fn count_of<M: Maker, O: Asked<M>>(started: &[Started<M, O>], host: Option<IpAddr>) -> usize
+    ensures { result ≡ count_at (λ s. s.caller.peer) host started.now }
 {
     let mut count = 0usize;
     for one in started {
@@ -144,12 +147,12 @@ impl<J: Job, M: Maker<Job = J>, O: Asked<M>> Running<J, M, O> {
         Some(self.started[place].caller)
     }
 
-    // How many sessions are from the host of this peer.
-    fn count_from(&self, peer: &SocketAddr) -> usize
+    // How many sessions are counted as from the host of this peer.
+    fn count_from(&self, peer: &Peer) -> usize
         ensures { result ≡ count_from (λ s. s.caller.peer) peer.now
             (vec_items self.now.started) }
     {
-        count_of(&self.started, &host_of(peer.ip()))
+        count_of(&self.started, counted_as(*peer))
     }
 
     /// Takes in a session with this peer, and gives its number, if there is a place for it. What the roster
@@ -158,7 +161,7 @@ impl<J: Job, M: Maker<Job = J>, O: Asked<M>> Running<J, M, O> {
         &self,
         roster: &mut Roster,
         per_host: u16,
-        peer: &SocketAddr,
+        peer: &Peer,
         log: &L,
     ) -> Option<usize>
         ensures enters { IfSome result (Enters roster.old roster.new) }
@@ -266,7 +269,7 @@ impl<J: Job, M: Maker<Job = J>, O: Asked<M>> Running<J, M, O> {
         &mut self,
         _roster: &Roster,
         _per_host: u16,
-        _peer: &SocketAddr,
+        _peer: &Peer,
         _told: &TcpStream,
     )
         requires full { HasNoPlace _roster.now _per_host (count_from

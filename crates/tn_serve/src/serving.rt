@@ -1,16 +1,16 @@
 //! Each connection has a session in threads of its own.
 
 ghost use Rattle.std.specs.Prelude.{◌≡◌, ◌⊎◌, ◌<◌, ◌≤◌, ◌+◌, ◌^◌, ◌-◌, true, IsTrue, IfOk, IfSome, IfNone};
-ghost use Rattle.std.specs.Prelude.{[], IsErrOf, Ok, vec_items, vec_len};
-ghost use Rattle.tn_serve.specs.{Causes.{FailsBy, IsCaused}, Ends.{AreEnough, ServesUntil}};
+ghost use Rattle.std.specs.Prelude.{[], ◌∷◌, IsErrOf, Ok, map, vec_items, vec_len};
+ghost use Rattle.tn_serve.specs.{Causes.{FailsBy, IsCaused, place_at}, Ends.{AreEnough, ServesUntil}};
 ghost use Rattle.tn_serve.specs.Counted.{CountsSessions, HasEnded, StillCounts, facts_of, server_of};
 ghost use Rattle.tn_serve.specs.Places.{AreHeld, AreHeldBeside, HasNoPlace, RunsAll, RunsOver, count_from};
 ghost use Rattle.tn_serve.specs.Services.{MakesOnly, StillMakes, TurnsAway, WasTurnedAway};
 ghost use Rattle.tn_serve.specs.Turns.{HearsAll, HearsOfJobs, HearsOfNone, StillHears, live_of};
-ghost use Rattle.tn_network.specs.Asked.{Accepts, Listens};
+ghost use Rattle.tn_network.specs.Asked.{Accepts, GiveEach, Listens, at_place};
 ghost use Rattle.tn_roster.specs.Held.{IsLimit, held_count};
 
-use crate::acceptor::{Accepted, Acceptor, AcceptorSays};
+use crate::acceptor::{Accepted, Acceptor, AcceptorSays, Waiting};
 use crate::asked::Asked;
 use crate::call::{Call, Notes};
 use crate::caller::Caller;
@@ -18,7 +18,7 @@ use crate::draining::Drain;
 use crate::events::Event;
 use crate::fault::ServeFault;
 use crate::finished::Finished;
-use crate::listening::{At, listen_at};
+use crate::listening::{At, listen_all};
 use crate::note_texts;
 use crate::note_texts::SessionEnd;
 use crate::running::{Left, Running, Started};
@@ -33,30 +33,31 @@ use crossbeam_channel::{Receiver, RecvTimeoutError, Sender};
 use log::Log;
 use std::alloc::Global;
 use std::marker::Brand;
-use std::net::{SocketAddr, TcpListener, TcpStream};
+use std::net::{TcpListener, TcpStream};
+use std::slice;
 use std::sync::Arc;
 use std::thread::PromisedHandle;
 use std::time::{Duration, Instant};
-use tn_network::Network;
+use tn_network::{Network, Peer};
 use tn_roster::Roster;
 use tn_sockets::{Hook, Host, Standing};
 
 /// How many events wait at most for the loop.
 const EVENTS: usize = 16;
 
-/// Serves an address, or a name that has one, or a socket that is handed in, until so many connections were
-/// accepted, or `until` tells that no more are to come, and all their sessions have ended. Each connection has
+/// Serves each of these places, which are addresses, or names that have one, paths, or a socket that is handed
+/// in, until so many connections were accepted, or `until` tells that no more are to come, and all their sessions have ended. Each connection has
 /// a session in threads of its own, with the jobs that the service makes for it, as long as there are no more
 /// of them, and no more from its host, than there may be; one more is told `full` and closed. Once `until`
 /// says so, sessions have `serving.drain` seconds to end; then their last words are `closing`. `log` gets a
 /// record of each event: a warning for a session that ends in a fault, after an error `tn: session`. If it
-/// cannot listen, `causes` gets a line. Each session runs as `serve_connection` runs one; the clauses below
+/// cannot listen at one, nothing is served, and `causes` gets a line. Each session runs as `serve_connection` runs one; the clauses below
 /// count them, and say what the network was asked for. None makes it ask `until`. It takes eight, since what
 /// is lent and what is given here go together nowhere else.
 pub fn serve<H, U, V, L>(
     rt: H,
     alloc: Global,
-    at: At<'_>,
+    at: &[At<'_>],
     serving: Serving,
     until: U,
     service: V,
@@ -75,15 +76,14 @@ where
     ensures heard { IfOk result (λ served. HearsAll V.turns (HasEnded (server_of
         (facts_of V.Job.fresh V.Jobs.gives V.Job.reacts V.Job.steps V.Job.refuses) V.Jobs.left serving.options
         (V.makes service) (WasTurnedAway (H.dismisses rt)))) service served.whole served.faulted) }
-    ensures listened { Listens (H.listens rt at.entry.host.now at.entry.port at.entry.handed)
-        (H.shares rt) (H.accepts rt)
+    ensures listened { Listens (at_place (H.listens rt)) (H.shares rt) (H.accepts rt) (map place_at at.now)
         (λ (served : Served). served.accepted) (λ error ended. FailsBy error ended) result }
-    ensures caused { IsCaused at.entry.host.now at.entry.port at.entry.handed (H.listens rt)
+    ensures caused { IsCaused (map place_at at.now) (at_place (H.listens rt))
         causes.old.items causes.new.items result }
     ensures limit { IsErrOf result ServeFault.Limit → ¬ IsLimit serving.sessions }
 {
-    let listener = listen_at(&rt, alloc, at, causes)?;
-    serve_as::<H, U, V, L, Brand>(rt, alloc, &listener, serving, until, service, log)
+    let listeners = listen_all(&rt, alloc, at, causes)?;
+    serve_as::<H, U, V, L, Brand>(rt, alloc, &listeners, serving, until, service, log)
 }
 
 /// Serves an existing listener, as `serve` does one of its own, until so many connections were accepted, or
@@ -110,11 +110,12 @@ where
         (facts_of V.Job.fresh V.Jobs.gives V.Job.reacts V.Job.steps V.Job.refuses) V.Jobs.left serving.options
         (V.makes service) (WasTurnedAway (H.dismisses rt)))) service served.whole served.faulted) }
     ensures accepted { IfOk result (λ served.
-        Accepts (H.shares rt listener.now) (H.accepts rt) served.accepted) }
+        Accepts (H.shares rt) (H.accepts rt) (listener.now ∷ []) served.accepted) }
     ensures limit { IsErrOf result ServeFault.Limit → ¬ IsLimit serving.sessions }
     ensures bad_limit { (¬ IsLimit serving.sessions) → IsErrOf result ServeFault.Limit }
 {
-    serve_as::<H, U, V, L, Brand>(rt, alloc, listener, serving, until, service, log)
+    let listeners = slice::from_ref(listener);
+    serve_as::<H, U, V, L, Brand>(rt, alloc, listeners, serving, until, service, log)
 }
 
 // The same, for contracts that know the options of its sessions.
@@ -127,7 +128,7 @@ fn serve_as<
 >(
     rt: H,
     alloc: Global,
-    listener: &TcpListener,
+    listeners: &[TcpListener],
     serving: Serving,
     until: U,
     service: V,
@@ -146,14 +147,14 @@ fn serve_as<
         O.made O.turned))
         service served.whole served.faulted) }
     ensures accepted { IfOk result (λ served.
-        Accepts (H.shares rt listener.now) (H.accepts rt) served.accepted) }
+        Accepts (H.shares rt) (H.accepts rt) listeners.now served.accepted) }
     ensures limit { IsErrOf result ServeFault.Limit → ¬ IsLimit serving.sessions }
     ensures bad_limit { (¬ IsLimit serving.sessions) → IsErrOf result ServeFault.Limit }
 {
     let roster = Roster::new(alloc, usize::from(serving.sessions))?;
     let (sender, receiver) = crossbeam_channel::bounded(alloc, EVENTS)?;
-    if let Ok(address) = listener.local_addr() {
-        note_texts::listening(log, &address);
+    for listener in listeners {
+        note_texts::listening(log, listener);
     }
     let mut open: Open<H, V, O> = Open {
         rt,
@@ -166,7 +167,7 @@ fn serve_as<
         events: sender,
         turned_away: TurnedAway::new(alloc),
     };
-    let served = open.serve_listener(listener, until, receiver, log);
+    let served = open.serve_listeners(listeners, until, receiver, log);
     drop(open);
     served
 }
@@ -174,20 +175,24 @@ fn serve_as<
 // Accepts connections in a thread of their own.
 fn accepting<H: Host + Network, U: Until + Drop + Send + 'static>(
     rt: H,
-    listener: &TcpListener,
+    alloc: Global,
+    listeners: &[TcpListener],
     events: &Sender<Event, Global>,
     over: Receiver<(), Global>,
     until: U,
     serving: &Serving,
 ) -> Result<PromisedHandle<Accepted, AcceptorSays<H, U>>, ServeFault>
     ensures rt { IfOk result (λ handle. handle.promise.rt.value ≡ rt) }
-    ensures shares { IfOk result (λ handle. H.shares rt listener.now (Ok handle.promise.listener.value)) }
+    ensures shares { IfOk result (λ handle.
+        GiveEach (H.shares rt) listeners.now (vec_items handle.promise.listeners.value)) }
     ensures until { IfOk result (λ handle. handle.promise.until.value ≡ until) }
     ensures in_limit { ¬ IsErrOf result ServeFault.Limit }
 {
+    let listeners = share_each(&rt, alloc, listeners)?;
+    let waiting = Waiting::new(alloc, &listeners)?;
     let acceptor = Acceptor {
         rt,
-        listener: rt.share(listener)?,
+        listeners,
         events: events.clone()?,
         over,
         count: serving.count,
@@ -195,10 +200,26 @@ fn accepting<H: Host + Network, U: Until + Drop + Send + 'static>(
         is_handed: serving.is_handed,
         until,
     };
-    match acceptor.start() {
+    match acceptor.start(waiting) {
         Some(handle) => Ok(handle),
         None => Err(ServeFault::Memory),
     }
+}
+
+// One more handle of each of these listeners.
+fn share_each<N: Network>(
+    net: &N,
+    alloc: Global,
+    listeners: &[TcpListener],
+) -> Result<Vec<TcpListener>, ServeFault>
+    ensures shares { IfOk result (λ ours. GiveEach (N.shares net.now) listeners.now (vec_items ours)) }
+    ensures in_limit { ¬ IsErrOf result ServeFault.Limit }
+{
+    let mut ours = Vec::new(alloc);
+    for listener in listeners {
+        ours.push(net.share(listener)?)?;
+    }
+    Ok(ours)
 }
 
 // What became of the connections, where as many were accepted as were served, and enough.
@@ -221,7 +242,8 @@ fn agreed(served: Served, accepted: Accepted, count: u64) -> Result<Served, Serv
 #[derive(Drop)]
 struct Prepared {
     call: Call,
-    events: Sender<Event, Global>,
+    /// By it the session says that it has ended.
+    end: Notes,
     standing: Arc<Standing, Global>,
     traffic: Arc<Traffic, Global>,
     /// The two of them, for the note of its end.
@@ -247,11 +269,11 @@ struct Open<H, V: Service, O: Asked<V::Jobs>> {
 }
 
 impl<H: Host + Network, V: Service, O: Asked<V::Jobs>> Open<H, V, O> {
-    // Serves the connections of this listener, which a thread of its own accepts, until there were as many as
+    // Serves the connections of these listeners, which a thread of its own accepts, until there were as many as
     // it was asked for, or `until` tells that no more are to come, and each session has ended.
-    fn serve_listener<U: Until + Drop + Send + 'static, L: Log>(
+    fn serve_listeners<U: Until + Drop + Send + 'static, L: Log>(
         &mut self,
-        listener: &TcpListener,
+        listeners: &[TcpListener],
         until: U,
         events: Receiver<Event, Global>,
         log: &L,
@@ -271,14 +293,22 @@ impl<H: Host + Network, V: Service, O: Asked<V::Jobs>> Open<H, V, O> {
             (facts_of V.Job.fresh V.Jobs.gives V.Job.reacts V.Job.steps V.Job.refuses) V.Jobs.left O.options
             O.made O.turned))
             self.old.service served.whole served.faulted) }
-        ensures accepted { IfOk result (λ served.
-            Accepts (H.shares self.old.rt listener.now) (H.accepts self.old.rt) served.accepted) }
+        ensures accepted { IfOk result (λ served. Accepts (H.shares self.old.rt) (H.accepts self.old.rt)
+            listeners.now served.accepted) }
         ensures in_limit { ¬ IsErrOf result ServeFault.Limit }
     {
         let rt = self.rt;
         let count = self.serving.count;
         let (serves, over) = crossbeam_channel::bounded(self.alloc, 1)?;
-        let acceptor = accepting(rt, listener, &self.events, over, until, &self.serving)?;
+        let acceptor = accepting(
+            rt,
+            self.alloc,
+            listeners,
+            &self.events,
+            over,
+            until,
+            &self.serving,
+        )?;
         let served = self.run(&events, log);
         drop(events);
         drop(serves);
@@ -384,7 +414,7 @@ impl<H: Host + Network, V: Service, O: Asked<V::Jobs>> Open<H, V, O> {
     }
 
     // Starts a session over a connection that came, or turns it away where the session limit is reached.
-    fn admit<L: Log>(&mut self, stream: TcpStream, peer: &SocketAddr, log: &L)
+    fn admit<L: Log>(&mut self, stream: TcpStream, peer: &Peer, log: &L)
         requires makes { MakesOnly V.makes self.old.service O.made }
         requires turns { TurnsAway (H.dismisses self.old.rt) O.turned }
         ensures each { StillCounts (server_of
@@ -446,7 +476,7 @@ impl<H: Host + Network, V: Service, O: Asked<V::Jobs>> Open<H, V, O> {
     }
 
     // Tells a connection that there is no room for it.
-    fn turn_away(&mut self, stream: TcpStream, peer: &SocketAddr)
+    fn turn_away(&mut self, stream: TcpStream, peer: &Peer)
         requires turns { TurnsAway (H.dismisses self.old.rt) O.turned }
         requires full { HasNoPlace self.old.roster self.old.serving.per_host
             (count_from (λ s. s.caller.peer) peer.now
@@ -567,7 +597,7 @@ impl<H: Host + Network, V: Service, O: Asked<V::Jobs>> Open<H, V, O> {
         };
         let Prepared {
             call,
-            events,
+            end,
             standing,
             traffic,
             noted,
@@ -584,7 +614,7 @@ impl<H: Host + Network, V: Service, O: Asked<V::Jobs>> Open<H, V, O> {
             standing,
             traffic,
         };
-        if let Some(session) = session.start(caller.number, events) {
+        if let Some(session) = session.start(end) {
             return Some(Started::new(caller, noted, session));
         }
         self.service.ended(caller.number, &Finished::unstarted());
@@ -700,7 +730,7 @@ fn prepare(alloc: Global, events: &Sender<Event, Global>, caller: &Caller) -> Op
     Some(Prepared {
         noted: Noted::of(&traffic, &standing)?,
         call: call_of(events, caller, &standing)?,
-        events: events.clone().ok()?,
+        end: notes_of(events, caller)?,
         standing,
         traffic,
     })
@@ -716,12 +746,20 @@ fn call_of(
 {
     let Caller { number, peer, .. } = *caller;
     let hook = Hook::new(standing).ok()?;
-    let events = events.clone().ok()?;
+    let notes = notes_of(events, caller)?;
     Some(Call {
         number,
         peer,
         hook,
-        notes: Notes { events, number },
+        notes,
+    })
+}
+
+// By what something is noted of a session.
+fn notes_of(events: &Sender<Event, Global>, caller: &Caller) -> Option<Notes> {
+    Some(Notes {
+        events: events.clone().ok()?,
+        number: caller.number,
     })
 }
 

@@ -7,11 +7,10 @@ ghost use Rattle.tn_sockets.specs.Logs.{logged};
 ghost use Rattle.tn_machines.specs.server.Welcoming.{too_far_ahead};
 
 use crate::conversed::{Conversed, Ran};
-use crate::events::Event;
+use crate::events::SaysEnd;
 use crate::settings::SessionOptions;
 use crate::sight::Sight;
 use crate::traffic::{Counted, CountedWrites, Traffic};
-use crossbeam_channel::Sender;
 use std::alloc::Global;
 use std::net::TcpStream;
 use std::snapshot::Snapshot;
@@ -41,12 +40,10 @@ where
     M: Maker + Drop + Send + 'static,
     M::Job: Send + 'static,
 {
-    /// Runs it in a thread of its own, where one can be had, which sends at last that the session with this
-    /// number has ended.
-    pub(crate) fn start(
+    /// Runs it in a thread of its own, if one can be had, which says at last that it has ended.
+    pub(crate) fn start<E: SaysEnd + Drop + Send + 'static>(
         self,
-        number: usize,
-        events: Sender<Event, Global>,
+        end: E,
     ) -> Option<PromisedHandle<Ran, SessionSays<M>>>
         ensures options { IfSome result (λ handle. handle.promise.options ≡ self.options) }
         ensures jobs { IfSome result (λ handle. handle.promise.jobs.value ≡ self.jobs) }
@@ -64,7 +61,7 @@ where
                 (M.left self.jobs) self.options self.stream result }
         {
             let ran = self.run();
-            let _ = events.send(&rt, Event::Ended(number));
+            end.say_end(&rt);
             ran
         };
         match thread::spawn_with(&rt, promise, work) {

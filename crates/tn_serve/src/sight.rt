@@ -4,8 +4,9 @@ use std::alloc::Global;
 use std::sync::Arc;
 use tn_machines::{Gate, Place, Typed};
 use tn_sockets::Standing;
+use tn_streams::WindowSize;
 
-/// Notes how far a session is with what its client typed.
+/// Notes how far a session is with what its client typed, and the size of the client's window.
 #[derive(Drop)]
 pub(crate) struct Sight {
     pub(crate) standing: Arc<Standing, Global>,
@@ -26,5 +27,9 @@ impl Gate for Sight {
         } = typed;
         self.standing
             .note_typed(pieces, is_answered, is_interrupted);
+    }
+
+    fn resized(&self, size: WindowSize) {
+        self.standing.note_window(size);
     }
 }

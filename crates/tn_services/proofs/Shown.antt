@@ -7,7 +7,7 @@ use Rattle.tn_services.proofs.NewLines.{all, ends_more, settles, waits_alone}
 use Rattle.tn_services.specs.{Joining.Steps, NewLines.{ends_by_return, new_lines, settled, shown_of, waiting}, Showing.{IsToFail, Shows, ShowsGiven, giving}}
 use Rattle.tn_services.specs.{Talks.{EndsAtLast, ShowsTalk, texts_of}, declared.{joining.Gateway.Gateway, showing.Showing.Showing}}
 use Rattle.tn_services.specs.declared.joining.Gateway.TheVariants as side
-use Rattle.tn_jobs.specs.declared.{reactions.Reaction.Reaction, verdicts.After.{After, TheVariants.{Stay, WantsInput, Done, Stop}}}
+use Rattle.tn_jobs.specs.declared.{reactions.Reaction.Reaction, verdicts.After.{After, TheVariants.{Stay, Done}}}
 use Rattle.tn_streams.specs.{Foretelling.{Failures, ForetellsCall, HasCome}, Known.{KnownReader, known_reader}, declared.window.WindowSize.WindowSize}
 
 pub consumes_more : (a b c : Option (List ℕ)) (xs ys : List ℕ) → Consumes a b xs → Consumes b c ys → Consumes a c (xs ++ ys)
@@ -44,15 +44,13 @@ gave : (waited : Bool) (text : List ℕ) (after : After) (waits : Bool) (old new
     → Gave waited text waits old new
 gave waited text Stay waits old new shows = record { given = shows.given; came = shows.came; shows = shows.shows }
 gave waited text Done waits old new shows = record { given = []; came = shows.left; shows = shows.shows }
-gave waited text WantsInput waits old new shows = absurd shows
-gave waited text Stop waits old new shows = absurd shows
+gave waited text _ waits old new shows = absurd shows
 
 last_step : (waited : Bool) (text : List ℕ) (after : After) (waits : Bool) (old new : KnownReader) → after ≡ Done → Shows waited text after waits old new
     → IsAtEnd new.bytes ⊎ IsToFail old.failures
 last_step waited text Done waits old new is shows = shows.why
 last_step waited text Stay waits old new is shows = absurd (let bad = is in cc)
-last_step waited text WantsInput waits old new is shows = absurd shows
-last_step waited text Stop waits old new is shows = absurd shows
+last_step waited text _ waits old new is shows = absurd shows
 
 -- behind the last one nothing waits
 last_waits : (waited : Bool) (text : List ℕ) (after : After) (waits : Bool) (old new : KnownReader) → after ≡ Done → Shows waited text after waits old new
@@ -60,16 +58,14 @@ last_waits : (waited : Bool) (text : List ℕ) (after : After) (waits : Bool) (o
 unfolding ends_by_return
 last_waits waited text Done waits old new is shows = shows.shows.last
 last_waits waited text Stay waits old new is shows = absurd (let bad = is in cc)
-last_waits waited text WantsInput waits old new is shows = absurd shows
-last_waits waited text Stop waits old new is shows = absurd shows
+last_waits waited text _ waits old new is shows = absurd shows
 
 -- what is to fail after a step that goes on was to fail before it
 fails_before : (waited : Bool) (text : List ℕ) (after : After) (waits : Bool) (old new : KnownReader) → after ≡ Stay → Shows waited text after waits old new
     → IsToFail new.failures → IsToFail old.failures
 fails_before waited text Stay waits old new is shows fails = still_to_fail 1 (giving shows.given) old.failures new.failures shows.read fails
 fails_before waited text Done waits old new is shows fails = absurd (let bad = is in cc)
-fails_before waited text WantsInput waits old new is shows fails = absurd shows
-fails_before waited text Stop waits old new is shows fails = absurd shows
+fails_before waited text _ waits old new is shows fails = absurd shows
 
 -- what a step that was given something showed is what is settled of it
 is_settled : (front given text : List ℕ) (waits : Bool) → text ++ waiting waits ≡ new_lines (front ++ given) → waits ≡ ends_by_return (front ++ given)

@@ -1,5 +1,6 @@
 pub mod Cutting
 pub mod Dialing
+pub mod Greeting
 pub mod HangingUp
 pub mod Joining
 pub mod NewLines

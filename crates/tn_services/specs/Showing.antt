@@ -2,7 +2,7 @@
 use Rattle.std.specs.Prelude.{◌≡◌, ◌<◌, ◌≤◌, ◌⊎◌, ⊤, ℕ, Bool, Option, Some, None, List, [], ◌∷◌, ◌++◌, length}
 use Rattle.std.specs.Io.KnownBytes.{Consumes, IsAtEnd}
 use Rattle.tn_services.specs.NewLines.{ends_by_return, new_lines, waiting}
-use Rattle.tn_jobs.specs.declared.verdicts.After.{After, TheVariants.{Stay, WantsInput, Done, Stop}}
+use Rattle.tn_jobs.specs.declared.verdicts.After.{After, TheVariants.{Stay, Done}}
 use Rattle.tn_streams.specs.{Foretelling.{Failures, HasCome}, Known.KnownReader}
 
 -- how many of the step's reads, which are one, gave a byte
@@ -38,5 +38,4 @@ pub record ShowsNoMore (waited : Bool) (text : List ℕ) (waits : Bool) (old new
 abbrev pub Shows : Bool → List ℕ → After → Bool → KnownReader → KnownReader → Type 0
 Shows waited text Stay waits old new = ShowsBytes waited text waits old new
 Shows waited text Done waits old new = ShowsNoMore waited text waits old new
-Shows waited text WantsInput waits old new = ⊥
-Shows waited text Stop waits old new = ⊥
+Shows waited text _ waits old new = ⊥

@@ -57,7 +57,8 @@ pub struct Joiner<H, N> {
 }
 
 impl<H, N> Joiner<H, N> {
-    /// Jobs that are joined to the service at this host and port, which they dial for so many seconds at most.
+    /// Jobs that are joined to the service at this host and port, or at the path of a socket if the host is
+    /// `unix:` and that path, which they dial for so many seconds at most.
     /// They hang up by this hook once it ends. The first of `notes` is told of a service that speaks Telnet,
     /// and gives what the user reads first; the second is told of lines that may have been cut.
     pub fn new(

@@ -1,7 +1,7 @@
 //! The connection to a line service, which is made while its session runs.
 
 ghost use Rattle.std.specs.{Io.{ReadsAtMost, KnownBytes.ReadConsumes}, Prelude.{◌≡◌, None, string_bytes}};
-ghost use Rattle.tn_network.specs.Asked.{Reaches};
+ghost use Rattle.tn_network.specs.Asked.{ReachesService, names_path};
 ghost use Rattle.tn_services.specs.Dialing.{unreached};
 
 use crate::cutting::{Greets, HearsTelnet};
@@ -14,7 +14,7 @@ use std::sync::atomic::{AtomicBool, Ordering};
 use std::sync::{Arc, OnceLock, Wait};
 use std::time::{Clock, Duration, Instant};
 use std::{io, thread};
-use tn_network::{Network, Unheard, reach};
+use tn_network::{Network, reach_service};
 use tn_sockets::{Closing, Hook};
 
 /// How many milliseconds a read or a write waits before it looks whether its session is over.
@@ -37,6 +37,7 @@ const UNREACHED: &[u8] = b"the service cannot be reached";
 /// The connection to a line service, as both sides of a session have it: the one that reads makes it.
 #[derive(Drop)]
 pub struct Joint {
+    /// The host, or `unix:` and the path of a socket, which has no port.
     pub(crate) host: String,
     pub(crate) port: u16,
     /// For how many seconds the service is dialled.
@@ -69,7 +70,8 @@ impl Joint {
 
 // Sets for how long a call of the connection waits: for a short time. Returns one more handle of it.
 fn prepared(stream: &TcpStream) -> io::Result<TcpStream> {
-    stream.set_nodelay(true)?;
+    // A socket of the Unix domain has no such option.
+    let _ = stream.set_nodelay(true);
     stream.set_read_timeout(Some(Duration::from_millis(LOOK)))?;
     stream.set_write_timeout(Some(Duration::from_millis(LOOK)))?;
     stream.try_clone()
@@ -129,12 +131,14 @@ impl<H, N> Heard<H, N> {
 impl<H: Clock + Copy + Network + Wait, N: Drop> Heard<H, N> {
     // Asks each address once, for a short time.
     fn ask(&self, causes: &mut Vec<u8>) -> io::Result<TcpStream>
-        ensures { Reaches (H.finds self.now.rt (string_bytes self.now.joint.value.host)
-            self.now.joint.value.port) (H.dials self.now.rt) result }
+        ensures { ReachesService (names_path (string_bytes self.now.joint.value.host))
+            (H.joins self.now.rt (string_bytes self.now.joint.value.host))
+            (H.finds self.now.rt (string_bytes self.now.joint.value.host) self.now.joint.value.port)
+            (H.dials self.now.rt) result }
     {
         let joint = &*self.joint;
         let host = joint.host.as_str();
-        reach(&self.rt, host, joint.port, SLICE, &mut Unheard, causes)
+        reach_service(&self.rt, host, joint.port, SLICE, causes)
     }
 
     // Dials, for a short time. The service is given up once it was dialled for long enough, or if no address kept

@@ -7,6 +7,7 @@
 //! let reaction = Answerer::new(0).entry(alloc, Entry::Eof)?;
 //! let jobs = Gateways::new(reader, writer, lines); // both halves of a connection, or any others
 //! let jobs = Joiner::new(rt, host, port, patience, lines, hook, notes); // of a connection made by them
+//! let jobs = Greeting::new(jobs, Text::from(words)); // whose user reads these words first
 //! ```
 //!
 //! They know of no terminal: a session hands them what was typed. A gateway waits for nobody but its reader
@@ -18,6 +19,7 @@ pub use answerers::Answerers;
 pub use answering::Answerer;
 pub use cutting::{Greets, HearsCut, HearsTelnet, LineFormat};
 pub use dialing::{Joiner, Pacing, ServiceReader, ServiceWriter};
+pub use greeting::{Greeted, Greeting};
 pub use hanging_up::HangUp;
 pub use joining::Gateway;
 pub use joint::{Heard, Joint, Told};
@@ -30,6 +32,7 @@ mod answerers;
 mod answering;
 mod cutting;
 mod dialing;
+mod greeting;
 mod hanging_up;
 mod joining;
 mod joint;

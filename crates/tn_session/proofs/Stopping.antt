@@ -122,7 +122,7 @@ term_acts c new HangUp e on = ap (λ (r : term_run.Run). r.progress.at_end) e
 term_acts c new ReadFailed e on = ap (λ (r : term_run.Run). r.progress.at_end) e
 term_acts c new Take e on = ap (λ (r : term_run.Run). r.progress.at_end) e ∙ ask_ends true c ∙ on
 term_acts c new (Said id text after) (parts, cuts, e) on = ap (λ (r : term_run.Run). r.progress.at_end) e
-    ∙ said_ends id.0 parts (term_run.verdict c id.0 text after) c ∙ on
+    ∙ said_ends id.0 parts (term_run.verdict c id.0 text after) (term_run.turn_echo (term_run.echo_by (term_run.in_foreground c id.0) after) c) ∙ on
 term_acts c new Refused e on = ap (λ (r : term_run.Run). r.progress.at_end) e ∙ on
 term_acts c new Left e on = ap (λ (r : term_run.Run). r.progress.at_end) e ∙ on
 term_acts c new (Resized size) e on = ap (λ (r : term_run.Run). r.progress.at_end) e ∙ on

@@ -17,7 +17,7 @@ use std::sync::atomic::{AtomicBool, AtomicUsize, Ordering};
 use std::sync::{Arc, OnceLock, Wait};
 use std::time::{Clock, Duration, Instant};
 use std::{io, thread};
-use tn_streams::Source;
+use tn_streams::{Source, WindowSize};
 
 /// How many milliseconds a read waits before it looks whether its session is over.
 const LOOK: u16 = 500;
@@ -27,6 +27,17 @@ const LOOK: u16 = 500;
 const LINGER: u64 = 5;
 
 const LINGER_LATE: u64 = 1;
+
+/// Why a session was late to end: its peer typed nothing for too long, or it lasted too long itself.
+const IDLE: usize = 1;
+
+const TOO_LONG: usize = 2;
+
+/// An interrupt or a quit waits for the job in the foreground.
+const INTERRUPTED: usize = usize::MAX;
+
+/// A window's size is its width so many times, and its height.
+const SIDE: usize = 65_536;
 
 /// How often it is looked at most whether a session is held still, and how many milliseconds lie between.
 const HOLDS: u8 = 200;
@@ -38,10 +49,10 @@ const HOLD: u64 = 10;
 pub struct Standing {
     /// The peer was told that no more comes.
     finished: AtomicBool,
-    /// The peer typed nothing for too long.
-    idle: AtomicBool,
-    /// The session lasted too long.
-    too_long: AtomicBool,
+    /// The peer typed nothing for too long (`IDLE`), or the session lasted too long (`TOO_LONG`); else 0.
+    late: AtomicUsize,
+    /// The size of the peer's window: its width `SIDE` times, and its height.
+    window: AtomicUsize,
     /// Its server is to end.
     closing: AtomicBool,
     /// A job of the session wants it to end as by a hang-up.
@@ -63,10 +74,8 @@ pub struct Standing {
     /// How many pieces of what the peer sends went to the session.
     pieces: AtomicUsize,
     /// One more than after how many pieces all that was typed had gone to the job in the foreground, which
-    /// waited for more; 0 while it does not wait.
+    /// waited for more. While that job does not wait: `INTERRUPTED`, or 0.
     answered: AtomicUsize,
-    /// An interrupt or a quit waits for that job.
-    interrupted: AtomicBool,
     /// No more is sent to what a job is joined to.
     spent: AtomicBool,
 }
@@ -76,8 +85,8 @@ impl Standing {
     pub fn new(alloc: Global) -> Result<Arc<Standing, Global>, AllocError> {
         let standing = Standing {
             finished: AtomicBool::new(false),
-            idle: AtomicBool::new(false),
-            too_long: AtomicBool::new(false),
+            late: AtomicUsize::new(0),
+            window: AtomicUsize::new(0),
             closing: AtomicBool::new(false),
             hung_up: AtomicBool::new(false),
             bell: Bell::new(),
@@ -89,7 +98,6 @@ impl Standing {
             onward: OnceLock::new(),
             pieces: AtomicUsize::new(0),
             answered: AtomicUsize::new(0),
-            interrupted: AtomicBool::new(false),
             spent: AtomicBool::new(false),
         };
         Ok(Arc::new(alloc, standing)?)
@@ -132,12 +140,12 @@ impl Standing {
 
     /// Whether the peer typed nothing for too long.
     pub fn is_idle(&self) -> bool {
-        self.idle.load(Ordering::SeqCst)
+        self.late.load(Ordering::SeqCst) == IDLE
     }
 
     /// Whether the session lasted too long.
     pub fn is_too_long(&self) -> bool {
-        self.too_long.load(Ordering::SeqCst)
+        self.late.load(Ordering::SeqCst) == TOO_LONG
     }
 
     /// Whether the session was ended while its peer may still send: by `hang_up` or `close`, or since it lasted
@@ -196,17 +204,34 @@ impl Standing {
     /// foreground, which waits for more, and whether an interrupt or a quit waits for that job.
     pub fn note_typed(&self, pieces: u64, is_answered: bool, is_interrupted: bool) {
         let answered = if is_answered {
-            usize::try_from(pieces.saturating_add(1)).unwrap_or(usize::MAX)
+            usize::try_from(pieces.saturating_add(1)).unwrap_or(0)
+        } else if is_interrupted {
+            INTERRUPTED
         } else {
             0
         };
         self.answered.store(answered, Ordering::SeqCst);
-        self.interrupted.store(is_interrupted, Ordering::SeqCst);
+    }
+
+    /// The peer's window has this size from now on.
+    pub fn note_window(&self, size: WindowSize) {
+        let width = usize::from(size.width).saturating_mul(SIDE);
+        let window = width.saturating_add(usize::from(size.height));
+        self.window.store(window, Ordering::SeqCst);
+    }
+
+    /// The size of the peer's window in characters; 0 leaves a side open, as both are at first.
+    pub(crate) fn window(&self) -> WindowSize {
+        let window = self.window.load(Ordering::SeqCst);
+        WindowSize {
+            width: u16::try_from(window / SIDE).unwrap_or(0),
+            height: u16::try_from(window % SIDE).unwrap_or(0),
+        }
     }
 
     /// Whether an interrupt or a quit waits for the job in the foreground.
     pub(crate) fn is_interrupted(&self) -> bool {
-        self.interrupted.load(Ordering::SeqCst)
+        self.answered.load(Ordering::SeqCst) == INTERRUPTED
     }
 
     // Passes the end of what the peer sends on to what a job is joined to, once all before it went there. Each
@@ -244,10 +269,11 @@ impl Standing {
         }
     }
 
-    // Whether the connection is broken, as by a reset.
+    // Whether the connection is broken, as by a reset. One of the Unix domain, which has no address, looks so
+    // once the peer has closed it, and is not: what it sent before goes on.
     fn is_broken(&self) -> bool {
         match self.stream.get() {
-            Some(stream) => is_broken(stream.as_raw_fd()),
+            Some(stream) => stream.local_addr().is_ok() && is_broken(stream.as_raw_fd()),
             None => false,
         }
     }
@@ -397,7 +423,7 @@ impl<H: Clock + Copy, S: Drop> Attended<H, S> {
         if !self.is_past(self.heard, u64::from(self.idle)) {
             return false;
         }
-        self.standing.idle.store(true, Ordering::SeqCst);
+        self.standing.late.store(IDLE, Ordering::SeqCst);
         self.why = Some(Why::Idle);
         true
     }
@@ -423,7 +449,7 @@ impl<H: Clock + Copy, S: Drop> Attended<H, S> {
         if !self.is_past(self.began, u64::from(self.longest)) {
             return false;
         }
-        self.standing.too_long.store(true, Ordering::SeqCst);
+        self.standing.late.store(TOO_LONG, Ordering::SeqCst);
         self.why = Some(Why::TooLong);
         true
     }

@@ -1,4 +1,4 @@
-//! A bell, which wakes the thread that waits for a connection.
+//! A bell, which wakes the thread that waits.
 
 use libc::net as c;
 use libc::types::pollfd;
@@ -30,6 +30,24 @@ impl Bell {
         if let Some(counter) = &self.counter {
             let _ = libc::write(counter.as_raw_fd(), &1u64.to_ne_bytes());
         }
+    }
+
+    /// The descriptor that can be read once the bell was rung; -1, which `poll` passes over, if there is no bell.
+    pub(crate) fn descriptor(&self) -> RawFd {
+        match &self.counter {
+            Some(counter) => counter.as_raw_fd(),
+            None => -1,
+        }
+    }
+
+    /// Waits until the bell is rung, for so many milliseconds at most. False, at once, if there is no bell.
+    pub(crate) fn wait_for_ring(&self, milliseconds: u16) -> bool {
+        let Some(counter) = &self.counter else {
+            return false;
+        };
+        let mut ready = [awaited(counter.as_raw_fd())];
+        c::poll(&mut ready, i32::from(milliseconds));
+        true
     }
 
     /// Waits until something can be read from a descriptor, or the bell is rung, for so many milliseconds at

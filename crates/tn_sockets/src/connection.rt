@@ -46,7 +46,8 @@ impl Connection<TcpStream> {
     pub fn split(stream: TcpStream) -> io::Result<(TcpStream, Connection<TcpStream>)>
         ensures { IfOk result (λ sides. sides.1.stream ≡ stream) }
     {
-        stream.set_nodelay(true)?;
+        // A socket of the Unix domain has no such options.
+        let _ = stream.set_nodelay(true);
         keep_alive(&stream);
         let reader = stream.try_clone()?;
         let standing = None;

@@ -30,7 +30,8 @@ const STANDARD_INPUT: i32 = 0;
 /// The descriptor that `poll` passes over (POSIX).
 const NO_DESCRIPTOR: i32 = -1;
 
-/// After how many milliseconds without a key it is looked whether the session is over.
+/// After how many milliseconds without a key it is looked whether a half line is to be given. The end of the session
+/// ends the wait by itself.
 const LOOK: i32 = 200;
 
 /// The same where keys are held back.
@@ -148,11 +149,12 @@ impl<H: ClientFiles + Clock + Copy + Wait, K: Read + Drop> Console<H, K> {
         let mut waited = [
             waits_at(self.typing.sizes.descriptor()),
             waits_at(STANDARD_INPUT),
+            waits_at(self.typing.link.closing()),
         ];
         if poll(&mut waited, LOOK) <= 0 {
             return None;
         }
-        let [sizes, keys] = waited;
+        let [sizes, keys, _closed] = waited;
         if sizes.revents != 0 {
             return Some(Ready::Size);
         }

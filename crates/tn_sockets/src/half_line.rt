@@ -2,10 +2,17 @@
 
 ghost use Rattle.std.specs.Prelude.{◌≤◌, length};
 
-use crate::line_editor::{LineEditor, Taken};
+use crate::line_editor::{EditorSettings, LineEditor, Taken};
 use std::alloc::{AllocError, Global};
 use std::fs::File;
 use std::io::Write;
+
+/// The standard characters for an interrupt, a quit and a stop.
+const INTR: u8 = 3;
+
+const QUIT: u8 = 28;
+
+const SUSP: u8 = 26;
 
 /// A half line on the screen of a terminal. It is taken off before anything else is shown there, and put back
 /// after that. Bytes that the terminal does not take are dropped.
@@ -16,6 +23,11 @@ pub(crate) struct HalfLine {
     /// Something else may be shown on that screen.
     is_shared: bool,
     is_off: bool,
+    /// The characters that let the screen go on and stop it.
+    start: Option<u8>,
+    stop: Option<u8>,
+    /// The user has stopped the screen.
+    is_stopped: bool,
     /// A line to the client itself is typed below it.
     is_left: bool,
     /// The last byte that was shown is CR.
@@ -31,6 +43,7 @@ impl HalfLine {
     pub(crate) fn new(
         alloc: Global,
         editor: LineEditor,
+        editing: EditorSettings,
         screen: Option<File>,
         is_shared: bool,
     ) -> HalfLine {
@@ -39,6 +52,9 @@ impl HalfLine {
             screen,
             is_shared,
             is_off: false,
+            start: editing.start,
+            stop: editing.stop,
+            is_stopped: false,
             is_left: false,
             after_return: false,
             entered: Vec::new(alloc),
@@ -54,9 +70,15 @@ impl HalfLine {
         is_echoed: bool,
         line: &mut Vec<u8>,
     ) -> Result<Taken, AllocError> {
+        if self.controls_flow(key) {
+            return Ok(Taken::Edit);
+        }
         self.editor.set_echo(!is_echoed);
-        let taken = self.editor.take(key, !self.is_off, line)?;
-        self.show();
+        let draws = self.is_drawn();
+        let taken = self.editor.take(key, draws, line)?;
+        if !self.is_stopped {
+            self.show();
+        }
         if let Taken::Line(closing) = taken {
             if !is_echoed {
                 self.enter(line, closing.echo())?;
@@ -65,11 +87,53 @@ impl HalfLine {
         Ok(taken)
     }
 
+    // What a key does is shown at once.
+    fn is_drawn(&self) -> bool {
+        !self.is_off && !self.is_stopped
+    }
+
+    // Whether a key stops the screen, or lets it go on. A signal lets it go on too.
+    fn controls_flow(&mut self, key: u8) -> bool {
+        if Some(key) == self.stop {
+            self.is_stopped = true;
+            return true;
+        }
+        if Some(key) == self.start {
+            self.go_on();
+            return true;
+        }
+        if matches!(key, INTR | QUIT | SUSP) {
+            self.go_on();
+        }
+        false
+    }
+
+    // Lets the screen go on, with all that was typed while it was stopped.
+    fn go_on(&mut self) {
+        if !self.is_stopped {
+            return;
+        }
+        self.is_stopped = false;
+        if self.is_left {
+            return;
+        }
+        if !self.is_off {
+            let _drawn = self.editor.take_off();
+            self.show();
+        }
+        self.draw_again();
+    }
+
+    /// Whether the user has stopped the screen.
+    pub(crate) fn is_stopped(&self) -> bool {
+        self.is_stopped
+    }
+
     // The line ended, which is shown now or once the half line is put back.
     fn enter(&mut self, line: &[u8], end: &[u8]) -> Result<(), AllocError> {
         self.entered.extend_from_slice(line)?;
         self.entered.extend_from_slice(end)?;
-        if self.is_off {
+        if !self.is_drawn() {
             self.due.extend_from_slice(line)?;
             self.due.extend_from_slice(end)?;
         }
@@ -91,18 +155,24 @@ impl HalfLine {
             self.after_return = *last == b'\r';
         }
         if self.is_off {
-            self.is_off = false;
             self.editor.follow(shown);
-            self.show_due();
-            let _drawn = self.editor.put_back();
-            self.show();
+            if !self.is_stopped {
+                self.draw_again();
+            }
         }
+    }
+
+    fn draw_again(&mut self) {
+        self.is_off = false;
+        self.show_due();
+        let _drawn = self.editor.put_back();
+        self.show();
     }
 
     /// Takes the half line off the screen for good. `line` gets its bytes.
     pub(crate) fn give_up(&mut self, line: &mut Vec<u8>) -> Result<(), AllocError> {
-        line.clear();
-        line.extend_from_slice(self.editor.half_line())?;
+        self.go_on();
+        self.editor.copy(line)?;
         let drawn = self.editor.give_up();
         if !self.is_off {
             self.show();
@@ -115,14 +185,20 @@ impl HalfLine {
         self.editor.set_window(width);
     }
 
-    /// Leaves the half line on the screen: a line to the client itself begins a row below it.
-    pub(crate) fn leave(&mut self) {
-        self.editor.leave();
-        self.is_left = true;
+    /// Follows whether a line to the client itself is typed: the half line stays above it, and is shown again below it
+    /// once that line ended.
+    pub(crate) fn follow_prompt(&mut self, is_prompting: bool) {
+        if is_prompting && !self.is_left {
+            self.editor.leave();
+            self.is_left = true;
+        }
+        if !is_prompting && self.is_left {
+            self.show_again();
+        }
     }
 
-    /// Shows the half line again at the left edge, once that line ended.
-    pub(crate) fn show_again(&mut self) {
+    // Shows the half line again at the left edge.
+    fn show_again(&mut self) {
         self.is_left = false;
         if !self.is_off {
             self.editor.follow(b"\r");

@@ -4,6 +4,7 @@ use crate::attended::Standing;
 use std::alloc::{AllocError, Global};
 use std::net::TcpStream;
 use std::sync::{Arc, Wait};
+use tn_streams::WindowSize;
 
 /// How a job ends the connection of its session from outside of the session, and learns that it is over. A
 /// job in the background has no other way: its end ends no session.
@@ -58,6 +59,12 @@ impl Hook {
     /// Whether an interrupt or a quit that the client typed waits for the job in the foreground.
     pub fn is_interrupted(&self) -> bool {
         self.standing.is_interrupted()
+    }
+
+    /// The size of the client's window in characters; 0 leaves a side open (RFC 1073). An entry that was typed
+    /// after the window changed goes to its job once the new size is here.
+    pub fn window(&self) -> WindowSize {
+        self.standing.window()
     }
 
     /// Whether nothing more comes from the session's client: it has hung up, or was told that no more comes.

@@ -5,9 +5,12 @@ use std::mem;
 use tn_discipline::{BELL, Limit, Role, Settings, Sig};
 use tn_editor::{
     Arrow, Arrows, Drawn, EditKeys, EditRole, Editor, History, Pressed, Presses, Words,
+    first_character,
 };
 
-/// The standard character that gives up a line (KILL).
+/// The standard characters that take back a character and give up a line.
+const ERASE: u8 = 127;
+
 const KILL: u8 = 21;
 
 /// The bytes that begin a row.
@@ -18,11 +21,19 @@ const WERASE: u8 = 23;
 
 const REPRINT: u8 = 18;
 
+/// The usual characters that let the screen go on and stop it.
+const START: u8 = 17;
+
+const STOP: u8 = 19;
+
 /// How the user edits lines at a terminal.
 #[derive(Clone, Copy, PartialEq, Eq)]
 pub struct EditorSettings {
     /// The editing keys that a plain terminal lacks.
     pub keys: EditKeys,
+    /// The characters that stop the screen and let it go on, if there are any (POSIX.1-2017, XBD 11.2.2, IXON).
+    pub start: Option<u8>,
+    pub stop: Option<u8>,
     /// Whether control characters are shown as a circumflex and a letter (ECHOCTL).
     pub echoctl: bool,
     /// Whether Up and Down bring lines that were typed before.
@@ -30,8 +41,9 @@ pub struct EditorSettings {
 }
 
 impl EditorSettings {
-    /// As at a new terminal of Linux: ^W is WERASE and ^R is REPRINT, characters are UTF-8, control characters are
-    /// shown as a circumflex and a letter, and Up and Down bring lines that were typed before.
+    /// As at a new terminal of Linux: ^W is WERASE, ^R is REPRINT, ^S stops the screen and ^Q lets it go on, characters are
+    /// UTF-8, control characters are shown as a circumflex and a letter, and Up and Down bring lines that were typed
+    /// before.
     pub fn usual() -> EditorSettings {
         EditorSettings {
             keys: EditKeys {
@@ -40,6 +52,8 @@ impl EditorSettings {
                 iutf8: true,
                 words: Words::Symbols,
             },
+            start: Some(START),
+            stop: Some(STOP),
             echoctl: true,
             has_history: true,
         }
@@ -70,7 +84,7 @@ impl Closing {
 pub(crate) enum Taken {
     /// It edited the line, or did nothing.
     Edit,
-    /// It is a signal or the end of file, and nothing was typed before it on its line.
+    /// It is a signal or the end of file, which goes by itself.
     Alone(u8),
     /// It ended the line.
     Line(Closing),
@@ -85,18 +99,25 @@ pub(crate) struct LineEditor {
     arrows: Arrows,
     settings: Settings,
     keys: EditKeys,
+    /// The most bytes in a line, with its closing byte.
+    limit: Limit,
+    /// A signal leaves the line as it is.
+    keeps_at_signal: bool,
     /// The bytes that show what was done last.
     drawing: Vec<u8>,
     /// The line that Up or Down brings.
     recalled: Vec<u8>,
+    /// The bytes of the line after the cursor, which Left has taken back and Right types again.
+    rest: Vec<u8>,
 }
 
 impl LineEditor {
-    /// Nothing was typed yet. A line has at most so many bytes with its closing byte. The window has so many columns;
-    /// 0 if that is not known.
+    /// Nothing was typed yet. A line has at most `limit` bytes with its closing byte, and never more than `most`. The
+    /// window has so many columns; 0 if that is not known.
     pub(crate) fn new(
         alloc: Global,
         limit: Limit,
+        most: Limit,
         editing: EditorSettings,
         window: u16,
     ) -> Result<LineEditor, AllocError> {
@@ -108,24 +129,49 @@ impl LineEditor {
         };
         Ok(LineEditor {
             editor: Editor::new(alloc, settings, editing.keys, limit)?,
-            drawn: Drawn::new(alloc, limit, editing.echoctl, window)?,
+            drawn: Drawn::new(alloc, most, editing.echoctl, window)?,
             history,
             arrows: Arrows::new(),
             settings,
             keys: editing.keys,
+            limit,
+            keeps_at_signal: false,
             drawing: Vec::new(alloc),
             recalled: Vec::new(alloc),
+            rest: Vec::new(alloc),
         })
     }
 
-    /// The bytes of the half line.
-    pub(crate) fn half_line(&self) -> &[u8] {
-        self.editor.half_line()
+    /// How many bytes the half line has.
+    pub(crate) fn count(&self) -> usize {
+        self.editor
+            .half_line()
+            .len()
+            .saturating_add(self.rest.len())
+    }
+
+    /// Puts the bytes of the half line into `line`.
+    pub(crate) fn copy(&self, line: &mut Vec<u8>) -> Result<(), AllocError> {
+        line.clear();
+        line.extend_from_slice(self.editor.half_line())?;
+        line.extend_from_slice(&self.rest)
     }
 
     /// The bytes that show what was done last.
     pub(crate) fn drawing(&self) -> &[u8] {
         &self.drawing
+    }
+
+    /// From now on an empty line goes on to at most so many bytes with its closing byte, and a signal in it leaves it as
+    /// it is, or drops it.
+    pub(crate) fn begin(&mut self, limit: Limit, keeps_at_signal: bool) -> Result<(), AllocError> {
+        self.keeps_at_signal = keeps_at_signal;
+        if self.limit != limit {
+            let alloc = *self.recalled.allocator();
+            self.editor = Editor::new(alloc, self.settings, self.keys, limit)?;
+            self.limit = limit;
+        }
+        Ok(())
     }
 
     /// Has the line shown or not from now on.
@@ -151,7 +197,7 @@ impl LineEditor {
         let bytes = match self.arrows.take(key) {
             Pressed::Waits => return Ok(Taken::Edit),
             Pressed::Arrow(arrow) => {
-                self.recall(arrow, draws)?;
+                self.take_arrow(arrow, draws)?;
                 return Ok(Taken::Edit);
             },
             Pressed::Bytes(bytes) => bytes,
@@ -172,9 +218,28 @@ impl LineEditor {
         line: &mut Vec<u8>,
     ) -> Result<Taken, AllocError> {
         let role = self.editor.role(byte);
-        let is_empty = self.editor.half_line().is_empty();
+        let is_empty = self.count() == 0;
+        if !self.rest.is_empty() {
+            match role {
+                EditRole::Plain(Role::Ordinary(_)) if !self.has_room(byte) => {
+                    self.drawing.push(BELL)?;
+                    return Ok(Taken::Edit);
+                },
+                EditRole::Plain(Role::Ordinary(_) | Role::Erase)
+                | EditRole::EraseWord
+                | EditRole::Reprint => {
+                    self.edit_before_rest(byte, role, draws)?;
+                    return Ok(Taken::Edit);
+                },
+                EditRole::Plain(Role::Signal(_)) if self.keeps_at_signal => {},
+                EditRole::Plain(_) => self.join_rest(draws)?,
+            }
+        }
         match role {
-            EditRole::Plain(Role::Signal(_) | Role::Eof) if is_empty => Ok(Taken::Alone(byte)),
+            EditRole::Plain(Role::Signal(_)) if is_empty || self.keeps_at_signal => {
+                Ok(Taken::Alone(byte))
+            },
+            EditRole::Plain(Role::Eof) if is_empty => Ok(Taken::Alone(byte)),
             EditRole::Plain(Role::Nl | Role::Eol(_) | Role::Eol2(_)) => {
                 self.enter(byte, role, draws, line)?;
                 Ok(Taken::Line(Closing::NewLine))
@@ -192,6 +257,102 @@ impl LineEditor {
                 Ok(Taken::Edit)
             },
         }
+    }
+
+    // Whether the character that a byte begins has room in the line.
+    fn has_room(&self, byte: u8) -> bool {
+        let wanted = first_character(&[byte, 0, 0, 0], self.keys.iutf8).len();
+        let most = usize::from(self.limit.bytes());
+        self.count().saturating_add(wanted) < most
+    }
+
+    // Edits what is before the cursor.
+    fn edit_before_rest(
+        &mut self,
+        byte: u8,
+        role: EditRole,
+        draws: bool,
+    ) -> Result<(), AllocError> {
+        self.wipe_rest(draws)?;
+        self.edit(byte, role, draws)?;
+        self.show_rest(draws)
+    }
+
+    fn wipe_rest(&mut self, draws: bool) -> Result<(), AllocError> {
+        if draws && self.settings.flags.echo && !self.rest.is_empty() {
+            self.drawn.wipe_rest(&mut self.drawing)?;
+        }
+        Ok(())
+    }
+
+    fn show_rest(&mut self, draws: bool) -> Result<(), AllocError> {
+        if draws {
+            self.drawn
+                .rest(&self.editor, &self.rest, &mut self.drawing)?;
+        }
+        Ok(())
+    }
+
+    // Types what is after the cursor, which stands at the end then.
+    fn join_rest(&mut self, draws: bool) -> Result<(), AllocError> {
+        self.wipe_rest(draws)?;
+        let empty = Vec::new(*self.rest.allocator());
+        let rest = mem::replace(&mut self.rest, empty);
+        self.type_all(&rest, draws)
+    }
+
+    fn type_all(&mut self, bytes: &[u8], draws: bool) -> Result<(), AllocError> {
+        for byte in bytes {
+            let role = self.editor.role(*byte);
+            self.edit(*byte, role, draws)?;
+        }
+        Ok(())
+    }
+
+    fn take_arrow(&mut self, arrow: Arrow, draws: bool) -> Result<(), AllocError> {
+        match arrow {
+            Arrow::Left => self.go_left(draws),
+            Arrow::Right => self.go_right(draws),
+            Arrow::Up | Arrow::Down => {
+                self.join_rest(draws)?;
+                self.recall(arrow, draws)
+            },
+        }
+    }
+
+    // Goes a character to the left: it is erased, and is typed again later.
+    fn go_left(&mut self, draws: bool) -> Result<(), AllocError> {
+        let mut line = Vec::new(*self.rest.allocator());
+        line.extend_from_slice(self.editor.half_line())?;
+        if line.is_empty() {
+            self.drawing.push(BELL)?;
+            return Ok(());
+        }
+        self.wipe_rest(draws)?;
+        let role = self.editor.role(ERASE);
+        self.edit(ERASE, role, draws)?;
+        let left = self.editor.half_line().len();
+        let mut rest = Vec::new(*self.rest.allocator());
+        rest.extend_from_slice(line.get(left..).unwrap_or(&[]))?;
+        rest.extend_from_slice(&self.rest)?;
+        self.rest = rest;
+        self.show_rest(draws)
+    }
+
+    // Goes a character to the right: it is typed again.
+    fn go_right(&mut self, draws: bool) -> Result<(), AllocError> {
+        if self.rest.is_empty() {
+            self.drawing.push(BELL)?;
+            return Ok(());
+        }
+        self.wipe_rest(draws)?;
+        let empty = Vec::new(*self.rest.allocator());
+        let rest = mem::replace(&mut self.rest, empty);
+        let first = first_character(&rest, self.keys.iutf8);
+        self.type_all(first, draws)?;
+        self.rest
+            .extend_from_slice(rest.get(first.len()..).unwrap_or(&[]))?;
+        self.show_rest(draws)
     }
 
     // Drops the line at a signal, and begins a row below it.
@@ -240,7 +401,7 @@ impl LineEditor {
         Ok(())
     }
 
-    // Brings the line before or after, in place of the half line. Right and Left do nothing.
+    // Brings the line before or after, in place of the half line.
     fn recall(&mut self, arrow: Arrow, draws: bool) -> Result<(), AllocError> {
         if !self.find(arrow)? {
             self.drawing.push(BELL)?;
@@ -254,12 +415,9 @@ impl LineEditor {
         self.edit(kill, role, draws)?;
         let empty = Vec::new(*self.recalled.allocator());
         let recalled = mem::replace(&mut self.recalled, empty);
-        for byte in &recalled {
-            let role = self.editor.role(*byte);
-            self.edit(*byte, role, draws)?;
-        }
+        let typed = self.type_all(&recalled, draws);
         self.recalled = recalled;
-        Ok(())
+        typed
     }
 
     // Puts the line that this key asks for into `recalled`. False if there is none.
@@ -282,6 +440,7 @@ impl LineEditor {
     /// Draws that the half line is taken off.
     pub(crate) fn take_off(&mut self) -> Result<(), AllocError> {
         self.drawing.clear();
+        self.wipe_rest(true)?;
         self.drawn.away(&mut self.drawing)
     }
 
@@ -293,13 +452,15 @@ impl LineEditor {
     /// Draws the half line again.
     pub(crate) fn put_back(&mut self) -> Result<(), AllocError> {
         self.drawing.clear();
-        self.drawn.again(&self.editor, &mut self.drawing)
+        self.drawn.again(&self.editor, &mut self.drawing)?;
+        self.show_rest(true)
     }
 
     /// Gives the half line up, and draws that it is taken off.
     pub(crate) fn give_up(&mut self) -> Result<(), AllocError> {
         let drawn = self.take_off();
         let _kill = self.editor.key(KILL);
+        self.rest.clear();
         drawn
     }
 

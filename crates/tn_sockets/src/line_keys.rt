@@ -7,6 +7,7 @@ use crate::client_files::ClientFiles;
 use crate::console::Console;
 use crate::escaping::SessionInput;
 use crate::half_line::HalfLine;
+use crate::holding::Holding;
 use crate::kept;
 use crate::line_editor::{Closing, EditorSettings, LineEditor, Taken};
 use crate::link::Link;
@@ -25,20 +26,27 @@ use tn_streams::{Control, Source, WindowSize, nothing_to_say};
 /// The descriptor of standard output (POSIX, `STDOUT_FILENO`).
 const STANDARD_OUTPUT: i32 = 1;
 
-/// The standard characters for an interrupt and a quit.
+/// The standard characters for an interrupt, a quit and the end of file, and those that take back a character and
+/// give up a line.
 const INTR: u8 = 3;
 
 const QUIT: u8 = 28;
+
+const EOF: u8 = 4;
+
+const ERASE: u8 = 127;
+
+const KILL: u8 = 21;
 
 const RETURN: u8 = b'\r';
 
 /// How lines are edited at the client.
 #[derive(Drop)]
 pub struct LineMode {
-    /// Whether they are.
-    pub is_wanted: bool,
-    /// How many bytes a line has at most.
-    pub limit: Limit,
+    /// The most bytes in a line of line mode, if there is line mode.
+    pub limit: Option<Limit>,
+    /// The most bytes in a line that LINEMODE has edited at the client.
+    pub session_limit: Limit,
     pub editing: EditorSettings,
     /// The bytes that RETURN sends, if the user has chosen them.
     pub returns: Option<ReturnKey>,
@@ -47,16 +55,24 @@ pub struct LineMode {
     pub width: u16,
 }
 
-/// The keys of a console. In line mode a line is edited at the client, is shown there unless the other end echoes,
-/// and goes once RETURN is typed, with CR LF if the user chose nothing else. The session's echo of its keys is not
-/// shown again. Line mode lasts as long as the other end neither has LINEMODE on nor suppresses GO AHEAD (RFC 854,
-/// "The Network Virtual Terminal"). At any other time each key goes at once, and a half line goes before it.
+/// The keys of a console. A line that is edited at the client is shown there unless the other end echoes, and goes
+/// once it ends. The session's echo of its keys is not shown again. A line is edited at the client in line mode, and
+/// while LINEMODE has the client edit (RFC 1184, section 2.2, EDIT) by the standard characters and without a forward
+/// mask. Line mode lasts as long as the other end neither has LINEMODE on nor suppresses GO AHEAD (RFC 854, "The Network
+/// Virtual Terminal"), and a line of it goes with CR LF if the user chose nothing else. At any other time each key goes
+/// at once, and a half line goes before it.
 #[derive(Drop)]
 pub struct LineKeys<H, K> {
     rt: H,
     console: Console<H, K>,
     link: Arc<Link, Global>,
     returns: Option<ReturnKey>,
+    line_limit: Limit,
+    session_limit: Limit,
+    /// The lines that the editor is set for.
+    holding: Holding,
+    /// The beginning of a line has gone, and its end has not.
+    is_midline: bool,
     /// The line that ended last.
     line: Vec<u8>,
     /// Keys and control functions that are still to be given.
@@ -65,8 +81,6 @@ pub struct LineKeys<H, K> {
     asked: Option<Control>,
     /// RETURN was typed, which the console gives as a new line.
     is_returned: bool,
-    /// A line to the client itself is typed.
-    is_prompting: bool,
 }
 
 impl<H: ClientFiles + Clock + Copy + Wait, K: Read + Drop> LineKeys<H, K> {
@@ -79,70 +93,122 @@ impl<H: ClientFiles + Clock + Copy + Wait, K: Read + Drop> LineKeys<H, K> {
         mode: LineMode,
     ) -> Result<LineKeys<H, K>, AllocError> {
         let LineMode {
-            is_wanted,
             limit,
+            session_limit,
             editing,
             returns,
             screen,
             width,
         } = mode;
-        let editor = LineEditor::new(alloc, limit, editing, width)?;
+        let line_limit = limit.unwrap_or(session_limit);
+        let most = if line_limit.bytes() > session_limit.bytes() {
+            line_limit
+        } else {
+            session_limit
+        };
+        let editor = LineEditor::new(alloc, line_limit, most, editing, width)?;
         let is_shared = isatty(STANDARD_OUTPUT) == 1;
-        link.edit_by(&rt, HalfLine::new(alloc, editor, screen, is_shared));
-        link.set_line_mode(is_wanted);
+        let half = HalfLine::new(alloc, editor, editing, screen, is_shared);
+        link.edit_by(&rt, half);
+        link.set_line_mode(limit.is_some());
         Ok(LineKeys {
             rt,
             console,
             link,
             returns,
+            line_limit,
+            session_limit,
+            holding: Holding::LineMode,
+            is_midline: false,
             line: Vec::new(alloc),
             due: VecDeque::new(alloc),
             asked: None,
             is_returned: false,
-            is_prompting: false,
         })
+    }
+
+    // The lines that are held now. The end of a line whose beginning has gone goes as it is typed, so that ERASE still
+    // takes back what has gone.
+    fn held(&self) -> Holding {
+        match self.link.holding() {
+            Holding::Edit if self.is_midline => Holding::Nothing,
+            holding => holding,
+        }
+    }
+
+    // Sets the editor for the lines that are held now, and returns which these are. The half line of others goes.
+    fn begin(&mut self) -> io::Result<Holding> {
+        if self.held() != self.holding {
+            self.give_half_up()?;
+            self.holding = self.held();
+            self.set_editor()?;
+        }
+        Ok(self.holding)
+    }
+
+    fn set_editor(&mut self) -> Result<(), AllocError> {
+        let (limit, keeps_at_signal) = match self.holding {
+            Holding::Nothing => return Ok(()),
+            Holding::LineMode => (self.line_limit, false),
+            Holding::Edit => (self.session_limit, true),
+        };
+        let mut half = self.link.half().lock(&self.rt);
+        if let Some(half) = &mut *half {
+            half.editor.begin(limit, keeps_at_signal)?;
+        }
+        Ok(())
     }
 
     // Takes a key: it edits the line, or goes after the half line.
     fn take(&mut self, key: u8) -> io::Result<()> {
-        if self.link.is_line_mode() {
+        if self.begin()? != Holding::Nothing {
             return self.edit(key);
         }
-        self.give_half_up()?;
+        self.follow(key);
         self.push(SessionInput::Key(key))
     }
 
     // Takes RETURN, which the console gave as a new line.
     fn take_return(&mut self) -> io::Result<()> {
-        if self.link.is_line_mode() {
+        if self.begin()? != Holding::Nothing {
             return self.edit(RETURN);
         }
-        self.give_half_up()?;
+        self.is_midline = false;
         self.push(SessionInput::Control(Control::NewLine))
+    }
+
+    // Follows a key that goes at once.
+    fn follow(&mut self, key: u8) {
+        match key {
+            RETURN | b'\n' | EOF | KILL => self.is_midline = false,
+            ERASE => {},
+            _ => self.is_midline = true,
+        }
     }
 
     // Edits the line by a key.
     fn edit(&mut self, key: u8) -> io::Result<()> {
         match self.type_key(key)? {
             Taken::Edit => Ok(()),
-            Taken::Alone(key) => self.push(sent_alone(key)),
+            Taken::Alone(key) => self.push(self.alone(key)),
             Taken::Line(closing) => {
                 self.push_line()?;
-                match closing {
-                    Closing::NewLine => self.push(self.new_line()),
-                    Closing::EndOfFile => Ok(()),
+                match self.ended_by(closing) {
+                    Some(input) => self.push(input),
+                    None => Ok(()),
                 }
             },
         }
     }
 
     fn type_key(&mut self, key: u8) -> Result<Taken, AllocError> {
-        let mut half = self.link.half().lock(&self.rt);
-        let Some(half) = &mut *half else {
-            return Ok(Taken::Edit);
+        let taken = self.link.edit_half(&self.rt, key, &mut self.line)?;
+        let half = if self.link.count_half(&self.rt) == 0 {
+            Holding::Nothing
+        } else {
+            self.holding
         };
-        let taken = half.take(key, self.link.echoes_there(), &mut self.line)?;
-        self.link.note_half(!half.editor.half_line().is_empty());
+        self.link.note_half(half);
         Ok(taken)
     }
 
@@ -160,7 +226,8 @@ impl<H: ClientFiles + Clock + Copy + Wait, K: Read + Drop> LineKeys<H, K> {
     // Takes the half line off the screen, and has its bytes given as keys.
     fn give_half_up(&mut self) -> io::Result<()> {
         if self.take_half()? {
-            self.link.note_half(false);
+            self.link.note_half(Holding::Nothing);
+            self.is_midline = true;
             return self.push_line();
         }
         Ok(())
@@ -186,7 +253,27 @@ impl<H: ClientFiles + Clock + Copy + Wait, K: Read + Drop> LineKeys<H, K> {
         Ok(())
     }
 
-    // The input that RETURN is after a line.
+    // The input that goes after a line, if any does.
+    fn ended_by(&self, closing: Closing) -> Option<SessionInput> {
+        match (closing, self.holding) {
+            (Closing::NewLine, Holding::Edit) => Some(SessionInput::Key(RETURN)),
+            (Closing::NewLine, _) => Some(self.new_line()),
+            (Closing::EndOfFile, Holding::Edit) => Some(SessionInput::Key(EOF)),
+            (Closing::EndOfFile, _) => None,
+        }
+    }
+
+    // The input that a special character is which goes by itself: the session knows what it is under LINEMODE. In line
+    // mode an interrupt goes as IP, a quit as BREAK, and the two others as they are.
+    fn alone(&self, key: u8) -> SessionInput {
+        match key {
+            INTR if self.holding == Holding::LineMode => SessionInput::Control(Control::Ip),
+            QUIT if self.holding == Holding::LineMode => SessionInput::Control(Control::Brk),
+            _ => SessionInput::Key(key),
+        }
+    }
+
+    // The input that RETURN is after a line of line mode.
     fn new_line(&self) -> SessionInput {
         match self.console.asked_return().or(self.returns) {
             Some(ReturnKey::CrNul) => SessionInput::Key(RETURN),
@@ -208,29 +295,8 @@ impl<H: ClientFiles + Clock + Copy + Wait, K: Read + Drop> LineKeys<H, K> {
         Err(io::Error::from(ErrorKind::Interrupted))
     }
 
-    // Once a line to the client itself was typed, the half line stands below it.
-    fn follow_prompt(&mut self) {
-        let was_prompting = self.is_prompting;
-        self.is_prompting = self.console.is_prompting();
-        if self.is_prompting == was_prompting {
-            return;
-        }
-        let mut half = self.link.half().lock(&self.rt);
-        if let Some(half) = &mut *half {
-            if self.is_prompting {
-                half.leave();
-            } else {
-                half.show_again();
-            }
-        }
-    }
-
     fn count_half(&self) -> usize {
-        let half = self.link.half().lock(&self.rt);
-        match &*half {
-            Some(half) => half.editor.half_line().len(),
-            None => 0,
-        }
+        self.link.count_half(&self.rt)
     }
 
     // Reads keys, and takes them.
@@ -238,29 +304,24 @@ impl<H: ClientFiles + Clock + Copy + Wait, K: Read + Drop> LineKeys<H, K> {
         ensures bound { ReadsAtMost result buf.new }
     {
         let read = self.console.read_some(buf);
-        self.follow_prompt();
+        let is_prompting = self.console.is_prompting();
+        self.link.follow_prompt(&self.rt, is_prompting);
         let count = read?;
         if count == 0 {
-            self.link.count_dropped(self.count_half());
+            let half = self.count_half();
+            self.link.count_dropped(half);
             return Ok(0);
         }
-        if !self.link.is_line_mode() && self.count_half() == 0 {
+        if self.held() == Holding::Nothing && self.count_half() == 0 {
+            for key in &buf[..count] {
+                self.follow(*key);
+            }
             return Ok(count);
         }
         for place in 0..count {
             self.take(buf[place])?;
         }
         self.give(buf)
-    }
-}
-
-// The input that a special character is if nothing was typed before it on its line: an interrupt goes as IP,
-// a quit as BREAK, and the two others as they are.
-fn sent_alone(key: u8) -> SessionInput {
-    match key {
-        INTR => SessionInput::Control(Control::Ip),
-        QUIT => SessionInput::Control(Control::Brk),
-        _ => SessionInput::Key(key),
     }
 }
 
@@ -271,10 +332,7 @@ impl<H: ClientFiles + Clock + Copy + Wait, K: Read + Drop> Source for LineKeys<H
 
     fn resized(&mut self) -> Option<WindowSize> {
         let size = self.console.resized()?;
-        let mut half = self.link.half().lock(&self.rt);
-        if let Some(half) = &mut *half {
-            half.resize(size.width);
-        }
+        self.link.resize_half(&self.rt, size.width);
         Some(size)
     }
 

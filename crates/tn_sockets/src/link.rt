@@ -2,15 +2,19 @@
 
 ghost use Rattle.std.specs.Prelude.{◌≤◌, length};
 
+use crate::bell::Bell;
 use crate::half_line::HalfLine;
+use crate::holding::Holding;
+use crate::line_editor::Taken;
 use crate::screen_log::ScreenLog;
-use std::alloc::Global;
+use std::alloc::{AllocError, Global};
 use std::fs::File;
-use std::mem;
 use std::net::{Shutdown, TcpStream};
+use std::os::fd::RawFd;
 use std::sync::atomic::{AtomicBool, AtomicUsize, Ordering};
 use std::sync::{Mutex, OnceLock, Wait};
-use std::time::Clock;
+use std::time::{Clock, Duration};
+use std::{mem, thread};
 
 /// How often what is sent may have to wait once the user has left, and once nothing more comes. Each time
 /// takes as long as a write waits.
@@ -23,14 +27,16 @@ const MAX_LINGER: usize = 50;
 #[derive(Drop)]
 pub struct Link {
     stream: OnceLock<TcpStream>,
-    /// Nothing more comes.
+    /// Nothing more comes, of which the bell tells.
     closed: AtomicBool,
+    bell: Bell,
     /// Reading from it failed.
     broken: AtomicBool,
     /// The screen takes no more.
     dark: AtomicBool,
-    /// The user has left.
+    /// The user has left, and has done so by an interrupt or a quit.
     left: AtomicBool,
+    interrupted: AtomicBool,
     /// LINEMODE is on.
     linemode: AtomicBool,
     /// The other end suppresses GO AHEAD.
@@ -42,13 +48,18 @@ pub struct Link {
     /// How many keys were typed and never came to the session.
     dropped: AtomicUsize,
     edits_here: AtomicBool,
+    /// A line that LINEMODE has edited here may go as a whole.
+    goes_whole: AtomicBool,
     echoes_there: AtomicBool,
     /// How many bytes of a line are held here.
     held: AtomicUsize,
-    /// A half line was typed in line mode.
+    /// A half line was typed, and is held: in line mode, and by LINEMODE.
     has_half: AtomicBool,
+    has_edited_half: AtomicBool,
     /// What the session shows next is an echo of keys.
     is_echoing: AtomicBool,
+    /// Keys that were read wait to be taken.
+    has_keys: AtomicBool,
     /// The half line as it is shown, if there is a terminal to show it at.
     half: Mutex<Option<HalfLine>>,
     came: AtomicUsize,
@@ -66,19 +77,24 @@ impl Link {
         Link {
             stream: OnceLock::new(),
             closed: AtomicBool::new(false),
+            bell: Bell::new(),
             broken: AtomicBool::new(false),
             dark: AtomicBool::new(false),
             left: AtomicBool::new(false),
+            interrupted: AtomicBool::new(false),
             linemode: AtomicBool::new(false),
             suppressed: AtomicBool::new(false),
             has_line_mode: AtomicBool::new(false),
             late: AtomicUsize::new(0),
             dropped: AtomicUsize::new(0),
             edits_here: AtomicBool::new(false),
+            goes_whole: AtomicBool::new(false),
             echoes_there: AtomicBool::new(false),
             held: AtomicUsize::new(0),
             has_half: AtomicBool::new(false),
+            has_edited_half: AtomicBool::new(false),
             is_echoing: AtomicBool::new(false),
+            has_keys: AtomicBool::new(false),
             half: Mutex::new(None),
             came: AtomicUsize::new(0),
             went: AtomicUsize::new(0),
@@ -129,8 +145,17 @@ impl Link {
 
     /// Ends both directions. A read that waits for the other end returns.
     pub fn hang_up(&self) {
+        self.shut(Shutdown::Both);
+    }
+
+    /// Ends the direction in which bytes go.
+    pub(crate) fn end_writing(&self) {
+        self.shut(Shutdown::Write);
+    }
+
+    fn shut(&self, how: Shutdown) {
         if let Some(stream) = self.stream.get() {
-            let _ = stream.shutdown(Shutdown::Both);
+            let _ = stream.shutdown(how);
         }
     }
 
@@ -148,6 +173,17 @@ impl Link {
     /// The user leaves: what still fails is no fault, and both directions end once all was sent.
     pub(crate) fn leave(&self) {
         self.left.store(true, Ordering::SeqCst);
+    }
+
+    /// The user leaves by an interrupt or a quit.
+    pub(crate) fn interrupt(&self) {
+        self.interrupted.store(true, Ordering::SeqCst);
+        self.leave();
+    }
+
+    /// Whether the user has left by an interrupt or a quit.
+    pub fn is_interrupted(&self) -> bool {
+        self.interrupted.load(Ordering::SeqCst)
     }
 
     /// Whether the user has left.
@@ -199,6 +235,19 @@ impl Link {
     /// Nothing more comes from the other end, or it is no longer waited for.
     pub fn close(&self) {
         self.closed.store(true, Ordering::SeqCst);
+        self.bell.ring();
+    }
+
+    /// Waits until nothing more comes, for so many milliseconds at most.
+    pub fn wait_for_close<R: Clock + Wait>(&self, rt: &R, milliseconds: u16) {
+        if !self.bell.wait_for_ring(milliseconds) {
+            thread::sleep(rt, Duration::from_millis(u64::from(milliseconds)));
+        }
+    }
+
+    /// The descriptor that can be read once nothing more comes.
+    pub(crate) fn closing(&self) -> RawFd {
+        self.bell.descriptor()
     }
 
     pub(crate) fn is_closed(&self) -> bool {
@@ -227,6 +276,12 @@ impl Link {
     pub fn note_editing(&self, linemode: bool, here: bool) {
         self.linemode.store(linemode, Ordering::SeqCst);
         self.edits_here.store(here, Ordering::SeqCst);
+    }
+
+    /// Notes whether a line that LINEMODE has edited here may go as a whole, once it ends: nothing of it goes before,
+    /// and it is edited by the standard characters.
+    pub fn note_whole(&self, goes_whole: bool) {
+        self.goes_whole.store(goes_whole, Ordering::SeqCst);
     }
 
     /// Notes whether the other end echoes.
@@ -263,19 +318,101 @@ impl Link {
             && !self.suppressed.load(Ordering::SeqCst)
     }
 
-    /// Notes whether a half line of line mode was typed.
-    pub(crate) fn note_half(&self, is_typed: bool) {
-        self.has_half.store(is_typed, Ordering::SeqCst);
+    /// The lines that are held here until they end.
+    pub(crate) fn holding(&self) -> Holding {
+        if self.is_line_mode() {
+            return Holding::LineMode;
+        }
+        let edits = self.has_linemode() && self.edits_here();
+        if edits && self.goes_whole.load(Ordering::SeqCst) {
+            return Holding::Edit;
+        }
+        Holding::Nothing
     }
 
-    /// Whether a half line was typed in line mode, which has ended since.
+    /// Notes which half line is held.
+    pub(crate) fn note_half(&self, half: Holding) {
+        self.has_half
+            .store(half == Holding::LineMode, Ordering::SeqCst);
+        self.has_edited_half
+            .store(half == Holding::Edit, Ordering::SeqCst);
+    }
+
+    /// Whether a half line is held, and such lines are held no more.
     pub(crate) fn is_half_due(&self) -> bool {
-        self.has_half.load(Ordering::SeqCst) && !self.is_line_mode()
+        match self.holding() {
+            Holding::LineMode => self.has_edited_half.load(Ordering::SeqCst),
+            Holding::Edit => self.has_half.load(Ordering::SeqCst),
+            Holding::Nothing => {
+                self.has_half.load(Ordering::SeqCst) || self.has_edited_half.load(Ordering::SeqCst)
+            },
+        }
     }
 
     /// The half line that is edited at this end, if one is.
     pub(crate) fn half(&self) -> &Mutex<Option<HalfLine>> {
         &self.half
+    }
+
+    /// Edits the half line by a key. If the line ended, `line` gets its bytes.
+    pub(crate) fn edit_half<R: Wait>(
+        &self,
+        rt: &R,
+        key: u8,
+        line: &mut Vec<u8>,
+    ) -> Result<Taken, AllocError> {
+        let mut half = self.half.lock(rt);
+        match &mut *half {
+            Some(half) => half.take(key, self.echoes_there(), line),
+            None => Ok(Taken::Edit),
+        }
+    }
+
+    /// How many bytes the half line has.
+    pub(crate) fn count_half<R: Wait>(&self, rt: &R) -> usize {
+        let half = self.half.lock(rt);
+        match &*half {
+            Some(half) => half.editor.count(),
+            None => 0,
+        }
+    }
+
+    /// Follows whether a line to the client itself is typed, below the half line.
+    pub(crate) fn follow_prompt<R: Wait>(&self, rt: &R, is_prompting: bool) {
+        let mut half = self.half.lock(rt);
+        if let Some(half) = &mut *half {
+            half.follow_prompt(is_prompting);
+        }
+    }
+
+    /// The window has this width from now on; 0 if that is not known.
+    pub(crate) fn resize_half<R: Wait>(&self, rt: &R, width: u16) {
+        let mut half = self.half.lock(rt);
+        if let Some(half) = &mut *half {
+            half.resize(width);
+        }
+    }
+
+    /// Notes whether keys that were read wait to be taken.
+    pub(crate) fn note_keys(&self, has_keys: bool) {
+        self.has_keys.store(has_keys, Ordering::SeqCst);
+    }
+
+    /// Whether keys that were read wait to be taken.
+    pub fn has_keys(&self) -> bool {
+        self.has_keys.load(Ordering::SeqCst)
+    }
+
+    /// Whether what comes is to wait, since the user has stopped the screen of a connection that stands.
+    pub(crate) fn holds_screen<R: Wait>(&self, rt: &R) -> bool {
+        if self.is_left() || self.is_closed() {
+            return false;
+        }
+        let half = self.half.lock(rt);
+        match &*half {
+            Some(half) => half.is_stopped(),
+            None => false,
+        }
     }
 
     /// Takes the half line off the screen, since these bytes are to be shown. Returns how many of them can be shown

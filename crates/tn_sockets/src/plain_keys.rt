@@ -53,6 +53,11 @@ impl<'a, H: ClientFiles + Copy + Wait, K> PlainKeys<'a, H, K> {
         }
     }
 
+    /// Whether a line to the client itself is typed.
+    pub(crate) fn is_prompting(&self) -> bool {
+        self.escaping.prompt.is_open
+    }
+
     // Writes the keys that these bytes are to the front of a buffer, and does what the others ask for.
     // Returns how many keys there are. What follows a command to leave is not taken.
     fn sort(&mut self, bytes: &[u8], buf: &mut [u8]) -> usize

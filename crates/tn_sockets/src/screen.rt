@@ -4,10 +4,13 @@ ghost use Rattle.tn_sockets.specs.Screens.{held_by};
 
 use crate::link::Link;
 use std::alloc::Global;
-use std::io;
 use std::io::{ErrorKind, Write};
 use std::sync::{Arc, Wait};
-use std::time::Clock;
+use std::time::{Clock, Duration};
+use std::{io, thread};
+
+/// After how many milliseconds it is looked whether a screen that was stopped goes on.
+const LOOK: u64 = 20;
 
 /// A screen. Once it takes no more, the connection is of no use, and is ended: else the session would wait
 /// for the other end to close. What it gets, the log of the connection gets.
@@ -42,6 +45,12 @@ impl<H: Clock + Wait, S: Write> Write for Screen<H, S> {
                 self.link.log(&self.rt, self.alloc, &buf[..count]);
                 return Ok(count);
             }
+        }
+        for _ in self.rt.forever() {
+            if !self.link.holds_screen(&self.rt) {
+                break;
+            }
+            thread::sleep(&self.rt, Duration::from_millis(LOOK));
         }
         let count = self.link.take_half_off(&self.rt, buf);
         let wrote = self.writer.write(&buf[..count]);

@@ -3,6 +3,8 @@
 ghost use Rattle.std.specs.{Prelude.{◌≡◌, IfOk, IfSome, List, Some, ℕ}, Io.KnownBytes.Consumes};
 ghost use Rattle.tn_sockets.specs.Sizes.{IsTold, number_of, with_digit};
 
+use libc::net::{POLLIN, poll};
+use libc::types::pollfd;
 use std::fs::File;
 use std::io;
 use std::io::{ErrorKind, Read};
@@ -41,7 +43,20 @@ impl Sizes {
         }
     }
 
-    /// The last of the sizes that were told since the last look. A pipe that has ended is looked at no more.
+    /// The last of the sizes that were told since the last look, if there is one.
+    pub(crate) fn look(&mut self) -> Option<WindowSize> {
+        let mut waited = [pollfd {
+            fd: self.descriptor(),
+            events: POLLIN,
+            revents: 0,
+        }];
+        if poll(&mut waited, 0) <= 0 {
+            return None;
+        }
+        self.read()
+    }
+
+    /// The last of the sizes that were told since the last look, which is waited for. A pipe that has ended is looked at no more.
     pub(crate) fn read(&mut self) -> Option<WindowSize> {
         match last_told(self.pipe.as_mut()?) {
             Ok(size) => size,

@@ -20,6 +20,7 @@ ties canon editing width height standard = record {
   takes = λ h k t ok. histories.called canon h k server.took tt (t ok);
   writes = λ h k bytes t ok. histories.called canon h k (server.wrote bytes) tt (t ok);
   pulls = λ h k n t ok. histories.called canon h k (server.pulled n) tt (t ok);
+  echoes = λ h k on t ok. histories.called canon h k (server.echo_set on) tt (t ok);
   types_on = λ h k key t ok. histories.types canon h k key (t ok);
   resizes = λ h k width height t ok. histories.resizes canon h k width height (t ok);
   enters = λ h k t ok. histories.enters canon h k (t ok);

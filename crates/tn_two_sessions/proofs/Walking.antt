@@ -34,6 +34,7 @@ pub record Ties (canon : Canon) (editing : Editing) (width height : ℕ) (Tied :
   pub takes : (h : server.History) (k : client.History) → Tied h k → Tied (server.next h server.took) k
   pub writes : (h : server.History) (k : client.History) (bytes : List ℕ) → Tied h k → Tied (server.next h (server.wrote bytes)) k
   pub pulls : (h : server.History) (k : client.History) (n : ℕ) → Tied h k → Tied (server.next h (server.pulled n)) k
+  pub echoes : (h : server.History) (k : client.History) (on : Bool) → Tied h k → Tied (server.next h (server.echo_set on)) k
   pub types_on : (h : server.History) (k : client.History) (key : ℕ) → Tied h k → Tied h (client.next k (client.typed key))
   pub resizes : (h : server.History) (k : client.History) (w t : ℕ) → Tied h k → Tied h (client.next k (client.resized w t))
   pub enters : (h : server.History) (k : client.History) → Tied h k → Tied h (client.next k client.entered)
@@ -76,6 +77,7 @@ module _ (canon : Canon) (editing : Editing) (width height : ℕ) (opens : Bool)
           takes = λ h tie. ties.takes h sent tie;
           writes = λ h bytes tie. ties.writes h sent bytes tie;
           pulls = λ h n tie. ties.pulls h sent n tie;
+          echoes = λ h on tie. ties.echoes h sent on tie;
         }) now.server mid m k t (server_heard (done ++ served (m, k) ∷ []) (record { server = mid; client = now.client }) r i) at.tied;
       }
 

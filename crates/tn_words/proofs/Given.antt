@@ -1,12 +1,13 @@
 -- What `clap` gives of an option that has a text.
-use Rattle.std.proofs.Common.{◌≡◌, ◌∙◌, ℕ, true, false, List, Option, Some, None, MatchOption, IfSome, is_some, option_map, codes, sym, ap, ap₂, subst, refl}
+use Rattle.std.proofs.Common.{◌≡◌, ◌∙◌, inl, inr, ℕ, Bool, true, false, ◌&&◌, map, List, [], ◌∷◌, Option, Some, None, MatchOption, IfSome, is_some, option_map, codes, sym, ap, ap₂, subst, refl}
 use Rattle.std.proofs.Common.{slice_get}
 use Rattle.std.specs.{Prelude.{string_bytes, unwrap_or, option_and_then, find}, Borrow.Bor, Option.option_map_or, Str.bytes_eq, Net.Grammar.IsIpText}
-use Rattle.std.specs.{Str.Parse.{digits_value, without_leading_plus}, declared.net.ip_addr.IpAddr.IpAddr}
-use Rattle.clap.specs.{Walk.row_text, Words.{Row, Text, first_of, first_value, read_as, rows_of}, declared.parser.matches.Found.Found}
-use Rattle.clap.proofs.WalkLemmas.{first_value-rows}
+use Rattle.std.specs.{Str.Parse.{digits_value, without_leading_plus}, declared.net.ip_addr.IpAddr.IpAddr, List.list_all}
+use Rattle.clap.specs.{Walk.row_text, Words.{Row, Text, all_of, first_of, first_value, matched_of, raw_values, read_as, rows_of}, declared.parser.matches.Found.Found}
+use Rattle.clap.proofs.WalkLemmas.{first_value-rows, raw_values-rows}
+use Rattle.tn_network.specs.Asked.{names_path}
 use Rattle.tn_words.proofs.Addresses.{one_place}
-use Rattle.tn_words.specs.{Dialing.MayHaveIp, Addresses.{WritesAddress, WritesPlace}, Services.service_in, Words.{is_flagged, is_given, one_port}}
+use Rattle.tn_words.specs.{Dialing.MayHaveIp, Addresses.{WritesAddress, WritesPlace, WritesService}, Services.service_in, Words.{is_flagged, is_given, one_port}}
 use Rattle.tn_words.specs.Words.{AsksPlace, AsksPort, AsksPortOrService, NamesService, HasNumber, HasPlace, IsPath, MayHaveAddress, MayHaveNumber, MayHavePath}
 use Rattle.tn_words.specs.declared.settings.{Address.Address, Port.{Port, TheVariants.{Number, Service}}}
 
@@ -26,6 +27,22 @@ module _ (f : Found) (name : Text) (r : Option (Bor Text)) (reads : option_map (
 
   pub is_given_so : is_some r ≡ is_given name (rows_of f)
   is_given_so = is_some-map (λ s. s.now) r ∙ ap is_some given
+
+-- what `clap` gives of an option that has several texts
+module _ (f : Found) (name : Text) (r : Option (Bor (List (Bor Text)))) (reads : option_map (λ s. map (λ v. v.now) s.now) r ≡ option_map raw_values (matched_of f name)) where
+  all_given : option_map (λ s. map (λ v. v.now) s.now) r ≡ all_of name (rows_of f)
+  all_given = reads ∙ raw_values-rows f name
+
+  pub all_some : (s : Bor (List (Bor Text))) → r ≡ Some s → all_of name (rows_of f) ≡ Some (map (λ v. v.now) s.now)
+  all_some s is = sym all_given ∙ ap (option_map (λ s. map (λ v. v.now) s.now)) is
+
+  pub all_none : r ≡ None → all_of name (rows_of f) ≡ None
+  all_none is = sym all_given ∙ ap (option_map (λ s. map (λ v. v.now) s.now)) is
+
+-- if each of some texts is a path, so is each of what they say
+pub all_paths : (hosts : List (Bor Text)) → list_all (λ host. names_path host.now) hosts ≡ list_all names_path (map (λ host. host.now) hosts)
+all_paths [] = refl
+all_paths (host ∷ hosts) = ap (λ (b : Bool). names_path host.now && b) (all_paths hosts)
 
 -- an option that has a text is given
 given_row : (o : Option Row) (text : Text) → option_and_then row_text o ≡ Some text → is_some (option_and_then (λ r. slice_get r.values 0) o) ≡ true
@@ -155,11 +172,17 @@ no_path rows name text has none (Some path) given =
 
 -- a text that writes no address has none
 pub no_address : (rows : List Row) (text : Text) → first_of (codes "to") rows ≡ Some text
-    → ((host : Text) (port : ℕ) → WritesAddress text host port → ⊥) → (to : Option Address) → MayHaveAddress rows to → ⊥
+    → ((host : Text) (port : ℕ) → WritesService text host port → ⊥) → (to : Option Address) → MayHaveAddress rows to → ⊥
 no_address rows text has none None missing = let bad : true ≡ false = sym (ap is_some has) ∙ missing in absurd (cc)
 no_address rows text has none (Some address) given =
     let same : given.text ≡ text = ap (λ o. unwrap_or o given.text) (sym given.has ∙ has) in
-    none (string_bytes address.host) address.port (subst (λ t. WritesAddress t (string_bytes address.host) address.port) same given.writes)
+    none (string_bytes address.host) address.port (subst (λ t. WritesService t (string_bytes address.host) address.port) same given.writes)
+
+-- a text that names no path, and writes no address, writes no service
+pub no_service_at : (text : Text) (is : Bool) → is ≡ names_path text → is ≡ false → ((host : Text) (port : ℕ) → WritesAddress text host port → ⊥)
+    → (host : Text) (port : ℕ) → WritesService text host port → ⊥
+no_service_at text is names not none host port (inl path) = let bad : true ≡ false = sym path.0 ∙ (sym names ∙ not) in absurd (cc)
+no_service_at text is names not none host port (inr other) = none host port other.1
 
 -- a text that writes no address of a machine has none
 pub no_ip : (rows : List Row) (name text : Text) → first_of name rows ≡ Some text → ((address : IpAddr) → IsIpText text address → ⊥)

@@ -8,7 +8,7 @@ use Rattle.tn_words.proofs.{Addresses.{brackets_write, host_writes, port_writes,
 use Rattle.tn_words.proofs.Given.{no_number, no_port_at, place_is, same_maybe, same_number, service_is, the_port}
 use Rattle.tn_words.specs.{Commands.tn, Escapes.{IsControlOf, WritesEscape}, Words.{NamesService, line_end_in, one_port}, Services.service_in}
 use Rattle.tn_words.specs.Words.{AskFor, AskForHost, AsksConnect, AsksIn, AsksNothing, AsksPlace, HasEscape, HasNumber, HasPlace, MayHaveNumber, is_given}
-use Rattle.tn_words.specs.declared.{settings.{ConnectWords.ConnectWords, Escape.Escape, Port.TheVariants.{Number, Service}}, words.Asked.TheVariants.Connect}
+use Rattle.tn_words.specs.declared.{settings.{ConnectWords.ConnectWords, Escape.Escape, Port.TheVariants.{Number}}, words.Asked.TheVariants.Connect}
 use Rattle.tn_words.specs.declared.settings.Escape.TheVariants as escape
 use Rattle.tn_lines.specs.declared.line_ends.LineEnd.{LineEnd}
 

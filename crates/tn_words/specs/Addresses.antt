@@ -1,7 +1,8 @@
--- Hosts and ports, as the command line writes them.
+-- Hosts, ports and paths, as the command line writes them.
 use Rattle.std.specs.Prelude.{◌≡◌, ◌≢◌, ◌≤◌, ◌⊎◌, ◌==◌, eqb, ◌&&◌, ◌||◌, ℕ, Bool, true, false, not, Option}
 use Rattle.std.specs.Prelude.{None, Some, List, [], ◌∷◌, ◌++◌, codes}
 use Rattle.std.specs.List.{after_first, ends_with, list_any, starts_with}
+use Rattle.tn_network.specs.Asked.{names_path}
 use Rattle.tn_words.specs.Numbers.{Writes}
 
 -- The name stands there as it is, and begins with no bracket, 91.
@@ -25,6 +26,12 @@ pub record WritesAddress (text host : List ℕ) (port : ℕ) : Type 0 where
   pub writes : Writes number port
   pub at_least : 1 ≤ port
   pub at_most : port ≤ 65535
+
+-- the text writes a service: `unix:` and a path, which stands for a host without a port; or a host and a port
+abbrev pub WritesService : List ℕ → List ℕ → ℕ → Type 0
+WritesService text host port =
+    ((names_path text ≡ true) × (text ≢ codes "unix:") × (host ≡ text) × (port ≡ 0))
+    ⊎ ((names_path text ≡ false) × WritesAddress text host port)
 
 abbrev pub has_colon : List ℕ → Bool
 has_colon text = list_any (λ byte. byte == 58) text

@@ -1,7 +1,7 @@
 -- The command line that `tn` takes.
 use Rattle.std.specs.Prelude.{ℕ, true, Some, List, [], ◌∷◌, codes, pos}
 use Rattle.clap.specs.Words.{App, Shape, Rule, Text, new_app, new_rule, with_subcommand}
-use Rattle.clap.specs.declared.builder.action.ArgAction.TheVariants.{SetTrue}
+use Rattle.clap.specs.declared.builder.action.ArgAction.TheVariants.{Append, SetTrue}
 use Rattle.clap.specs.declared.builder.value_parser.ValueParser.TheVariants as parser
 
 -- the command alone: it wants a subcommand, and has a version
@@ -63,8 +63,9 @@ text_rule name = record (new_rule name) { long = Some name; value_names = 1 }
 abbrev pub place_rule : Text → Rule
 place_rule name = record (new_rule name) { value_names = 1 }
 
+-- the hosts to listen on, each by an option of its own
 abbrev pub host_rule : Rule
-host_rule = with_default (text_rule (codes "host")) (codes "127.0.0.1")
+host_rule = record (with_default (text_rule (codes "host")) (codes "127.0.0.1")) { action = Some Append }
 
 abbrev pub line_rule : Rule
 line_rule = with_default (whole_rule (codes "line") 255 4095) (codes "255")

@@ -1,13 +1,13 @@
 -- What words ask for, of the command line that `tn` takes.
 use Rattle.std.specs.Prelude.{◌≡◌, ◌≢◌, ◌⊎◌, ◌<◌, ◌≤◌, ◌||◌, ⊤, ℕ, Bool, true, false, if◌then◌else◌}
 use Rattle.std.specs.Prelude.{unwrap_or, Option, Some, None, MatchOption, is_some, option_map, List, []}
-use Rattle.std.specs.{Prelude.{length, codes, string_bytes}, Option.option_map_or, Str.bytes_eq}
-use Rattle.clap.specs.Words.{Row, Text, subcommand_of, takes, fault_of, first_of, one_of, IsAmong}
+use Rattle.std.specs.{Prelude.{length, codes, map, string_bytes, vec_items}, List.list_all, Option.option_map_or, Str.bytes_eq}
+use Rattle.clap.specs.Words.{Row, Text, subcommand_of, takes, fault_of, all_of, first_of, one_of, IsAmong}
 use Rattle.clap.specs.declared.error.kind.ErrorKind.{ErrorKind}
 use Rattle.clap.specs.declared.error.kind.ErrorKind.TheVariants as kind
 use Rattle.tn_lines.specs.declared.line_ends.LineEnd.{LineEnd, TheVariants.{CrLf, Lf, Cr}}
-use Rattle.tn_network.specs.declared.dialing.Family.{Family}
-use Rattle.tn_words.specs.{Addresses.{WritesAddress, WritesPlace}, Commands.tn, Escapes.WritesEscape}
+use Rattle.tn_network.specs.{Asked.names_path, declared.dialing.Family.Family}
+use Rattle.tn_words.specs.{Addresses.{WritesPlace, WritesService}, Commands.tn, Escapes.WritesEscape}
 use Rattle.tn_words.specs.{Dialing.{MayHaveIp, chosen_family}, Numbers.Writes, Services.service_in}
 use Rattle.tn_words.specs.declared.{words.Asked.Asked, settings.{Address.Address, Characters.Characters}}
 use Rattle.tn_words.specs.declared.words.Asked.TheVariants.{Local, Replay, Decode, World, Serve, Connect}
@@ -54,7 +54,7 @@ HasText rows name text = first_of name rows ≡ Some text
 pub record HasAddress (rows : List Row) (address : Address) : Type 0 where
   pub text : Text
   pub has : HasText rows (codes "to") text
-  pub writes : WritesAddress text (string_bytes address.host) address.port
+  pub writes : WritesService text (string_bytes address.host) address.port
 
 -- the same, or it is not given
 abbrev pub MayHaveAddress : List Row → Option Address → Type 0
@@ -131,13 +131,29 @@ abbrev pub MayHavePath : List Row → Text → Option Text → Type 0
 MayHavePath rows name None = is_given name rows ≡ false
 MayHavePath rows name (Some path) = HasText rows name path × IsPath path
 
--- the socket that a server listens on: a port, or the one at this descriptor, which is 0 for a connection
--- that is standard input; one of the three is given, and with the last no count of connections
-abbrev pub chosen_socket : Option ℕ → Option ℕ → Bool → Bool → Option Socket
-chosen_socket (Some port) None false counts = Some (record { port = port; handed = None })
-chosen_socket None (Some descriptor) false counts = Some (record { port = 0; handed = Some descriptor })
-chosen_socket None None true false = Some (record { port = 0; handed = Some 0 })
-chosen_socket port descriptor stdin counts = None
+-- each host that is listened on is a path
+abbrev pub are_paths : List Row → Bool
+are_paths rows = list_all names_path (unwrap_or (all_of (codes "host") rows) [])
+
+-- at a port, unless each host is a path
+abbrev pub at_port : Bool → ℕ → Option Socket
+at_port true port = None
+at_port false port = Some (record { port = port; handed = None })
+
+-- without a port, if each host is a path
+abbrev pub at_paths : Bool → Option Socket
+at_paths true = Some (record { port = 0; handed = None })
+at_paths false = None
+
+-- the socket that a server listens on: a port, unless each host is a path, or the one at this descriptor, which
+-- is 0 for a connection that is standard input; one of the three is given, and with the last no count of
+-- connections
+abbrev pub chosen_socket : Bool → Option ℕ → Option ℕ → Bool → Bool → Option Socket
+chosen_socket paths (Some port) None false counts = at_port paths port
+chosen_socket paths None (Some descriptor) false counts = Some (record { port = 0; handed = Some descriptor })
+chosen_socket paths None None true false = Some (record { port = 0; handed = Some 0 })
+chosen_socket paths None None false counts = at_paths paths
+chosen_socket paths port descriptor stdin counts = None
 
 -- how many connections there are to be is said
 abbrev pub has_count : List Row → Bool
@@ -149,10 +165,10 @@ pub record AsksSocket (rows : List Row) (asked : Socket) : Type 0 where
   pub descriptor : Option ℕ
   pub by_port : MayHaveNumber rows (codes "port") 1 65535 port
   pub by_descriptor : MayHaveNumber rows (codes "listen-fd") 3 1023 descriptor
-  pub chosen : chosen_socket port descriptor (is_flagged (codes "stdin") rows) (has_count rows) ≡ Some asked
+  pub chosen : chosen_socket (are_paths rows) port descriptor (is_flagged (codes "stdin") rows) (has_count rows) ≡ Some asked
 
 pub record AsksServe (rows : List Row) (asked : ServeWords) : Type 0 where
-  pub host : HasText rows (codes "host") (string_bytes asked.host)
+  pub hosts : all_of (codes "host") rows ≡ Some (map string_bytes (vec_items asked.hosts))
   pub socket : AsksSocket rows asked.socket
   pub limit : HasNumber rows (codes "limit") 1 64 asked.sessions
   pub per_host : MayHaveNumber rows (codes "per-host") 0 64 asked.per_host

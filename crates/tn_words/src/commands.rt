@@ -336,7 +336,8 @@ const SERVE_CHOICES: &[Choice] = &[
     Choice::Text(
         TO,
         "HOST:PORT",
-        "Joins each session to the line service there: lines go to it, and what it says comes back",
+        "Joins each session to the line service there, or at unix:PATH: lines go to it, and what it says comes \
+         back",
     ),
     Choice::Default(
         DIAL,
@@ -636,7 +637,7 @@ fn serve_command<C: Grow>(alloc: Global) -> Result<C, AllocError>
         alloc,
         SERVE,
         "Serves Telnet with LINEMODE, and writes each line back",
-        "Listens on a port of 127.0.0.1, or of the address of `--host`, and gives each connection a \
+        "Listens on a port of 127.0.0.1, or of each address of `--host`, and gives each connection a \
          terminal with standard settings. Its job writes each line back; the line `exit` and the end of \
          file (^D on an empty line) end the session with `bye`, an interrupt (^C) writes `int`, a quit \
          (^\\) `quit`, and a stop (^Z) `tstp`. One connection more than a limit is told `full` and \
@@ -812,7 +813,7 @@ fn text_option<'a>(
         .help(help)
 }
 
-// The address to listen on, or a name that has one.
+// The addresses to listen on.
 fn host_option<'a>(alloc: Global) -> Arg<'a>
     ensures rule { rule_of result ≡ host_rule }
     ensures local { result.global ≡ false }
@@ -821,9 +822,10 @@ fn host_option<'a>(alloc: Global) -> Arg<'a>
         alloc,
         HOST,
         "H",
-        "The address to listen on, or a name that has one",
+        "The address to listen on, or a name that has one, or unix:PATH; may be given more than once",
     )
     .default_value("127.0.0.1")
+    .action(ArgAction::Append)
 }
 
 // The host to connect to, which has no name before it.

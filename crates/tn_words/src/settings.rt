@@ -1,14 +1,14 @@
 //! How to serve and how to connect.
 
 ghost use Rattle.std.specs.Prelude.{◌≡◌, ℕ, Bool, List, Option, Ok, None, IfOk, IfSome, string_bytes};
-ghost use Rattle.tn_words.specs.Addresses.{WritesAddress, WritesHost, WritesName, WritesPlace, has_colon};
-ghost use Rattle.tn_words.specs.{Addresses.{has_one_colon, has_port}, Escapes.{IsControlOf, WritesEscape}};
+ghost use Rattle.tn_words.specs.Addresses.{WritesAddress, WritesHost, WritesName, WritesPlace, WritesService};
+ghost use Rattle.tn_words.specs.{Addresses.{has_colon, has_one_colon, has_port}, Escapes.{IsControlOf, WritesEscape}};
 ghost use Rattle.tn_words.specs.Words.{named_characters, named_mode, named_return};
 
 use std::alloc::{AllocError, Global};
 use tn_discipline::Limit;
 use tn_lines::LineEnd;
-use tn_network::Dialing;
+use tn_network::{Dialing, names_path};
 
 /// The width and the height of a window of which no size is known, in characters.
 pub const USUAL_WIDTH: u16 = 80;
@@ -18,21 +18,22 @@ pub const USUAL_HEIGHT: u16 = 24;
 /// Where a service is.
 #[derive(Debug, Drop, PartialEq, Eq)]
 pub struct Address {
-    /// The address of its host, or a name that has one.
+    /// The address of its host, or a name that has one; or `unix:` and the path of a socket.
     pub host: String,
-    /// The port, from 1 to 65,535.
+    /// The port, from 1 to 65,535, or 0 for a socket at a path.
     pub port: u16,
 }
 
 impl Address {
-    // The address that a text writes: what stands before its last colon writes the host.
+    // The address that a text writes: `unix:` and a path; or what stands before its last colon writes the
+    // host.
     pub(crate) fn from_text(alloc: Global, text: &str) -> Result<Option<Address>, AllocError>
         ensures some { IfOk result (λ read. IfSome read (λ address.
-            WritesAddress text.now (string_bytes address.host) address.port)) }
+            WritesService text.now (string_bytes address.host) address.port)) }
         ensures none { result ≡ Ok None
-            → (host : List ℕ) (port : ℕ) → ¬ WritesAddress text.now host port }
+            → (host : List ℕ) (port : ℕ) → ¬ WritesService text.now host port }
     {
-        match host_and_port(text) {
+        match service_at(text) {
             Some((host, port)) => {
                 let host = String::from_str(alloc, host)?;
                 Ok(Some(Address { host, port }))
@@ -40,6 +41,20 @@ impl Address {
             None => Ok(None),
         }
     }
+}
+
+// The host and the port of a service, or the name of its socket and 0.
+fn service_at(text: &str) -> Option<(&str, u16)>
+    ensures some { IfSome result (λ read. WritesService text.now read.0.now read.1) }
+    ensures none { result ≡ None → (host : List ℕ) (port : ℕ) → ¬ WritesService text.now host port }
+{
+    if !names_path(text) {
+        return host_and_port(text);
+    }
+    if text == "unix:" {
+        return None;
+    }
+    Some((text, 0))
 }
 
 fn host_and_port(text: &str) -> Option<(&str, u16)>
@@ -118,7 +133,7 @@ fn has_colon(text: &str) -> bool
 /// The socket that a server listens on.
 #[derive(Clone, Copy, Debug, PartialEq, Eq)]
 pub struct Socket {
-    /// Its port, from 1 to 65,535, or 0 if it is handed in.
+    /// Its port, from 1 to 65,535, or 0 if it is handed in, or each host is a path.
     pub port: u16,
     /// The descriptor at which it is handed in, from 3 to 1,023, or 0 for a connection that is standard
     /// input.
@@ -128,8 +143,9 @@ pub struct Socket {
 /// How to serve.
 #[derive(Debug, Drop, PartialEq, Eq)]
 pub struct ServeWords {
-    /// The address to listen on, or a name that has one, unless the socket is handed in.
-    pub host: String,
+    /// The addresses to listen on, or names that have one, or `unix:` and the path of a socket, unless the
+    /// socket is handed in.
+    pub hosts: Vec<String>,
     pub socket: Socket,
     /// The most sessions at once, from 1 to 64.
     pub sessions: u16,

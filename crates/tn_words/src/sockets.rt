@@ -1,14 +1,18 @@
-//! The socket that a server listens on, as the words name it.
+//! The hosts and the socket that a server listens on, as the words name them.
 
-ghost use Rattle.std.specs.Prelude.{◌≡◌, None, Some, IfSome};
+ghost use Rattle.std.specs.Prelude.{◌≡◌, None, Some, IfOk, IfSome, map, string_bytes, vec_items};
+ghost use Rattle.std.specs.List.{list_all};
 ghost use Rattle.clap.specs.Words.{rows_of, found_of};
-ghost use Rattle.tn_words.specs.Words.{AsksSocket, chosen_socket, has_count};
+ghost use Rattle.tn_network.specs.Asked.{names_path};
+ghost use Rattle.tn_words.specs.Words.{AsksSocket, are_paths, at_paths, at_port, chosen_socket, has_count};
 ghost use Rattle.tn_words.specs.declared.settings.Socket.{Socket};
 
-use crate::commands::{COUNT, FOREVER, LISTEN_FD, PORT, STDIN};
+use crate::commands::{COUNT, FOREVER, HOST, LISTEN_FD, PORT, STDIN};
 use crate::settings::Socket;
 use crate::words::{Lack, is_flagged, is_given, size};
 use clap::ArgMatches;
+use std::alloc::{AllocError, Global};
+use tn_network::names_path;
 
 /// The descriptor of standard input (POSIX).
 const STANDARD_INPUT: u16 = 0;
@@ -19,7 +23,21 @@ const NO_SOCKET: &str =
 
 const MORE_SOCKETS: &str = "'--port', '--listen-fd' and '--stdin' exclude each other";
 
+const NO_PORT_AT_PATHS: &str = "'--port' needs a '--host' that is no path";
+
 const ONE_CONNECTION: &str = "'--stdin' is one connection, and excludes '--count' and '--forever'";
+
+// These texts, as the caller's own.
+pub(crate) fn strings_of(alloc: Global, texts: &[&str]) -> Result<Vec<String>, AllocError>
+    ensures { IfOk result (λ strings.
+        map string_bytes (vec_items strings) ≡ map (λ text. text.now) texts.now) }
+{
+    let mut strings = Vec::new(alloc);
+    for text in texts {
+        strings.push(String::from_str(alloc, text)?)?;
+    }
+    Ok(strings)
+}
 
 // The one socket that is asked for.
 pub(crate) fn socket_in(words: &ArgMatches<'_>) -> Option<Socket>
@@ -28,23 +46,70 @@ pub(crate) fn socket_in(words: &ArgMatches<'_>) -> Option<Socket>
 {
     let port = size(words, PORT)?;
     let descriptor = size(words, LISTEN_FD)?;
-    chosen_socket(port, descriptor, is_flagged(words, STDIN), has_count(words))
+    chosen_socket(
+        are_paths(words),
+        port,
+        descriptor,
+        is_flagged(words, STDIN),
+        has_count(words),
+    )
+}
+
+// Whether each host is a path.
+fn are_paths(words: &ArgMatches<'_>) -> bool
+    ensures { result ≡ are_paths (rows_of (found_of words.now)) }
+{
+    let Some(hosts) = words.get_strs(HOST) else {
+        return true;
+    };
+    all_paths(hosts)
+}
+
+fn all_paths(hosts: &[&str]) -> bool
+    ensures { result ≡ list_all (λ host. names_path host.now) hosts.now }
+{
+    hosts.iter().all(|host| names_path(host))
 }
 
 fn chosen_socket(
+    paths: bool,
     port: Option<u16>,
     descriptor: Option<u16>,
     stdin: bool,
     counts: bool,
 ) -> Option<Socket>
-    ensures { result ≡ chosen_socket port descriptor stdin counts }
+    ensures { result ≡ chosen_socket paths port descriptor stdin counts }
 {
     match (port, descriptor, stdin, counts) {
-        (Some(port), None, false, _) => Some(Socket { port, handed: None }),
+        (Some(port), None, false, _) => at_port(paths, port),
         (None, Some(descriptor), false, _) => Some(handed(descriptor)),
         (None, None, true, false) => Some(handed(STANDARD_INPUT)),
+        (None, None, false, _) => at_paths(paths),
         _ => None,
     }
+}
+
+// At a port, unless each host is a path.
+fn at_port(paths: bool, port: u16) -> Option<Socket>
+    ensures { result ≡ at_port paths port }
+{
+    if paths {
+        return None;
+    }
+    Some(Socket { port, handed: None })
+}
+
+// Without a port, if each host is a path.
+fn at_paths(paths: bool) -> Option<Socket>
+    ensures { result ≡ at_paths paths }
+{
+    if !paths {
+        return None;
+    }
+    Some(Socket {
+        port: 0,
+        handed: None,
+    })
 }
 
 fn handed(descriptor: u16) -> Socket
@@ -73,6 +138,7 @@ pub(crate) fn socket_lack<'a>(words: &ArgMatches<'_>) -> Lack<'a> {
     match (port, descriptor, stdin) {
         (false, false, false) => Lack::Words(NO_SOCKET),
         (false, false, true) => Lack::Words(ONE_CONNECTION),
+        (true, false, false) => Lack::Words(NO_PORT_AT_PATHS),
         _ => Lack::Words(MORE_SOCKETS),
     }
 }

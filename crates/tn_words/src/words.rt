@@ -24,7 +24,7 @@ use crate::places::place_of;
 use crate::settings::{
     Address, Characters, ConnectWords, Escape, Mode, ReturnBytes, ServeWords, Socket,
 };
-use crate::sockets::{socket_in, socket_lack};
+use crate::sockets::{socket_in, socket_lack, strings_of};
 use clap::error::ErrorKind;
 use clap::{ArgMatches, Error};
 use std::alloc::{AllocError, Global};
@@ -133,7 +133,7 @@ const NO_BANNER: &str = "'--banner <FILE>' needs a path of 1 to 4095 bytes";
 const TWO_COUNTS: &str = "'--count' and '--forever' exclude each other";
 
 const NO_ADDRESS: &str =
-    "'--to <HOST:PORT>': it is no host with a port of 1 to 65535 behind a colon";
+    "'--to <HOST:PORT>': it is neither a host with a port of 1 to 65535 behind a colon, nor unix: and a path";
 
 const TWO_FAMILIES: &str = "'-4' and '-6' exclude each other";
 
@@ -180,7 +180,7 @@ fn serving(alloc: Global, words: &ArgMatches<'_>) -> Result<ServeWords, WordsFau
     ensures lacks { IfErr result
         (Lacks ((asked : ServeWords) → ¬ AsksServe (rows_of (found_of words.now)) asked)) }
 {
-    let Some(host) = words.get_str(HOST) else {
+    let Some(hosts) = words.get_strs(HOST) else {
         return Err(no_value(alloc));
     };
     let Some(numbers) = serve_numbers(words) else {
@@ -191,9 +191,9 @@ fn serving(alloc: Global, words: &ArgMatches<'_>) -> Result<ServeWords, WordsFau
     let until = path_of(alloc, words, UNTIL, NO_UNTIL)?;
     let metrics = path_of(alloc, words, METRICS, NO_METRICS)?;
     let banner = path_of(alloc, words, BANNER, NO_BANNER)?;
-    let host = String::from_str(alloc, host)?;
+    let hosts = strings_of(alloc, hosts)?;
     Ok(ServeWords {
-        host,
+        hosts,
         socket: choices.socket,
         sessions: numbers.sessions,
         per_host: numbers.per_host,

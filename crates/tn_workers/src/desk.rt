@@ -54,7 +54,7 @@ pub fn run_desk<P: Post, J: Job, G: Gate>(
         };
         post.say(&seat.to, &mut seat.pass, Sender::Desk, said)?;
         match after {
-            After::Stay | After::WantsInput | After::Stop => {},
+            After::Stay | After::WantsInput | After::Stop | After::Hide | After::Show => {},
             After::Done => {
                 return post.say(&seat.to, &mut seat.pass, Sender::Desk, Message::Left);
             },

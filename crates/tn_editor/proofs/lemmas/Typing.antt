@@ -13,11 +13,11 @@ use Rattle.tn_editor.specs.Expanding.{times, erases_newest, erases_word, is_drop
 use Rattle.tn_editor.proofs.{Bytes.{joined_after, word_erased_front, erases_leave, erases_to, erases_give_nothing, wanted_some}, Keys.roles_of_expanded}
 
 -- MORE ROLES
-half_all-append : (limit : ℕ) (xs ys : List Role) (half : List ℕ) → half_all limit half (xs ++ ys) ≡ half_all limit (half_all limit half xs) ys
+pub half_all-append : (limit : ℕ) (xs ys : List Role) (half : List ℕ) → half_all limit half (xs ++ ys) ≡ half_all limit (half_all limit half xs) ys
 half_all-append limit [] ys half = refl
 half_all-append limit (r ∷ xs) ys half = half_all-append limit xs ys (half_next limit half r)
 
-gain_all-append : (limit : ℕ) (xs ys : List Role) (half : List ℕ)
+pub gain_all-append : (limit : ℕ) (xs ys : List Role) (half : List ℕ)
     → gain_all limit half (xs ++ ys) ≡ gain_all limit half xs ++ gain_all limit (half_all limit half xs) ys
 gain_all-append limit [] ys half = refl
 gain_all-append limit (r ∷ xs) ys half =

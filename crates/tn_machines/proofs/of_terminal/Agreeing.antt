@@ -5,15 +5,15 @@ use Rattle.tn_discipline.specs.{Canon.Canon, declared.reads.Entry.Entry}
 use Rattle.tn_jobs.specs.{Jobs.{Jobs, state_at, is_foreground, with_state}, declared.verdicts.{JobState.JobState, Verdict.Verdict}}
 use Rattle.tn_jobs.specs.declared.verdicts.JobState.TheVariants as job
 use Rattle.tn_nvt.specs.declared.items.Item.{Item}
-use Rattle.tn_server.specs.{Course.in_parts, Events.{History, next, took, items}, Lines.waiting, Screen.queue, declared.wishes.Editing.Editing}
-use Rattle.tn_machines.proofs.of_terminal.Alike.{Alike, alike_self, alike_gets, alike_took, alike_flushed, alike_parts, none_left, same_entries}
+use Rattle.tn_server.specs.{Course.in_parts, Events.{History, next, took, echo_set, items}, Lines.waiting, Screen.queue, declared.wishes.Editing.Editing}
+use Rattle.tn_machines.proofs.of_terminal.Alike.{Alike, alike_self, alike_gets, alike_took, alike_echo, alike_flushed, alike_parts, none_left, same_entries}
 use Rattle.tn_machines.proofs.lemmas.server.Hearing.{move_keeps}
-use Rattle.tn_machines.specs.server.{Agreeing.Agree, Marks.{Turns, Runs, put_or_not, asks_at, run_after_opening}, Run.{idle_puts, flushed_history, start}}
-use Rattle.tn_machines.specs.server.Run.{Run, Acts, ActsUnless, Cuts, Reads, flush, feed, ask, ask_if, answer, end_if, hang_up, ends_by, move, stop_job}
-use Rattle.tn_machines.specs.server.Run.{end_job, in_foreground, verdict, verdict_at, has_text, after_said, writes, halt, halt_if, is_end, show, fail, idle}
-use Rattle.tn_machines.specs.declared.{faults.{Ended.{Ended, TheVariants.{Fault, Done}}, SessionFault.SessionFault}, server.messages.ServerMark.ServerMark}
-use Rattle.tn_machines.specs.declared.messages.Message.{Message, TheVariants.{Piece, HangUp, ReadFailed, Take, Said, Refused}}
-use Rattle.tn_machines.specs.declared.server.progress.ServerProgress.{ServerProgress}
+use Rattle.tn_machines.specs.{server.Agreeing.Agree, declared.{faults.SessionFault.SessionFault, messages.Message.Message}}
+use Rattle.tn_machines.specs.{server.Marks.{Turns, Runs, put_or_not, asks_at, run_after_opening}, declared.faults.Ended.{Ended, TheVariants.{Fault, Done}}}
+use Rattle.tn_machines.specs.server.Run.{hang_up, ends_by, move, stop_job, end_job, in_foreground, verdict, verdict_at, has_text, echo_by, echoed, turn_echo}
+use Rattle.tn_machines.specs.server.Run.{idle_puts, flushed_history, start, Run, Acts, ActsUnless, Cuts, Reads, flush, feed, ask, ask_if, answer, end_if}
+use Rattle.tn_machines.specs.{server.Run.{after_said, writes, halt, halt_if, is_end, show, fail, idle}, declared.server.progress.ServerProgress.ServerProgress}
+use Rattle.tn_machines.specs.declared.{server.messages.ServerMark.ServerMark, messages.Message.TheVariants.{Piece, HangUp, ReadFailed, Take, Said, Refused}}
 use Rattle.tn_machines.specs.server.Counting as counting
 use Rattle.tn_machines.specs.declared.faults.SessionFault.TheVariants as fault
 use Rattle.tn_machines.specs.declared.server.messages.ServerMark.TheVariants as mark
@@ -146,6 +146,15 @@ same_halt_if b e c d is s = let P : Bool → Type 0 = λ u. Same (halt_if b c) (
     one true = same_halt c d s
     one false = s
 
+same_echo : (echo : Option Bool) (c d : Run) → Same c d → Same (turn_echo echo c) (turn_echo echo d)
+same_echo None c d s = with_histories c d c.history d.history s.ends s
+same_echo (Some on) c d s =
+    with_histories c d (next c.history (echo_set on)) (next d.history (echo_set on)) (alike_echo c.history d.history on s.ends) s
+
+queue_echoed : (echo : Option Bool) (h : History) → queue (echoed echo h) ≡ queue h
+queue_echoed None h = refl
+queue_echoed (Some on) h = refl
+
 -- nothing waits to be pulled
 abbrev Pulled : Run → Type 0
 Pulled c = queue c.history ≡ []
@@ -190,8 +199,14 @@ same_acts (Said id text after) c d c' d' none a b s =
     let same : v ≡ w = λ i. verdict_at (state_at (s.jobs i) id.0) (has_text text) after (s.ends.opened i).flags.tostop in
     let C : Option Verdict → Type 0 = λ u. Cuts (writes u) text b.0 in
     let cuts : Cuts (writes v) text b.0 = subst C (sym same) b.1 in
-    let is : d' ≡ after_said id.0 b.0 v d = b.2 ∙ ap (λ (u : Option Verdict). after_said id.0 b.0 u d) (sym same) in
-    same_as (after_said id.0 a.0 v c) (after_said id.0 b.0 v d) c' d' a.2 is (same_said id.0 text v a.0 b.0 c d a.1 cuts none s)
+    let echo = echo_by (in_foreground c id.0) after in
+    let other = echo_by (in_foreground d id.0) after in
+    let is_echo : other ≡ echo = ap (λ (b : Bool). echo_by b after) (sym (foreground_by c d id.0 s)) in
+    let e = turn_echo echo c in
+    let f = turn_echo echo d in
+    let is : d' ≡ after_said id.0 b.0 v f = b.2 ∙ (λ i. after_said id.0 b.0 (sym same i) (turn_echo (is_echo i) d)) in
+    same_as (after_said id.0 a.0 v e) (after_said id.0 b.0 v f) c' d' a.2 is
+    (same_said id.0 text v a.0 b.0 e f a.1 cuts (queue_echoed echo c.history ∙ none) (same_echo echo c d s))
 same_acts Refused c d c' d' none a b s =
     let e = flush (ends_by (Fault fault.Memory) c) in
     let f = flush (ends_by (Fault fault.Memory) d) in
@@ -232,7 +247,7 @@ acts_pulled (Piece piece) c new a = pulled_as (flush (ask_if c.progress.asks (fe
 acts_pulled HangUp c new a = pulled_as (flush (hang_up c)) new a (none_left c.history)
 acts_pulled ReadFailed c new a = pulled_as (flush (hang_up (ends_by (Fault fault.Read) c))) new a (none_left c.history)
 acts_pulled Take c new a = pulled_as (flush (ask c)) new a (none_left (ask c).history)
-acts_pulled (Said id text after) c new a = pulled_as _ new a.2 (said_pulled id.0 a.0 _ c)
+acts_pulled (Said id text after) c new a = pulled_as _ new a.2 (said_pulled id.0 a.0 _ (turn_echo (echo_by (in_foreground c id.0) after) c))
 acts_pulled Refused c new a = pulled_as _ new a (none_left c.history)
 acts_pulled _ c new a = pulled_as (flush c) new a (none_left c.history)
 

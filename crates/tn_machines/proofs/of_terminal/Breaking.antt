@@ -19,7 +19,7 @@ use Rattle.tn_machines.specs.declared.server.{progress.ServerProgress.ServerProg
 abbrev pub Grows : History → History → Type 0
 Grows h k = (more : List Item) × (items_said k ≡ items_said h ++ more)
 
-grows_none : (h : History) → Grows h h
+pub grows_none : (h : History) → Grows h h
 grows_none h = ([], sym (append-nil (items_said h)))
 
 pub grows_then : (h k l : History) → Grows h k → Grows k l → Grows h l

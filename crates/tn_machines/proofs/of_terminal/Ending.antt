@@ -7,9 +7,9 @@ use Rattle.tn_server.specs.declared.wishes.Editing.{Editing}
 use Rattle.tn_machines.proofs.of_terminal.Hanging.{ended_of, ask_ended, halt_ended}
 use Rattle.tn_machines.proofs.lemmas.Ending.{Moves, first_cases, moves_as, moves_first, run_moves, fault_came}
 use Rattle.tn_machines.specs.{Counting.first_end, server.{Ending.{EndsAt, IsEndedAt, IsFaultCause}, Marks.{Turns, Runs, put_or_not, run_after_opening}}}
-use Rattle.tn_machines.specs.server.Run.{Run, Acts, ActsUnless, flush, feed, move, stop_job, end_job, in_foreground, after_said, is_end, show, start}
-use Rattle.tn_machines.specs.declared.{faults.{Ended.Ended, SessionFault.SessionFault}, server.messages.ServerMark.ServerMark, messages.Message.Message}
-use Rattle.tn_machines.specs.declared.messages.Message.TheVariants.{Piece, ReadFailed, Take, Said, Refused}
+use Rattle.tn_machines.specs.server.Run.{Run, Acts, ActsUnless, flush, feed, move, stop_job, end_job, in_foreground, echo_by, turn_echo, after_said, is_end}
+use Rattle.tn_machines.specs.{server.Run.{show, start}, declared.{faults.{Ended.Ended, SessionFault.SessionFault}, server.messages.ServerMark.ServerMark}}
+use Rattle.tn_machines.specs.declared.messages.Message.{Message, TheVariants.{Piece, ReadFailed, Take, Said, Refused}}
 use Rattle.tn_machines.specs.declared.faults.Ended.TheVariants as ended
 use Rattle.tn_machines.specs.declared.faults.SessionFault.TheVariants as fault
 use Rattle.tn_machines.specs.declared.server.messages.ServerMark.TheVariants as mark
@@ -39,19 +39,20 @@ move_moves id job.Ended c = end (in_foreground c id)
     end false = inl refl
 move_moves id _ c = inl refl
 
-said_moves : (id : ℕ) (parts : List (List ℕ)) (v : Option Verdict) (c : Run) (m : Message) (k : ServerMark) → MovesAt c m k (ended_of (after_said id parts v c))
-said_moves id parts None c m k = inl refl
-said_moves id parts (Some v) c m k =
-    let moved = move id v.next c in
+said_moves : (id : ℕ) (parts : List (List ℕ)) (v : Option Verdict) (echo : Option Bool) (c : Run) (m : Message) (k : ServerMark)
+    → MovesAt c m k (ended_of (after_said id parts v (turn_echo echo c)))
+said_moves id parts None echo c m k = inl refl
+said_moves id parts (Some v) echo c m k =
+    let moved = move id v.next (turn_echo echo c) in
     moves_to c m k (ended_of moved) _ (halt_ended (is_end v.next && in_foreground c id) (flush (show parts moved)))
-    (⊎_elim (λ s. inl s) (λ s. moves_to c m k ended.Done (ended_of moved) s (inr tt)) (move_moves id v.next c))
+    (⊎_elim (λ s. inl s) (λ s. moves_to c m k ended.Done (ended_of moved) s (inr tt)) (move_moves id v.next (turn_echo echo c)))
 
 acts_moves : (c new : Run) (m : Message) (k : ServerMark) → Acts c m new → MovesAt c m k (ended_of new)
 acts_moves c new (Piece piece) k a = inl (ap ended_of a.2 ∙ ask_ended c.progress.asks (feed piece a.0 c))
 acts_moves c new ReadFailed k a = moves_on c ReadFailed k (ended_of c) (ended_of new) fault.Read (ap ended_of a) (inl refl) refl
 acts_moves c new Take k a = inl (ap ended_of a ∙ ask_ended true c)
 acts_moves c new (Said id text after) k a = moves_to c (Said id text after) k _ (ended_of new) (ap ended_of a.2)
-    (said_moves id.0 a.0 _ c (Said id text after) k)
+    (said_moves id.0 a.0 _ (echo_by (in_foreground c id.0) after) c (Said id text after) k)
 acts_moves c new Refused k a = moves_on c Refused k (ended_of c) (ended_of new) fault.Memory (ap ended_of a) (inl refl) refl
 acts_moves c new _ k a = inl (ap ended_of a)
 

@@ -2,17 +2,20 @@
 use Rattle.std.proofs.Common.{◌≡◌, ℕ, Bool, true, false, not, ◌&&◌, ◌==◌, length, arith, List, [], ◌∷◌, ◌++◌, Option, Some, None, Result, Ok, Err, IfOk, IfErr}
 use Rattle.std.proofs.Common.{refl, sym, ap, ◌∙◌, subst, append-nil}
 use Rattle.tn_discipline.specs.declared.reads.Entry.{Entry}
-use Rattle.tn_jobs.specs.{Jobs.{Jobs, state_at, is_foreground}, declared.verdicts.{JobState.JobState, After.After, Verdict.Verdict}, Judging.judged}
-use Rattle.tn_server.specs.{Replies.items_said, Events.{next, took}, Lines.waiting}
-use Rattle.tn_machines.specs.declared.messages.Message.{Message, TheVariants.{Piece, HangUp, ReadFailed, Take, Refused, Left, Resized, Asked}}
+use Rattle.tn_jobs.specs.{Jobs.{Jobs, state_at, is_foreground}, declared.{held_jobs.JobId.JobId, verdicts.{JobState.JobState, After.After, Verdict.Verdict}}}
+use Rattle.tn_jobs.specs.{Judging.judged, declared.verdicts.After.TheVariants.{Hide, Show}}
+use Rattle.tn_jobs.specs.declared.verdicts.JobState.TheVariants as job
+use Rattle.tn_server.specs.{Replies.{items_said, replies}, Events.{History, next, took, echo_set}, Lines.waiting}
+use Rattle.tn_machines.specs.declared.messages.Message.{Message, TheVariants.{Piece, HangUp, ReadFailed, Take, Said, Refused, Left, Resized, Asked}}
 use Rattle.tn_machines.specs.declared.{faults.Ended.TheVariants.Fault, server.{messages.Put.{Put, TheVariants.Nothing}, progress.ServerProgress.ServerProgress}}
 use Rattle.tn_machines.specs.{declared.server.terminal.{Term.Term, Stuck.Stuck}, server.Run.{verdict, verdict_at, has_text, answer, Acts, ActsUnless}}
 use Rattle.tn_machines.specs.server.Run.{Run, puts_of, flush, hang_up, ends_by, feed, ask, ask_if, show, move, after_said, halt, halt_if, is_end, in_foreground}
+use Rattle.tn_machines.specs.server.{Run.{Cuts, writes, tostop, echo_by, echoed, turn_echo}, Refusing.TellsEcho}
 use Rattle.tn_machines.specs.server.Reaching.{LeadsTo, AdvancesRun, BreaksOff, Feeds, FeedBreaksOff, Says, SayBreaksOff, DoesWhole, StopsWithin, HaltsIf}
 use Rattle.tn_machines.specs.server.{Counting.{after_request, after_piece}, Marks.unput}
 use Rattle.tn_machines.specs.declared.faults.SessionFault.TheVariants as fault
 use Rattle.tn_streams.specs.declared.{control.Control.Control, window.WindowSize.WindowSize}
-use Rattle.tn_machines.proofs.of_terminal.{Doing.{does_then, does_same, does_halt_if, foreground_as}, Breaking.rest_more}
+use Rattle.tn_machines.proofs.of_terminal.{Doing.{does_then, does_same, does_halt_if, foreground_as}, Breaking.{Grows, grows_none, grows_parts, in_single, rest_more}}
 use Rattle.tn_machines.proofs.of_terminal.Breaking.{breaks_after, breaks_same, breaks_halt_if, grows_then, grows_ask, grows_ask_if, grows_flushed, spelled_more}
 use Rattle.tn_nvt.specs.Spelling.{spells}
 use Rattle.tn_nvt.proofs.lemmas.Reading.{spells-append}
@@ -315,3 +318,94 @@ breaks_judged id parts v state b old moved mid new x y put on held is one two th
   where
     same : (c : Run) → LeadsTo c old → (is_end v.next && in_foreground c id) ≡ b
     same c at = ap (λ (u : Bool). is_end v.next && u) (foreground_as old c id state (is_foreground (Some state)) on held refl at) ∙ sym is
+
+-- A JOB'S REACTION, with the echo that it asks for
+-- what it is judged to be does not go by the echo
+pub echoed_verdict : (id : ℕ) (text : List ℕ) (after : After) (old mid : Term) (c : Run) → old.progress.over ≡ false → mid ≡ record old { end = mid.end }
+    → LeadsTo c old → verdict_at (state_at mid.table id) (has_text text) after mid.tostop ≡ verdict c id text after
+echoed_verdict id text after old mid c on rest at =
+    ap (λ (t : Term). verdict_at (state_at t.table id) (has_text text) after t.tostop) rest ∙ same_verdict id text after old c on at
+
+pub echo_as : (id : ℕ) (after : After) (echo : Option Bool) (old : Term) (c : Run) → old.progress.over ≡ false
+    → echo ≡ echo_by (is_foreground (state_at old.table id)) after → LeadsTo c old → echo ≡ echo_by (in_foreground c id) after
+echo_as id after echo old c on is at = is ∙ ap (λ (j : Jobs). echo_by (is_foreground (state_at j id)) after) (at.live on).jobs
+
+module _ (id : JobId) (text : List ℕ) (after : After) (echo : Option Bool) (old mid : Term) (on : old.progress.over ≡ false)
+    (is : echo ≡ echo_by (is_foreground (state_at old.table id.0)) after) (rest : mid ≡ record old { end = mid.end }) where
+  abbrev found : Option Verdict
+  found = verdict_at (state_at mid.table id.0) (has_text text) after mid.tostop
+
+  abbrev whole : List (List ℕ) → Run → Run
+  whole parts c = after_said id.0 parts (verdict c id.0 text after) (turn_echo (echo_by (in_foreground c id.0) after) c)
+
+  same_whole : (parts : List (List ℕ)) (c : Run) → LeadsTo c old → whole parts c ≡ after_said id.0 parts found (turn_echo echo c)
+  same_whole parts c at =
+      let v = echoed_verdict id.0 text after old mid c on rest at in
+      let e = echo_as id.0 after echo old c on is at in
+      λ i. after_said id.0 parts (sym v i) (turn_echo (sym e i) c)
+
+  acts_whole : (parts : List (List ℕ)) → Cuts (writes found) text parts → (c : Run) → LeadsTo c old → Acts c (Said id text after) (whole parts c)
+  acts_whole parts cuts c at =
+      let C : Option Verdict → Type 0 = λ v. Cuts (writes v) text parts in
+      (parts, subst C (echoed_verdict id.0 text after old mid c on rest at) cuts, refl)
+
+  pub handled_said : (new : Term) (x y z : List ℕ) (put : Put) → AdvancesRun (turn_echo echo) old x y [] mid → Says id.0 text found mid y z put new
+      → DoesWhole old (Said id text after) x z put new
+  handled_said new x y z put one two =
+      handled_by (Said id text after) (whole two.parts) old new x z put on (acts_whole two.parts two.cuts)
+      (does_same (λ c. after_said id.0 two.parts found (turn_echo echo c)) (whole two.parts) old new x z (puts_of put) (same_whole two.parts)
+      (does_then (turn_echo echo) (after_said id.0 two.parts found) old mid new x y z [] (puts_of put) one two.does))
+
+  pub stops_said : (new : Term) (x y z : List ℕ) (put : Put) → AdvancesRun (turn_echo echo) old x y [] mid → SayBreaksOff id.0 text found mid y z put new
+      → StopsWithin old (Said id text after) true x z put new
+  stops_said new x y z put one two =
+      stops_by (Said id text after) (whole two.parts) old new x z put on (acts_whole two.parts two.cuts)
+      (breaks_same (λ c. after_said id.0 two.parts found (turn_echo echo c)) (whole two.parts) old new x z (puts_of put) (same_whole two.parts)
+      (breaks_after (turn_echo echo) (after_said id.0 two.parts found) old mid new x y z [] (puts_of put) one two.breaks))
+
+-- if the client is told of the echo, the job goes on in the foreground
+goes_on : (h : History) (state : Option JobState) (has stops : Bool) (after : After) → TellsEcho (echo_by (is_foreground state) after) h
+    → verdict_at state has after stops ≡ Some (record { write = has; next = job.Foreground })
+goes_on h (Some job.Foreground) has stops Hide tells = refl
+goes_on h (Some job.Foreground) has stops Show tells = refl
+goes_on h (Some job.Foreground) has stops _ tells = absurd tells
+goes_on h (Some job.Background) has stops after tells = absurd tells
+goes_on h (Some (job.Stopped why)) has stops after tells = absurd tells
+goes_on h (Some job.Ended) has stops after tells = absurd tells
+goes_on h None has stops after tells = absurd tells
+
+grows_echoed : (echo : Option Bool) (h : History) → Grows h (echoed echo h)
+grows_echoed None h = grows_none h
+grows_echoed (Some on) h = (replies h (echo_set on), refl)
+
+any_parts : (b : Bool) (text : List ℕ) → (parts : List (List ℕ)) × Cuts b text parts
+any_parts true text = let s = in_single text in (s.0, (s.1, s.2))
+any_parts false text = ([], refl)
+
+-- it could not be told
+pub stops_echo : (id : JobId) (text : List ℕ) (after : After) (echo : Option Bool) (old new : Term) (x y : List ℕ) → old.progress.over ≡ false
+    → echo ≡ echo_by (is_foreground (state_at old.table id.0)) after → new ≡ old → y ≡ x → ((c : Run) → LeadsTo c old → TellsEcho echo c.history)
+    → StopsWithin old (Said id text after) false x y Nothing new
+stops_echo id text after echo old new x y on is same none tells = record {
+  part = [];
+  appended = none ∙ sym (append-nil x);
+  leads = λ c at.
+      let asked = echo_by (in_foreground c id.0) after in
+      let d = turn_echo asked c in
+      let e = subst (λ (o : Option Bool). TellsEcho o c.history) (echo_as id.0 after echo old c on is at) (tells c at) in
+      let v : verdict c id.0 text after ≡ Some (record { write = has_text text; next = job.Foreground }) =
+      goes_on c.history (state_at c.jobs id.0) (has_text text) (tostop c) after e in
+      let cut = any_parts (has_text text) text in
+      let whole = flush (show cut.0 d) in
+      let C : Option Verdict → Type 0 = λ u. Cuts (writes u) text cut.0 in
+      let P : Bool → Type 0 = λ u. ActsUnless u c (Said id text after) whole in
+      let g = spelled_more c.history whole.history (grows_then c.history d.history whole.history (grows_echoed asked c.history)
+      (grows_then d.history (show cut.0 d).history whole.history (grows_parts d.history cut.0) (grows_flushed (show cut.0 d).history))) in (
+        whole,
+        subst P (on_as c old on at) (cut.0, subst C (sym v) cut.1, ap (λ (u : Option Verdict). after_said id.0 cut.0 u d) (sym v)),
+        g.0,
+        g.1,
+        ap (λ (t : Term). t.progress) same ∙ at.progress,
+        sym (append-nil c.puts),
+      );
+}

@@ -11,7 +11,7 @@ use Rattle.tn_machines.proofs.lemmas.server.Giving.{acts_of, gives_acts, gives_g
 use Rattle.tn_machines.specs.{Counting.first_end, server.{Giving.{entries_put, Gives}, Marks.{Turns, Runs, put_or_not, run_after_opening}}, Pieces.bytes_in}
 use Rattle.tn_machines.specs.{server.Hearing.{heard, at_end_after, MayCome, MayAllCome, KeepsOn, AllKeepOn, HangsUp}, declared.faults.Ended.Ended}
 use Rattle.tn_machines.specs.server.Run.{Run, Acts, ActsUnless, flush, feed, ask, ask_if, answer, end_if, hang_up, move, stop_job, end_job, in_foreground}
-use Rattle.tn_machines.specs.{server.Run.{verdict, verdict_at, has_text, tostop, after_said, halt_if, is_end, show, start}, declared.messages.Message.Message}
+use Rattle.tn_machines.specs.{server.Run.{verdict, verdict_at, has_text, tostop, echo_by, turn_echo, after_said, halt_if, is_end, show, start}, declared.messages.Message.Message}
 use Rattle.tn_machines.specs.declared.{faults.SessionFault.SessionFault, server.messages.ServerMark.ServerMark}
 use Rattle.tn_machines.specs.declared.messages.Message.TheVariants.{Piece, HangUp, ReadFailed, Take, Said, Refused, Left, Resized, Asked}
 use Rattle.tn_machines.specs.declared.faults.Ended.TheVariants as ended
@@ -149,7 +149,8 @@ acts_ended : (c new : Run) (m : Message) → Acts c m new → ended_of new ≡ e
 acts_ended c new (Piece piece) a e = sym (ask_ended c.progress.asks (feed piece a.0 c)) ∙ sym (ap ended_of a.2) ∙ e
 acts_ended c new ReadFailed a e = first_none (ended_of c) (ended.Fault fault.Read) (sym (ap ended_of a) ∙ e)
 acts_ended c new Take a e = sym (ask_ended true c) ∙ sym (ap ended_of a) ∙ e
-acts_ended c new (Said id text after) a e = said_ended id.0 a.0 _ c (sym (ap ended_of a.2) ∙ e)
+acts_ended c new (Said id text after) a e =
+    said_ended id.0 a.0 _ (turn_echo (echo_by (in_foreground c id.0) after) c) (sym (ap ended_of a.2) ∙ e)
 acts_ended c new Refused a e = first_none (ended_of c) (ended.Fault fault.Memory) (sym (ap ended_of a) ∙ e)
 acts_ended c new _ a e = sym (ap ended_of a) ∙ e
 
@@ -198,6 +199,11 @@ calm_show id (part ∷ parts) c s =
     let d = record c { history = grown c.history (wrote part) } in
     let one : Calm id d = record { on = s.on; gives = record { all = s.gives.all; taken = s.gives.taken }; asks = s.asks; ends = s.ends; front = s.front } in
     calm_show id parts (flush d) (calm_flush id d one)
+
+calm_echo : (id : ℕ) (echo : Option Bool) (c : Run) → Calm id c → Calm id (turn_echo echo c)
+calm_echo id None c s = record { on = s.on; gives = s.gives; asks = s.asks; ends = s.ends; front = s.front }
+calm_echo id (Some on) c s =
+    record { on = s.on; gives = record { all = s.gives.all; taken = s.gives.taken }; asks = s.asks; ends = s.ends; front = s.front }
 
 -- where no entry waits, asking takes none
 asked_none : (h : History) → waiting h ≡ [] → waiting (grown h took) ≡ []
@@ -323,14 +329,14 @@ said_on id at parts (Some v) c others s e =
     subst P (sym one.no_end) (record { calm = calm_flush id (show parts m) (calm_show id parts m one.calm); at_end = one.at_end; stream = one.stream })
 
 -- the end of the job in the foreground would have ended the session
-done_ends : (id : ℕ) (text : List ℕ) (parts : List (List ℕ)) (c : Run) → state_at c.jobs id ≡ Some job.Foreground
-    → ended_of (after_said id parts (verdict c id text next.Done) c) ≡ ended.HangUp → ⊥
-done_ends id text parts c front e =
+done_ends : (id : ℕ) (text : List ℕ) (parts : List (List ℕ)) (echo : Option Bool) (c : Run) → state_at c.jobs id ≡ Some job.Foreground
+    → ended_of (after_said id parts (verdict c id text next.Done) (turn_echo echo c)) ≡ ended.HangUp → ⊥
+done_ends id text parts echo c front e =
     let v : verdict c id text next.Done ≡ Some (record { write = has_text text; next = job.Ended }) =
     ap (λ (s : Option JobState). verdict_at s (has_text text) next.Done (tostop c)) front in
     let there : in_foreground c id ≡ true = ap (λ (s : Option JobState). is_foreground s) front in
-    let d : Bool → Run = λ b. flush (show parts (end_job id b c)) in
-    let P : Option Verdict → Type 0 = λ u. ended_of (after_said id parts u c) ≡ ended.HangUp in
+    let d : Bool → Run = λ b. flush (show parts (end_job id b (turn_echo echo c))) in
+    let P : Option Verdict → Type 0 = λ u. ended_of (after_said id parts u (turn_echo echo c)) ≡ ended.HangUp in
     let Q : Bool → Type 0 = λ b. ended_of (halt_if b (d b)) ≡ ended.HangUp in
     not_done (ended_of c) (subst Q there (subst P v e))
 
@@ -362,19 +368,21 @@ calm_acts id c new Take others a e may s =
     calm_asked id Take c c (ask c) new a (gives_acts c new Take a s.gives) (answered c (waiting c.history) refl s.gives s.ends) s.on refl s.front
     (sym (append-nil c.stream)) tt
 calm_acts id c new (Said job text after) others a e may s =
+    let echo = echo_by (in_foreground c job.0) after in
     let f = sym (ap ended_of a.2) ∙ e in
-    let one = said_on id job.0 a.0 (verdict c job.0 text after) c others s f in
-    calm_as id (Said job text after) c (after_said job.0 a.0 (verdict c job.0 text after) c) new a.2 (record {
+    let one = said_on id job.0 a.0 (verdict c job.0 text after) (turn_echo echo c) others (calm_echo id echo c s) f in
+    calm_as id (Said job text after) c (after_said job.0 a.0 (verdict c job.0 text after) (turn_echo echo c)) new a.2 (record {
       calm = one.calm;
       at_end = one.at_end;
-      keeps = λ done same. ends_here done same f;
+      keeps = λ done same. ends_here echo done same f;
       stream = one.stream ∙ sym (append-nil c.stream);
     })
   where
-    ends_here : after ≡ next.Done → job.0 ≡ id → ended_of (after_said job.0 a.0 (verdict c job.0 text after) c) ≡ ended.HangUp → ⊥
-    ends_here done same f =
-        let P : After → Type 0 = λ u. ended_of (after_said job.0 a.0 (verdict c job.0 text u) c) ≡ ended.HangUp in
-        done_ends job.0 text a.0 c (ap (state_at c.jobs) same ∙ s.front) (subst P done f)
+    ends_here : (echo : Option Bool) → after ≡ next.Done → job.0 ≡ id
+        → ended_of (after_said job.0 a.0 (verdict c job.0 text after) (turn_echo echo c)) ≡ ended.HangUp → ⊥
+    ends_here echo done same f =
+        let P : After → Type 0 = λ u. ended_of (after_said job.0 a.0 (verdict c job.0 text u) (turn_echo echo c)) ≡ ended.HangUp in
+        done_ends job.0 text a.0 echo c (ap (state_at c.jobs) same ∙ s.front) (subst P done f)
 calm_acts id c new Refused others a e may s = absurd (not_fault (ended_of c) fault.Memory (sym (ap ended_of a) ∙ e))
 calm_acts id c new Left others a e may s =
     calm_as id Left c (flush c) new a (record { calm = calm_flush id c s; at_end = refl; keeps = tt; stream = sym (append-nil c.stream) })

@@ -1,9 +1,9 @@
 -- Each call is refused for its cause.
-use Rattle.std.proofs.Common.{◌≡◌, ◌⊎◌, inl, inr, ℕ, Bool, true, false, List, [], ◌∷◌, ◌++◌, map, take, Option, Result, Ok, Err, OnErr, IfErr, refl, sym, ap}
-use Rattle.std.proofs.Common.{◌∙◌, subst, append-nil, arith, ◌<◌, All}
+use Rattle.std.proofs.Common.{◌≡◌, ◌⊎◌, inl, inr, ℕ, Bool, true, false, List, [], ◌∷◌, ◌++◌, map, take, Option, Some, None, Result, Ok, Err, OnErr, IfErr, refl, sym}
+use Rattle.std.proofs.Common.{ap, ◌∙◌, subst, append-nil, arith, ◌<◌, All, if◌then◌else◌}
 use Rattle.std.specs.List.{concat}
 use Rattle.tn_discipline.specs.declared.{echo.Symbol.Symbol, reads.Entry.Entry}
-use Rattle.tn_jobs.specs.{declared.{held_jobs.JobId.JobId, verdicts.{After.After, JobState.JobState, Verdict.Verdict}}, Jobs.state_at}
+use Rattle.tn_jobs.specs.{declared.{held_jobs.JobId.JobId, verdicts.{After.After, JobState.JobState, Verdict.Verdict}}, Jobs.{is_foreground, state_at}}
 use Rattle.tn_jobs.specs.declared.verdicts.JobState.TheVariants as job
 use Rattle.tn_nvt.specs.{Feeding.DecoderState, declared.items.Item.Item}
 use Rattle.tn_nvt.specs.Feeding as nvt
@@ -11,15 +11,15 @@ use Rattle.tn_pty.specs.{Terminal.{fitting_count, output_symbols}, declared.pty.
 use Rattle.tn_pty.specs.declared.pty.PtyFault.TheVariants as pty
 use Rattle.tn_server.proofs.lemmas.{Stopping.has_read, Causes.causes, Leading.stands_all}
 use Rattle.tn_server.specs.{Answering.{StopsWithin, IsStopCause}, Calls.End, Steps.end_after_items, Course.in_parts, Lines.waiting, Replies.data_of}
-use Rattle.tn_server.specs.{Events.{History, next, took, wrote, pulled, gets, items}, Faults.{IsOfItem, IsOfPiece, SaysSomething}, Screen.queue, Terms.settings}
+use Rattle.tn_server.specs.{Events.{History, next, took, wrote, pulled, gets, items}, Faults.{IsFault, IsOfItem, IsOfPiece, SaysSomething}, Screen.queue, Terms.settings}
 use Rattle.tn_server.specs.declared.faults.ServerFault.{ServerFault}
 use Rattle.tn_server.specs.Calls as server_end
 use Rattle.tn_server.specs.declared.faults.ServerFault.TheVariants as server
-use Rattle.tn_machines.proofs.of_terminal.{Breaking.{read_past, kept_history}, Handling.same_verdict}
-use Rattle.tn_machines.specs.{server.{Reaching.{LeadsTo, RefusesFor, AdvancesRun, Feeds}, Refusing.IsRefusalCause}, declared.messages.Message.Message}
-use Rattle.tn_machines.specs.server.Refusing.{SymbolsWait, SymbolsWaitWithin, WaitsWithText, WaitsWithRequest, WaitsIf, RefusesAtItem, RefusesAtByte}
-use Rattle.tn_machines.specs.server.Run.{Run, Reads, Cuts, ask, feed, move, show, stop_job, end_job, in_foreground, verdict_at, has_text, writes}
-use Rattle.tn_machines.specs.declared.messages.Message.TheVariants.{Piece, HangUp, ReadFailed, Take, Said, Refused, Left, Resized, Asked}
+use Rattle.tn_machines.proofs.of_terminal.{Breaking.{read_past, kept_history}, Handling.{echoed_verdict, echo_as}}
+use Rattle.tn_machines.specs.server.{Reaching.{LeadsTo, RefusesFor, AdvancesRun, Feeds}, Refusing.{RefusesAtItem, RefusesAtByte}, Run.{echoed, turn_echo}}
+use Rattle.tn_machines.specs.server.Refusing.{IsRefusalCause, SymbolsWait, SymbolsWaitWithin, WaitsWithText, TellsEcho, WaitsWithRequest, WaitsIf}
+use Rattle.tn_machines.specs.declared.messages.Message.{Message, TheVariants.{Piece, HangUp, ReadFailed, Take, Said, Refused, Left, Resized, Asked}}
+use Rattle.tn_machines.specs.server.Run.{Run, Reads, Cuts, ask, feed, move, show, stop_job, end_job, in_foreground, verdict_at, has_text, writes, echo_by}
 use Rattle.tn_machines.specs.declared.server.terminal.{Stuck.Stuck, Term.Term}
 
 true_false : true ≡ false → ⊥
@@ -182,13 +182,30 @@ pub take_cause : {A : Type 0} (old : Term) (r : Result A Stuck) → IfErr r (λ 
     → OnErr r ((c : Run) → LeadsTo c old → WaitsWithRequest c.history) → IfErr r (λ s. RefusesFor old Take s.fault)
 take_cause old r is waits = stuck_cause old Take r _ is waits (λ w f e c at. (e, w c at))
 
-pub said_cause : {A : Type 0} (old : Term) (id : JobId) (text : List ℕ) (after : After) (r : Result A Stuck) → old.progress.over ≡ false
-    → IfErr r (λ s. s.fault ≡ server.Memory) → OnErr r ((c : Run) → LeadsTo c old
-    → WaitsWithText (writes (verdict_at (state_at old.table id.0) (has_text text) after old.tostop)) c.history text)
+pub said_cause : {A : Type 0} (old mid : Term) (id : JobId) (text : List ℕ) (after : After) (echo : Option Bool) (x y : List ℕ) (r : Result A Stuck)
+    → old.progress.over ≡ false → echo ≡ echo_by (is_foreground (state_at old.table id.0)) after → mid ≡ record old { end = mid.end }
+    → AdvancesRun (turn_echo echo) old x y [] mid → IfErr r (λ s. s.fault ≡ server.Memory) → OnErr r ((c : Run) → LeadsTo c mid
+    → WaitsWithText (writes (verdict_at (state_at mid.table id.0) (has_text text) after mid.tostop)) c.history text)
     → IfErr r (λ s. RefusesFor old (Said id text after) s.fault)
-said_cause old id text after r on is waits =
+said_cause old mid id text after echo x y r on asked rest does is waits =
     stuck_cause old (Said id text after) r _ is waits (λ w f e c at.
-    (e, subst (λ (v : Option Verdict). WaitsWithText (writes v) c.history text) (same_verdict id.0 text after old c on at) (w c at)))
+    let P : Option Verdict × Option Bool → Type 0 = λ u. WaitsWithText (writes u.0) (echoed u.1 c.history) text in
+    let v = echoed_verdict id.0 text after old mid c on rest at in
+    let o = echo_as id.0 after echo old c on asked at in
+    (e, inr (subst P (λ i. (v i, o i)) (w (turn_echo echo c) (does.leads c at)))))
+
+-- the client could not be told of the echo
+pub echo_cause : (old : Term) (id : JobId) (text : List ℕ) (after : After) (echo : Option Bool) (f : ServerFault) → old.progress.over ≡ false
+    → echo ≡ echo_by (is_foreground (state_at old.table id.0)) after → ((c : Run) → LeadsTo c old → (f ≡ server.Memory) × TellsEcho echo c.history)
+    → RefusesFor old (Said id text after) f
+echo_cause old id text after echo f on asked tells = λ c at.
+    let t = tells c at in
+    (t.0, inl (subst (λ (o : Option Bool). TellsEcho o c.history) (echo_as id.0 after echo old c on asked at) t.1))
+
+-- an end that has not failed refuses a call only when out of memory
+pub is_memory : (failed : Bool) (f : ServerFault) → failed ≡ false → IsFault (if failed then Some server.Failed else None) f → f ≡ server.Memory
+is_memory true f e is = absurd (true_false e)
+is_memory false f e is = is
 
 -- a message that brings nothing itself
 abbrev pub IsQuiet : Message → Type 0

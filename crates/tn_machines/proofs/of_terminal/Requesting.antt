@@ -4,10 +4,10 @@ use Rattle.tn_discipline.specs.{Canon.Canon, declared.reads.Entry.Entry}
 use Rattle.tn_jobs.specs.{Jobs.Jobs, declared.verdicts.{JobState.JobState, Verdict.Verdict, Why.Why}}
 use Rattle.tn_jobs.specs.declared.verdicts.JobState.TheVariants as job
 use Rattle.tn_machines.specs.{declared.faults.SessionFault.SessionFault, server.Run.{halt_if, in_foreground, is_end, idle, ends_by, verdict, Acts, ActsUnless}}
-use Rattle.tn_machines.specs.{declared.messages.Message.Message, server.Marks.{Turns, Runs, run_after_opening, unput, put_or_not}}
+use Rattle.tn_machines.specs.server.Run.{Run, start, answer, ask, ask_if, feed, hang_up, halt, fail, end_if, echo_by, turn_echo, after_said, show, flush, move}
+use Rattle.tn_machines.specs.{server.{Run.{stop_job, end_job}, Marks.{Turns, Runs, run_after_opening, unput, put_or_not}}, declared.messages.Message.Message}
 use Rattle.tn_machines.specs.declared.{messages.Message.TheVariants.{Piece, HangUp, ReadFailed, Take, Said, Refused}, server.messages.ServerMark.ServerMark}
 use Rattle.tn_machines.specs.{declared.faults.Ended.TheVariants.Fault, server.Requests.{open_requests, request_of, requests_among, AnswersRequests}}
-use Rattle.tn_machines.specs.server.Run.{Run, start, answer, ask, ask_if, feed, hang_up, halt, fail, end_if, after_said, show, flush, move, stop_job, end_job}
 use Rattle.tn_machines.specs.declared.faults.SessionFault.TheVariants as fault
 use Rattle.tn_server.specs.{Events.{next, took}, Lines.waiting, declared.wishes.Editing.Editing}
 use Rattle.tn_machines.specs.declared.server.messages.ServerMark.TheVariants as mark
@@ -81,7 +81,10 @@ by_act c (Piece piece) new (xs, _, e) = let f = ap answered e ∙ by_ask_if c.pr
 by_act c HangUp new e = let f = ap answered e ∙ by_hang_up c in omega arith
 by_act c ReadFailed new e = let f = ap answered e ∙ by_hang_up (ends_by (Fault fault.Read) c) in omega arith
 by_act c Take new e = let f = ap answered e ∙ by_ask c in omega arith
-by_act c (Said id text after) new (parts, _, e) = let f = ap answered e ∙ by_said id.0 parts (verdict c id.0 text after) c in omega arith
+by_act c (Said id text after) new (parts, _, e) =
+    let d = turn_echo (echo_by (in_foreground c id.0) after) c in
+    let f : answered new ≡ answered c = ap answered e ∙ by_said id.0 parts (verdict c id.0 text after) d in
+    omega arith
 by_act c Refused new e = let f = ap answered e ∙ by_halt (flush (ends_by (Fault fault.Memory) c)) in omega arith
 by_act c _ new e = let f = ap answered e in omega arith
 

@@ -1,12 +1,15 @@
 -- Why a call of the end is refused within a message.
-use Rattle.std.specs.{Prelude.{◌≡◌, ◌≢◌, ◌⊎◌, ℕ, Bool, true, false, List, [], ◌∷◌, ◌++◌}, List.concat}
+use Rattle.std.specs.{Prelude.{◌≡◌, ◌≢◌, ◌⊎◌, ℕ, Bool, true, false, Option, Some, None, List, [], ◌∷◌}, List.concat}
+use Rattle.std.specs.Prelude.{◌++◌}
 use Rattle.tn_nvt.specs.declared.items.Item.{Item}
 use Rattle.tn_pty.specs.declared.pty.PtyFault.{PtyFault}
 use Rattle.tn_pty.specs.declared.pty.PtyFault.TheVariants as pty
-use Rattle.tn_server.specs.{Course.in_parts, Events.{History, next, took, wrote, gets, items}, Screen.queue}
+use Rattle.tn_server.specs.{Course.in_parts, Screen.queue}
+use Rattle.tn_server.specs.Events.{History, next, took, wrote, echo_set, gets, items}
 use Rattle.tn_server.specs.{Faults.{IsCause, SaysSomething}, declared.faults.ServerFault.ServerFault}
 use Rattle.tn_server.specs.declared.faults.ServerFault.TheVariants.{Pty, Memory, Failed, Char, NotOn}
-use Rattle.tn_machines.specs.{server.Run.{Run, Reads, verdict, writes}, Pieces.WantsMemoryWithin}
+use Rattle.tn_machines.specs.server.Run.{Run, Reads, verdict, writes, in_foreground, echo_by, echoed}
+use Rattle.tn_machines.specs.Pieces.{WantsMemoryWithin}
 use Rattle.tn_machines.specs.declared.messages.Message.{Message, TheVariants.{Refused, Left, Resized, Asked}}
 use Rattle.tn_machines.specs.declared.messages.Message.TheVariants.{Piece, HangUp, ReadFailed, Take, Said}
 
@@ -24,6 +27,15 @@ SymbolsWaitWithin h text =
 abbrev pub WaitsWithText : Bool → History → List ℕ → Type 0
 WaitsWithText true h text = SymbolsWaitWithin h text
 WaitsWithText false h text = SymbolsWait h
+
+-- the client is told of the echo that a job asked for
+abbrev pub TellsEcho : Option Bool → History → Type 0
+TellsEcho None h = ⊥
+TellsEcho (Some on) h = SaysSomething h (echo_set on)
+
+-- it is told of the echo, or symbols wait with the text after that
+abbrev pub WaitsWithReaction : Option Bool → Bool → History → List ℕ → Type 0
+WaitsWithReaction echo shown h text = TellsEcho echo h ⊎ WaitsWithText shown (echoed echo h) text
 
 -- a request that no entry answers is told by GA, or symbols wait
 abbrev pub WaitsWithRequest : History → Type 0
@@ -71,7 +83,8 @@ IsRefusalCause c HangUp f = (f ≡ Memory) × SymbolsWait c.history
 IsRefusalCause c ReadFailed f = (f ≡ Memory) × SymbolsWait c.history
 IsRefusalCause c Take f = (f ≡ Memory) × WaitsWithRequest c.history
 IsRefusalCause c (Said id text after) f =
-    (f ≡ Memory) × WaitsWithText (writes (verdict c id.0 text after)) c.history text
+    (f ≡ Memory)
+    × WaitsWithReaction (echo_by (in_foreground c id.0) after) (writes (verdict c id.0 text after)) c.history text
 IsRefusalCause c Refused f = (f ≡ Memory) × SymbolsWait c.history
 IsRefusalCause c Left f = (f ≡ Memory) × SymbolsWait c.history
 IsRefusalCause c (Resized size) f = (f ≡ Memory) × SymbolsWait c.history

@@ -2,12 +2,13 @@
 use Rattle.std.specs.Prelude.{◌≡◌, ℕ, ◌≤◌, Bool, true, false, ◌&&◌, Option, Some, None, List, [], ◌∷◌, ◌++◌}
 use Rattle.std.specs.{Prelude.{length, All}, List.concat}
 use Rattle.tn_discipline.specs.{Canon.Canon, declared.reads.Entry.Entry}
-use Rattle.tn_jobs.specs.{Jobs.{Jobs, state_at, with_state, is_foreground}, Judging.judged}
+use Rattle.tn_jobs.specs.{Jobs.{Jobs, state_at, with_state, is_foreground}, Judging.{judged, echo_asked}}
 use Rattle.tn_jobs.specs.declared.verdicts.{After.After, JobState.JobState, Why.Why, Verdict.Verdict}
 use Rattle.tn_jobs.specs.declared.verdicts.JobState.TheVariants as job
 use Rattle.tn_nvt.specs.declared.items.Item.{Item}
 use Rattle.tn_server.specs.{Course.in_parts, Lines.waiting, Screen.queue, declared.wishes.Editing.Editing}
-use Rattle.tn_server.specs.Events.{History, begun, next, took, pulled, wished, gets, items, opening_settings}
+use Rattle.tn_server.specs.Events.{History, begun, next, took, pulled, wished, echo_set, gets, items}
+use Rattle.tn_server.specs.Events.{opening_settings}
 use Rattle.tn_linemode.specs.Prefixes.{IsRead}
 use Rattle.tn_machines.specs.server.Counting as counting
 use Rattle.tn_machines.specs.declared.faults.Ended.{Ended, TheVariants.{Done, Fault}}
@@ -112,6 +113,19 @@ verdict c id text after = verdict_at (state_at c.jobs id) (has_text text) after 
 abbrev pub in_foreground : Run → ℕ → Bool
 in_foreground c id = is_foreground (state_at c.jobs id)
 
+-- the echo that a job asks for; only the job in the foreground gets it
+abbrev pub echo_by : Bool → After → Option Bool
+echo_by true after = echo_asked after
+echo_by false after = None
+
+abbrev pub echoed : Option Bool → History → History
+echoed None h = h
+echoed (Some on) h = next h (echo_set on)
+
+-- what is typed from here on is echoed or not, or as before
+abbrev pub turn_echo : Option Bool → Run → Run
+turn_echo echo c = record c { history = echoed echo c.history }
+
 -- the foreground job that stops is made foreground again: one stop is counted, and it stays where it is
 abbrev pub stop_job : ℕ → Why → Bool → Run → Run
 stop_job id why true c = record c { progress = counting.after_stop c.progress }
@@ -139,7 +153,7 @@ abbrev pub halt_if : Bool → Run → Run
 halt_if true c = halt c
 halt_if false c = c
 
--- what a job's reaction does: first the job is moved, then its text is shown;
+-- what a job's reaction does once the echo is as it asked: first the job is moved, then its text is shown;
 -- the end of the foreground job ends all
 abbrev pub after_said : ℕ → List (List ℕ) → Option Verdict → Run → Run
 after_said id parts None c = flush c
@@ -173,7 +187,8 @@ Acts c ReadFailed new = new ≡ flush (hang_up (ends_by (Fault fault.Read) c))
 Acts c Take new = new ≡ flush (ask c)
 Acts c (Said id text after) new =
     (parts : List (List ℕ)) × Cuts (writes (verdict c id.0 text after)) text parts
-    × (new ≡ after_said id.0 parts (verdict c id.0 text after) c)
+    × (new ≡ after_said id.0 parts (verdict c id.0 text after)
+    (turn_echo (echo_by (in_foreground c id.0) after) c))
 Acts c Refused new = new ≡ halt (flush (ends_by (Fault fault.Memory) c))
 Acts c Left new = new ≡ flush c
 Acts c (Resized size) new = new ≡ flush c

@@ -15,7 +15,7 @@ use crate::faults::SessionFault;
 use crate::messages::Message;
 use std::alloc::Global;
 use tn_client::{ClientEnd, ClientFault};
-use tn_codes::EDIT;
+use tn_codes::{EDIT, TRAPSIG};
 use tn_discipline::Limit;
 use tn_option::{ECHO, LINEMODE, QState, SUPPRESS_GO_AHEAD, Side};
 use tn_streams::{Control, WindowSize};
@@ -253,6 +253,9 @@ impl Core {
         Terms {
             linemode: self.end.option(Side::Us, LINEMODE) == QState::Yes,
             edits: self.end.mode() & EDIT != 0,
+            traps: self.end.mode() & TRAPSIG != 0,
+            forwards: self.end.forwards(),
+            chars: self.end.chars(),
             echoed: self.end.option(Side::Them, ECHO) == QState::Yes,
             suppressed: self.end.option(Side::Them, SUPPRESS_GO_AHEAD) == QState::Yes,
             held: self.end.half().len(),

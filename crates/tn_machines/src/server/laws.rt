@@ -6,7 +6,8 @@ ghost use Rattle.tn_jobs.specs.{Jobs.{Jobs, state_at}, declared.verdicts.JobStat
 ghost use Rattle.tn_server.specs.declared.wishes.Editing.{Editing};
 ghost use Rattle.tn_machines.specs.{server.Agreeing.Agree, declared.faults.Ended.TheVariants.{HangUp, Fault}};
 ghost use Rattle.tn_machines.specs.server.{Ending.IsFaultCause, Requests.{AnswersRequests, requests_among}};
-ghost use Rattle.tn_machines.specs.server.{Giving.GivesPrefix, Marks.{Turns, Runs, run_after_opening}};
+ghost use Rattle.tn_machines.specs.server.{Echoing.{is_echoing, echo_after}, Giving.GivesPrefix};
+ghost use Rattle.tn_machines.specs.server.Marks.{Turns, Runs, run_after_opening};
 ghost use Rattle.tn_machines.specs.server.{Hearing.{Hears, HangsUp, MayAllCome}, Reaching.LeadsTo};
 ghost use Rattle.tn_machines.specs.server.{Run.{Run, start}, Welcoming.{IsWelcome, too_far_ahead}};
 ghost use Rattle.tn_machines.specs.declared.{faults.SessionFault.SessionFault, messages.Message.Message};
@@ -61,6 +62,12 @@ pub fn faults_have_causes()
         Runs (run_after_opening opens (start canon editing jobs)) marked new →
         new.progress.ended ≡ Fault fault →
         IsFaultCause opens (run_after_opening opens (start canon editing jobs)) marked fault }
+{}
+
+/// What is typed is echoed or not as the job in the foreground asked. No other message changes that.
+pub fn echo_is_as_asked()
+    ensures { (c new : Run) (message : Message) (mark : ServerMark) → Turns c (message, mark) new →
+        is_echoing new ≡ echo_after c message }
 {}
 
 /// No welcome message ends a session because too many entries wait: a piece of at most 512 bytes completes at

@@ -12,9 +12,9 @@ ghost use Rattle.tn_server.specs.{Events.History, Faults.SaysSomething, Lines.wa
 ghost use Rattle.tn_server.specs.Screen.{size};
 ghost use Rattle.tn_machines.specs.server.Counting as counting;
 ghost use Rattle.tn_machines.specs.server.{Marks.{is_whole, no_write_failed}, Refusing.WaitsWithRequest};
-ghost use Rattle.tn_machines.specs.server.{Run.Run, Refusing.{SymbolsWait, SymbolsWaitWithin, WaitsWithText}};
-ghost use Rattle.tn_machines.specs.server.Reaching.{FeedBreaksOff, HaltsIf, Says, SayBreaksOff, DoesWhole};
-ghost use Rattle.tn_machines.specs.server.Reaching.{FollowsPath, AdvancesRun, BreaksOff, Feeds};
+ghost use Rattle.tn_machines.specs.server.Refusing.{SymbolsWait, SymbolsWaitWithin, WaitsWithText, TellsEcho};
+ghost use Rattle.tn_machines.specs.server.{Run.Run, Reaching.{FeedBreaksOff, HaltsIf, Says, SayBreaksOff}};
+ghost use Rattle.tn_machines.specs.server.Reaching.{DoesWhole, FollowsPath, AdvancesRun, BreaksOff, Feeds};
 ghost use Rattle.tn_machines.specs.server.Reaching.{StopsWithin, RefusesFor, IsTurn, LeadsTo};
 ghost use Rattle.tn_machines.specs.declared.server.messages.Put.TheVariants.{Nothing};
 ghost use Rattle.tn_machines.specs.server.Welcoming.{HasRoom, IsCrowded, IsWelcome, IsUnwelcome, line_bytes};
@@ -425,6 +425,57 @@ impl Term {
         }
     }
 
+    // The echo that this job asks for: only the job in the foreground gets it.
+    fn echo_by(&self, id: JobId, after: After) -> Option<bool>
+        ensures { result ≡ run.echo_by (is_foreground (state_at self.now.table id.0)) after }
+    {
+        match self.table.state(id) {
+            Some(JobState::Foreground) => after.echo(),
+            Some(JobState::Background | JobState::Stopped(_) | JobState::Ended) | None => None,
+        }
+    }
+
+    // What is typed is echoed from here on or not, or as before.
+    fn turn_echo(&mut self, echo: Option<bool>, out: &mut Vec<u8>) -> Result<(), ServerFault>
+        requires { IsFalse self.old.progress.over }
+        ensures ok { OnOk result
+            (AdvancesRun (run.turn_echo echo) self.old out.old.items out.new.items [] self.new) }
+        ensures rest { self.new ≡ record self.old { end = self.new.end } }
+        ensures err { OnErr result (self.new ≡ self.old) }
+        ensures err_appends { OnErr result (out.new.items ≡ out.old.items) }
+        ensures cause { IfErr result (λ fault. (c : Run) → LeadsTo c self.old →
+            (fault ≡ ServerFault.Memory) × TellsEcho echo c.history) }
+    {
+        let Some(on) = echo else {
+            return Ok(());
+        };
+        match self.end.set_echo(on, out) {
+            Ok(()) => Ok(()),
+            Err(fault) => Err(fault),
+        }
+    }
+
+    // A job's reaction: the echo that it asks for, and then its text and what comes next.
+    fn react(
+        &mut self,
+        id: JobId,
+        text: &[u8],
+        after: After,
+        out: &mut Vec<u8>,
+    ) -> Result<Put, Stuck>
+        requires { IsFalse self.old.progress.over }
+        ensures ok { IfOk result (λ put.
+            DoesWhole self.old (Message.Said id text.now after) out.old.items out.new.items put self.new) }
+        ensures err { IfErr result (λ s.
+            StopsWithin self.old (Message.Said id text.now after) s.given out.old.items out.new.items s.put
+            self.new) }
+        ensures cause { IfErr result (λ s. RefusesFor self.old (Message.Said id text.now after) s.fault) }
+    {
+        let echo = self.echo_by(id, after);
+        self.turn_echo(echo, out)?;
+        self.said(id, text, after, out)
+    }
+
     fn piece(&mut self, piece: &[u8], out: &mut Vec<u8>) -> Result<Put, Stuck>
         requires { IsFalse self.old.progress.over }
         ensures ok { IfOk result (λ put.
@@ -500,7 +551,7 @@ impl Term {
         match message {
             Message::Piece(piece) => self.piece(piece.as_slice(), out),
             Message::Take => self.take(out),
-            Message::Said { job, text, after } => self.said(job, text.as_slice(), after, out),
+            Message::Said { job, text, after } => self.react(job, text.as_slice(), after, out),
             Message::HangUp => {
                 let put = self.hang_up();
                 self.finish(put, out)

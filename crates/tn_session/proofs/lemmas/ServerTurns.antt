@@ -4,9 +4,9 @@ use Rattle.tn_discipline.specs.declared.reads.Entry.{Entry}
 use Rattle.tn_jobs.specs.declared.verdicts.Verdict.{Verdict}
 use Rattle.tn_nvt.specs.declared.items.Item.{Item}
 use Rattle.tn_server.proofs.lemmas.Histories.{items-gets}
-use Rattle.tn_server.specs.{Course.in_parts, Events.{History, next, got, took, wrote, pulled, items, gets}, Lines.waiting, Screen.queue}
+use Rattle.tn_server.specs.{Course.in_parts, Events.{History, next, got, took, wrote, pulled, echo_set, items, gets}, Lines.waiting, Screen.queue}
 use Rattle.tn_machines.proofs.lemmas.server.Hearing.{move_keeps}
-use Rattle.tn_machines.specs.{server.{Marks.{Turns, put_or_not}, Run.{is_end, show}}, declared.server.messages.ServerMark.ServerMark}
+use Rattle.tn_machines.specs.{server.{Marks.{Turns, put_or_not}, Run.{echo_by, echoed, turn_echo, is_end, show}}, declared.server.messages.ServerMark.ServerMark}
 use Rattle.tn_machines.specs.server.Run.{Run, Acts, ActsUnless, flushed_history, flush, feed, ask, ask_if, answer, move, in_foreground, after_said, halt_if}
 use Rattle.tn_machines.specs.declared.messages.Message.{Message, TheVariants.{Piece, HangUp, ReadFailed, Take, Said, Refused, Left, Resized, Asked}}
 use Rattle.tn_machines.specs.declared.server.messages.ServerMark.TheVariants as mark
@@ -18,6 +18,7 @@ pub record ServerKeeps (T : History → Type 0) (said : List Item) : Type 0 wher
   pub takes : (h : History) → T h → T (next h took)
   pub writes : (h : History) (bytes : List ℕ) → T h → T (next h (wrote bytes))
   pub pulls : (h : History) (n : ℕ) → T h → T (next h (pulled n))
+  pub echoes : (h : History) (on : Bool) → T h → T (next h (echo_set on))
 
 module _ (T : History → Type 0) (said : List Item) (s : ServerKeeps T said) where
   all_come : (h : History) (xs : List Item) → IsPrefixOf (items h ++ xs) said → T h → T (gets h xs)
@@ -53,6 +54,10 @@ module _ (T : History → Type 0) (said : List Item) (s : ServerKeeps T said) wh
       answered c [] = refl
       answered c (w ∷ ws) = refl
 
+  hides : (echo : Option Bool) (h : History) → T h → T (echoed echo h)
+  hides None h t = t
+  hides (Some on) h t = s.echoes h on t
+
   says : (c : Run) (id : ℕ) (parts : List (List ℕ)) (v : Option Verdict) → T c.history → T (after_said id parts v c).history
   says c id parts None t = flushes c.history t
   says c id parts (Some v) t =
@@ -76,7 +81,9 @@ module _ (T : History → Type 0) (said : List Item) (s : ServerKeeps T said) wh
   acts c new HangUp a p t = moved (flushed_history c.history) new.history (ap (λ (r : Run). r.history) a) (flushes c.history t)
   acts c new ReadFailed a p t = moved (flushed_history c.history) new.history (ap (λ (r : Run). r.history) a) (flushes c.history t)
   acts c new Take a p t = moved (flushed_history (ask c).history) new.history (ap (λ (r : Run). r.history) a) (flushes (ask c).history (asks true c t))
-  acts c new (Said id text after) a p t = moved _ new.history (ap (λ (r : Run). r.history) a.2) (says c id.0 a.0 _ t)
+  acts c new (Said id text after) a p t =
+      let echo = echo_by (in_foreground c id.0) after in
+      moved _ new.history (ap (λ (r : Run). r.history) a.2) (says (turn_echo echo c) id.0 a.0 _ (hides echo c.history t))
   acts c new Refused a p t = moved (flushed_history c.history) new.history (ap (λ (r : Run). r.history) a) (flushes c.history t)
   acts c new Left a p t = moved (flushed_history c.history) new.history (ap (λ (r : Run). r.history) a) (flushes c.history t)
   acts c new (Resized size) a p t = moved (flushed_history c.history) new.history (ap (λ (r : Run). r.history) a) (flushes c.history t)

@@ -75,6 +75,7 @@ server_grows p q (Some (m, k)) g t =
       takes = λ h at. one_more said (server_says.items_said h) (server_says.replies h server.took) at;
       writes = λ h bytes at. one_more said (server_says.items_said h) (server_says.replies h (server.wrote bytes)) at;
       pulls = λ h n at. one_more said (server_says.items_said h) (server_says.replies h (server.pulled n)) at;
+      echoes = λ h on at. one_more said (server_says.items_said h) (server_says.replies h (server.echo_set on)) at;
     }) p q m k t (prefix_self (server.items q.history)) (prefix_self said) in
     (tt, spells_grow said (server_says.items_said q.history) grown)
 

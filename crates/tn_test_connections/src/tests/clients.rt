@@ -1,6 +1,7 @@
 //! What a client is told of a connection that is not made, and of one that is of no use any more.
 
 use std::alloc::{AllocError, Global};
+use std::fs::{File, Files};
 use std::io::{self, Cursor, ErrorKind, Read, Write};
 use std::net::{Ipv4Addr, Net, TcpListener, TcpStream};
 use std::sync::Arc;
@@ -43,7 +44,7 @@ pub(super) fn connect_here<H, K, S>(
     screen: &mut S,
 ) -> Result<(Option<ConnectFault>, Vec<u8>), AllocError>
 where
-    H: Host + Net<Listener = TcpListener, Stream = TcpStream>,
+    H: Files<File = File> + Host + Net<Listener = TcpListener, Stream = TcpStream>,
     K: Read + Drop + Send + 'static,
     S: Write,
 {
@@ -87,7 +88,7 @@ fn fault_of<H>(
     port: u16,
 ) -> Result<(Option<ConnectFault>, Vec<u8>), AllocError>
 where
-    H: Host + Net<Listener = TcpListener, Stream = TcpStream>,
+    H: Files<File = File> + Host + Net<Listener = TcpListener, Stream = TcpStream>,
 {
     let link = link(alloc)?;
     let mut screen = Screen {

@@ -261,7 +261,7 @@ fn a_server_that_is_told_to_end_accepts_nobody(rt: HostRuntime) -> Result<(), Fa
     let served = serve(
         rt,
         alloc,
-        at,
+        &[at],
         serving(1, 3),
         Over,
         service,

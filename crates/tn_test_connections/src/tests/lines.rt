@@ -3,6 +3,7 @@
 
 use super::clients::{connect_here, link};
 use std::alloc::{AllocError, Global};
+use std::fs::{File, Files};
 use std::io::{self, Cursor, Read, Write};
 use std::net::{Ipv4Addr, Net, Shutdown, TcpListener, TcpStream};
 use std::process::Abort;
@@ -211,7 +212,7 @@ fn typed_there<H>(
     editing: Editing,
 ) -> Result<Option<String>, Fail>
 where
-    H: Host + Clock + Net<Listener = TcpListener, Stream = TcpStream>,
+    H: Files<File = File> + Host + Clock + Net<Listener = TcpListener, Stream = TcpStream>,
 {
     let listener = TcpListener::bind(&rt, (Ipv4Addr::LOCALHOST, 0))?;
     let port = listener.local_addr()?.port();
@@ -242,7 +243,7 @@ fn typed_here(alloc: Global, mut keys: &[u8]) -> Result<Vec<u8>, Fail> {
 
 fn is_same<H>(rt: H, alloc: Global, seed: u32) -> Result<bool, Fail>
 where
-    H: Host + Clock + Net<Listener = TcpListener, Stream = TcpStream>,
+    H: Files<File = File> + Host + Clock + Net<Listener = TcpListener, Stream = TcpStream>,
 {
     let mut random = Random::new(seed);
     let keys = keys_of(alloc, &mut random)?;

@@ -2,6 +2,7 @@
 //! read begins what the other has written. No contract can say that of a socket.
 
 use std::alloc::{AllocError, Global};
+use std::fs::{File, Files};
 use std::io::{self, Cursor, Read, Write};
 use std::net::{Ipv4Addr, Net, Shutdown, TcpListener, TcpStream};
 use std::process::Abort;
@@ -190,7 +191,7 @@ fn converse<H>(
     editing: Editing,
 ) -> Result<(Option<u64>, Option<Ended>, Arc<Mutex<Wire>, Global>), Fail>
 where
-    H: Host + Net<Listener = TcpListener, Stream = TcpStream>,
+    H: Files<File = File> + Host + Net<Listener = TcpListener, Stream = TcpStream>,
 {
     let wire = Wire {
         to_server: Way::new(alloc),

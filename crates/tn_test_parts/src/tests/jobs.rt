@@ -47,6 +47,8 @@ fn tell_verdict(words: Words<'_>, page: &mut Page) {
         "stays" => After::Stay,
         "reads" => After::WantsInput,
         "ends" => After::Done,
+        "hides" => After::Hide,
+        "shows" => After::Show,
         _ => After::Stop,
     };
     match judge(state, wrote == "writes", after, words.second == "tostop") {
@@ -80,10 +82,10 @@ const SCRIPTS: &[(&str, &str)] = &[
         "back-writes stays tostop; back-writes ends tostop; back stays tostop; back ends tostop; back reads; \
          back-writes reads; back-writes stays; back-writes stops; fore-writes reads tostop; \
          fore stays tostop; fore-writes stops; fore-writes ends tostop; ended-writes stays; \
-         stopped-writes ends",
+         stopped-writes ends; fore-writes hides tostop; fore shows; back-writes hides; back shows",
         "Stopped(Ttou); Stopped(Ttou); Background; Ended; Stopped(Ttin); Stopped(Ttin) written; \
          Background written; Stopped(Tstp) written; Foreground written; Foreground; Stopped(Tstp) written; \
-         Ended written; none; none",
+         Ended written; none; none; Foreground written; Foreground; Background written; Background",
     ),
 ];
 

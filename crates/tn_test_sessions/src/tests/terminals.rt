@@ -73,6 +73,47 @@ fn a_terminal_writes_a_line_back(rt: HostRuntime) -> Result<(), Fail> {
     writes_it_back(&rt, rt.alloc(), &mut term, job, &mut sent)
 }
 
+/// What is sent after the opening words: `a`, which is echoed, the prompt, and `c`, which is echoed again.
+const SHOWN: [u8; 4] = [97, 63, 32, 99];
+
+fn says(job: JobId, text: Text, after: After) -> Message {
+    Message::Said { job, text, after }
+}
+
+fn hides_and_shows(
+    rt: &impl Abort,
+    alloc: Global,
+    term: &mut Term,
+    job: JobId,
+) -> Result<(), Fail> {
+    let mut sent = Vec::new(alloc);
+    let client_agrees = Message::Piece(text(alloc, b"\xff\xfd\x01")?);
+    tell(alloc, term, client_agrees, &mut sent)?;
+    tell(alloc, term, Message::Piece(text(alloc, b"a")?), &mut sent)?;
+    tell(
+        alloc,
+        term,
+        says(job, text(alloc, b"? ")?, After::Hide),
+        &mut sent,
+    )?;
+    tell(alloc, term, Message::Piece(text(alloc, b"b")?), &mut sent)?;
+    tell(
+        alloc,
+        term,
+        says(job, text(alloc, b"")?, After::Show),
+        &mut sent,
+    )?;
+    tell(alloc, term, Message::Piece(text(alloc, b"c")?), &mut sent)?;
+    assert!(rt; sent.as_slice() == SHOWN.as_slice());
+    Ok(())
+}
+
+#[test]
+fn a_job_hides_what_is_typed(rt: HostRuntime) -> Result<(), Fail> {
+    let (mut term, job, _sent) = started(rt.alloc())?;
+    hides_and_shows(&rt, rt.alloc(), &mut term, job)
+}
+
 fn has_no_effect(rt: &impl Abort, alloc: Global, term: &mut Term) -> Result<(), Fail> {
     let mut sent = Vec::new(alloc);
     let piece = Message::Piece(text(alloc, b"a\r\0")?);

@@ -21,6 +21,3 @@ returns-in-Reader g c =
           (g.S.Write.contents c.args.screen.now) (g.S.Write.contents c.talk_by.new.screen) (put_bytes (view c.talk_by.new.outgoing.pass)) r.0 r.1))
           c.new-keys.ensures c.talk_by.ensures.ran));
     })
-
-pub returns-in-Input : goal.returns-in-Input
-returns-in-Input g c = rw c.in-Input.is (record { ran = c.talk_by-in-Input.ensures.ran })

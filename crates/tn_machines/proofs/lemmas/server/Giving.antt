@@ -11,9 +11,9 @@ use Rattle.tn_linemode.specs.Modes.{edits}
 use Rattle.tn_nvt.specs.declared.items.Item.{Item}
 use Rattle.tn_server.specs.{Events.{History, next, got, took, wrote, gets, limit}, Lines.{entries, taken_count, waiting, roles, role_at}, Course.in_parts}
 use Rattle.tn_server.specs.{Terms.{settings, mode}, declared.wishes.Editing.Editing}
-use Rattle.tn_machines.specs.server.{Giving.{entries_put, Gives, GivesPrefix}, Marks.{Turns, Runs, unput, put_or_not, run_after_opening}}
-use Rattle.tn_machines.specs.server.Run.{Run, flushed_history, flush, feed, ask, ask_if, answer, end_if, show, move, stop_job, end_job, in_foreground}
-use Rattle.tn_machines.specs.server.Run.{after_said, halt_if, is_end, hang_up, ends_by, Acts, ActsUnless, idle, idle_puts, fail, opening, start}
+use Rattle.tn_machines.specs.server.{Giving.{entries_put, Gives, GivesPrefix}, Marks.{Turns, Runs, unput, put_or_not, run_after_opening}, Run.start}
+use Rattle.tn_machines.specs.server.Run.{Run, flushed_history, flush, feed, ask, ask_if, answer, end_if, show, move, stop_job, end_job, in_foreground, echo_by}
+use Rattle.tn_machines.specs.server.Run.{echoed, turn_echo, after_said, halt_if, is_end, hang_up, ends_by, Acts, ActsUnless, idle, idle_puts, fail, opening}
 use Rattle.tn_machines.specs.declared.{server.messages.ServerMark.ServerMark, faults.{SessionFault.SessionFault, Ended.TheVariants.Fault}}
 use Rattle.tn_machines.specs.declared.messages.Message.{Message, TheVariants.{Piece, HangUp, ReadFailed, Take, Said, Refused}}
 use Rattle.tn_machines.specs.declared.server.messages.ServerMark.TheVariants as mark
@@ -109,6 +109,10 @@ gives_halt_if : (b : Bool) (c : Run) → Gives c.puts c.history → Gives (halt_
 gives_halt_if true c g = gives_end c.progress.asks c.puts c.history g
 gives_halt_if false c g = g
 
+gives_echoed : (echo : Option Bool) (c : Run) → Gives c.puts c.history → Gives c.puts (echoed echo c.history)
+gives_echoed None c g = g
+gives_echoed (Some on) c g = record { all = g.all; taken = g.taken }
+
 gives_said : (id : ℕ) (parts : List (List ℕ)) (v : Option Verdict) (c : Run) → Gives c.puts c.history
     → Gives (after_said id parts v c).puts (after_said id parts v c).history
 gives_said id parts None c g = gives_flush c g
@@ -144,7 +148,8 @@ gives_acts c new ReadFailed a g =
     let d = hang_up (ends_by (Fault fault.Read) c) in
     gives_as (flush d) new a (gives_flush d (gives_end c.progress.asks c.puts c.history g))
 gives_acts c new Take a g = gives_as (flush (ask c)) new a (gives_flush (ask c) (gives_ask_if true c g))
-gives_acts c new (Said id text after) a g = gives_as _ new a.2 (gives_said id.0 a.0 _ c g)
+gives_acts c new (Said id text after) a g =
+    let echo = echo_by (in_foreground c id.0) after in gives_as _ new a.2 (gives_said id.0 a.0 _ (turn_echo echo c) (gives_echoed echo c g))
 gives_acts c new Refused a g = gives_as _ new a (gives_end c.progress.asks c.puts (flushed_history c.history) (gives_flush c g))
 gives_acts c new _ a g = gives_as (flush c) new a (gives_flush c g)
 
@@ -221,7 +226,7 @@ more_acts c new (Piece piece) a =
 more_acts c new HangUp a = more_as c (flush (hang_up c)) new a (end_if c.progress.asks, refl)
 more_acts c new ReadFailed a = more_as c (flush (hang_up (ends_by (Fault fault.Read) c))) new a (end_if c.progress.asks, refl)
 more_acts c new Take a = more_as c (flush (ask c)) new a (more_ask c c refl)
-more_acts c new (Said id text after) a = more_as c _ new a.2 (more_said id.0 a.0 _ c)
+more_acts c new (Said id text after) a = more_as c _ new a.2 (more_said id.0 a.0 _ (turn_echo (echo_by (in_foreground c id.0) after) c))
 more_acts c new Refused a = more_as c _ new a (end_if c.progress.asks, refl)
 more_acts c new _ a = more_as c (flush c) new a (more_none c (flush c) refl)
 

@@ -1,8 +1,8 @@
 -- What was heard of the pieces, and the entries that it gives.
 use Rattle.std.proofs.Common.{◌≡◌, ℕ, Bool, true, false, ◌&&◌, Option, Some, None, List, [], ◌∷◌, ◌++◌, map, refl, sym, ap, ◌∙◌, subst, append-nil}
 use Rattle.std.proofs.Common.{append_assoc}
-use Rattle.tn_machines.proofs.{lemmas.{Folding.run_takes, server.Giving.acts_of}, of_terminal.Alike.items_parts}
-use Rattle.tn_machines.proofs.of_terminal.Alike.{OfItems, SameLines, lines_self, lines_took, lines_flushed, lines_parts, same_entries, of_items_gets}
+use Rattle.tn_machines.proofs.{lemmas.{Folding.run_takes, server.Giving.acts_of}, of_terminal.Alike.of_items_gets}
+use Rattle.tn_machines.proofs.of_terminal.Alike.{items_parts, OfItems, SameLines, lines_self, lines_took, lines_echo, lines_flushed, lines_parts, same_entries}
 use Rattle.tn_discipline.proofs.lemmas.Histories.{entries-all}
 use Rattle.tn_discipline.specs.{Canon.Canon, Entries.half_of, Keys.roles_from, Steps.gain_all, declared.reads.Entry.Entry}
 use Rattle.tn_jobs.specs.{Jobs.Jobs, declared.verdicts.{JobState.JobState, Verdict.Verdict}}
@@ -15,8 +15,8 @@ use Rattle.tn_server.specs.{Course.in_parts, Events.{History, next, got, took, i
 use Rattle.tn_server.specs.{Terms.{settings, mode}, declared.wishes.Editing.Editing}
 use Rattle.tn_machines.specs.{Pieces.bytes_in, server.{Hearing.{heard, Hears, entries_by}, Marks.{Turns, Runs, put_or_not, run_after_opening}}}
 use Rattle.tn_machines.specs.server.Run.{Run, Acts, ActsUnless, flushed_history, flush, feed, ask, ask_if, answer, hang_up, ends_by, move, stop_job, end_job}
-use Rattle.tn_machines.specs.{server.Run.{in_foreground, after_said, halt_if, is_end, show, fail, opening, start}, declared.faults.Ended.TheVariants.Fault}
-use Rattle.tn_machines.specs.declared.{server.messages.ServerMark.ServerMark, messages.Message.Message}
+use Rattle.tn_machines.specs.server.Run.{in_foreground, echo_by, echoed, turn_echo, after_said, halt_if, is_end, show, fail, opening, start}
+use Rattle.tn_machines.specs.declared.{faults.Ended.TheVariants.Fault, server.messages.ServerMark.ServerMark, messages.Message.Message}
 use Rattle.tn_machines.specs.declared.messages.Message.TheVariants.{Piece, HangUp, ReadFailed, Take, Said, Refused, Left, Resized, Asked}
 use Rattle.tn_machines.specs.declared.faults.SessionFault.TheVariants as fault
 use Rattle.tn_machines.specs.declared.server.messages.ServerMark.TheVariants as mark
@@ -39,6 +39,10 @@ took_if false h = h
 heard_took_if : (b : Bool) (first h : History) (s : List ℕ) → Heard first s h → Heard first s (took_if b h)
 heard_took_if true first h s a = record { read = a.read; lines = lines_took h (gets first (items h)) a.lines }
 heard_took_if false first h s a = a
+
+heard_echoed : (echo : Option Bool) (first h : History) (s : List ℕ) → Heard first s h → Heard first s (echoed echo h)
+heard_echoed None first h s a = a
+heard_echoed (Some on) first h s a = record { read = a.read; lines = lines_echo h (gets first (items h)) on a.lines }
 
 heard_gets : (first h : History) (s t : List ℕ) (xs : List Item) → IsRead t (items h ++ xs) → Heard first s h → Heard first t (gets h xs)
 heard_gets first h s t xs r a = record {
@@ -136,7 +140,8 @@ hearing_acts first Take c new a h =
     hearing_as first Take c (flush (ask c)) new a (hearing_none first Take c (flush (ask c)) refl asked.0
     (heard_flushed first (ask c).history c.stream asked.1))
 hearing_acts first (Said id text after) c new a h =
-    let said = hearing_said first c id.0 a.0 _ h in
+    let echo = echo_by (in_foreground c id.0) after in
+    let said = hearing_said first (turn_echo echo c) id.0 a.0 _ (heard_echoed echo first c.history c.stream h) in
     hearing_as first (Said id text after) c _ new a.2 (hearing_none first (Said id text after) c _ refl said.0 said.1)
 hearing_acts first Refused c new a h = hearing_as first Refused c _ new a (hearing_none first Refused c _ refl refl (heard_flushed first c.history c.stream h))
 hearing_acts first Left c new a h = hearing_as first Left c (flush c) new a

@@ -1,6 +1,8 @@
 use Rattle.std.proofs.Common.{inl, IfOk, List, ℕ, inr, refl, subst}
-use Rattle.tn_connect.specs.{Clients.ConnectsBy, Talks.{RunsTalk, talked_over}, declared.settings.Plain.Plain}
+use Rattle.tn_connect.specs.{Clients.ConnectsBy, Talks.{RunsTalk, talked_over}, declared.settings.KeySource.KeySource}
+use Rattle.tn_lines.specs.declared.line_ends.LineEnd.{LineEnd}
 use Rattle.tn_network.specs.{Asked.ReachesBy, Dialing.suits}
+use Rattle.tn_program.specs.Settings.{origin_as}
 use Rattle.tn_program.proofs.ServicePorts.{any_port}
 use Rattle.tn_program.proofs.program.run_plain.Goals as goal
 
@@ -34,14 +36,16 @@ returns-clause-comes g c = (
     port = c.in-Some.port;
     is_port = c.in-Some.ensures.port;
     ran =
-        subst (λ (p : Plain). IfOk c.connect_plain.result (RunsTalk p (g.R.Read.remaining c.args.streams.reader)
-        (g.W.Write.contents c.args.writer.now) (g.W.Write.contents c.connect_plain.new.screen))) c.plain_of-plain.ensures c.connect_plain.ensures.talked;
+        subst (λ (e : LineEnd). IfOk c.connect_plain.result (RunsTalk e (origin_as c.args.asked.now.characters c.args.streams.origin)
+        (g.R.Read.remaining c.args.streams.reader) (g.W.Write.contents c.args.writer.now) (g.W.Write.contents c.connect_plain.new.screen)))
+        c.plain_of-plain.ensures.line_end
+        (subst (λ (o : KeySource). IfOk c.connect_plain.result (RunsTalk c.plain_of-plain.result.line_end o
+        (g.R.Read.remaining c.args.streams.reader) (g.W.Write.contents c.args.writer.now) (g.W.Write.contents c.connect_plain.new.screen)))
+        c.plain_of-plain.ensures.origin c.connect_plain.ensures.talked);
     reached = inl
         (subst (λ (host : List ℕ). ConnectsBy talked_over
         (ReachesBy (suits c.args.asked.now.dialing) (g.H.Network.finds c.args.rt host c.in-Some.port) (g.H.Network.dials c.args.rt))
         c.connect_plain.result) c.as_str-host.ensures.value
-        (subst (λ (p : Plain). ConnectsBy talked_over
-        (ReachesBy (suits p.dialing) (g.H.Network.finds c.args.rt c.as_str-host.result.now p.port) (g.H.Network.dials c.args.rt))
-        c.connect_plain.result) c.plain_of-plain.ensures c.connect_plain.ensures.reached));
+        (rw (c.plain_of-plain.ensures.dialing, c.plain_of-plain.ensures.port) at c.connect_plain.ensures.reached));
   },
 )

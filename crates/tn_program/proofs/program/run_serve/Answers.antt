@@ -1,7 +1,7 @@
 use Rattle.std.proofs.Common.{◌≡◌, List, ℕ, refl, subst}
-use Rattle.std.specs.Prelude.{string_bytes}
+use Rattle.tn_network.specs.Asked.{at_place}
 use Rattle.tn_program.proofs.Causes.{uncaused}
-use Rattle.tn_program.specs.Told.{UnlessNetwork}
+use Rattle.tn_program.specs.{Settings.places_as, Told.UnlessNetwork}
 use Rattle.tn_program.proofs.program.run_serve.Goals as goal
 
 pub returns-in_default-clause-comes : goal.returns-in_default-clause-comes
@@ -23,5 +23,4 @@ returns-clause-comes g c origin bytes old = (
 pub returns-clause-uncaused : goal.returns-clause-uncaused
 returns-clause-uncaused g c =
     subst (λ (old : List ℕ). UnlessNetwork c.serve_asked-served.result (c.serve_asked-served.new.causes.items ≡ old)) c.in-Ok.ensures.uncaused
-    (uncaused (string_bytes c.args.asked.now.host) c.args.asked.now.socket.port c.args.asked.now.socket.handed (g.H.Network.listens c.args.rt) _ _ _
-    c.serve_asked-served.ensures.caused)
+    (uncaused (places_as c.args.asked.now) (at_place (g.H.Network.listens c.args.rt)) _ _ _ c.serve_asked-served.ensures.caused)

@@ -1,13 +1,13 @@
 use Rattle.std.proofs.{Common.{◌∙◌, sym, ap, Some, codes}, lemmas.Result.err_from_is_err_and}
 use Rattle.clap.specs.Words.{found_of, rows_of}
-use Rattle.tn_words.proofs.{Asking.{lacks_by, lacks_more}, Given.{given_none, given_some, has_none}}
+use Rattle.tn_words.proofs.{Asking.{lacks_by, lacks_more}, Given.{all_none, all_some, has_none}}
 use Rattle.tn_words.proofs.Parts.{choices_asked, choices_of, serve_numbers_asked, serve_numbers_of}
 use Rattle.tn_words.proofs.words.serving.Goals as goal
 
 pub returns-in_default-clause-lacks : goal.returns-in_default-clause-lacks
 returns-in_default-clause-lacks c =
-    let none = given_none (found_of c.args.words.now) (codes "host") c.get_str.result c.get_str.ensures c.in_default.is in
-    lacks_by c.no_value.result c.no_value.ensures (λ asked asks. has_none _ _ none asks.host)
+    let none = all_none (found_of c.args.words.now) (codes "host") c.get_strs.result c.get_strs.ensures c.in_default.is in
+    lacks_by c.no_value.result c.no_value.ensures (λ asked asks. has_none _ _ none asks.hosts)
 
 pub returns-in_default-serve_numbers-clause-lacks : goal.returns-in_default-serve_numbers-clause-lacks
 returns-in_default-serve_numbers-clause-lacks c =
@@ -46,8 +46,8 @@ returns-clause-asked c =
     let numbers = c.in-Some-serve_numbers.ensures.asked in
     let choices = c.in_ok-choices.ensures.asked in
     record {
-      host = given_some (found_of c.args.words.now) (codes "host") c.get_str.result c.get_str.ensures c.in-Some.host c.in-Some.is
-          ∙ ap Some (sym c.in_ok-host.ensures.ok);
+      hosts = all_some (found_of c.args.words.now) (codes "host") c.get_strs.result c.get_strs.ensures c.in-Some.hosts c.in-Some.is
+          ∙ ap Some (sym c.in_ok-hosts.ensures);
       socket = choices.socket;
       limit = numbers.limit;
       per_host = numbers.per_host;

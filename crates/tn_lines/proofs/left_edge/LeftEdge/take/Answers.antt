@@ -1,5 +1,5 @@
 use Rattle.std.proofs.{Common.{ℕ, Bool, List, ◌++◌, take, get_or, sym, ap, ◌∙◌}, lemmas.List.take_all}
-use Rattle.tn_lines.specs.{Edges.{byte_shown, shown_behind}, Files.ends_in_return}
+use Rattle.tn_lines.specs.{Edges.{byte_shown, shown_from}, Said.ends_in_return}
 use Rattle.tn_lines.proofs.{Reading.ends_more, Showing.{shown_more, shows_all}}
 use Rattle.tn_lines.proofs.left_edge.LeftEdge.take.Goals as goal
 
@@ -10,7 +10,7 @@ loop-byte-preserved c =
     let i = c.loop-byte.byte-index in
     let before = c.loop-byte.invariant in
     let got = c.in_ok-byte.ensures in
-    let front = shown_behind old.at_terminal old.after_return (take i bytes) in
+    let front = shown_from old.at_terminal old.after_return (take i bytes) in
     let byte = get_or bytes i 0 in
     record {
       at_terminal = got.at_terminal ∙ before.at_terminal;
@@ -30,4 +30,4 @@ returns c =
     let whole = take_all c.loop-byte.byte-index bytes c.loop-byte-test.false in
     let end = c.loop-byte.invariant in
     shows_all old c.loop-byte.self bytes c.loop-byte.shown.items end.at_terminal
-    (end.after ∙ ap (ends_in_return old.after_return) whole) (end.shows ∙ ap (shown_behind old.at_terminal old.after_return) whole)
+    (end.after ∙ ap (ends_in_return old.after_return) whole) (end.shows ∙ ap (shown_from old.at_terminal old.after_return) whole)

@@ -1,5 +1,5 @@
 use Rattle.std.proofs.Common.{◌≡◌, take}
-use Rattle.tn_lines.specs.{Edges.shown_behind, Files.ends_in_return}
+use Rattle.tn_lines.specs.{Edges.shown_from, Said.ends_in_return}
 use Rattle.tn_lines.proofs.left_edge.LeftEdge.take.Given as goal
 
 -- what is shown of the bytes so far
@@ -8,5 +8,5 @@ invariant-loop-byte l =
     record {
       at_terminal : l.self.at_terminal ≡ l.initial.self.at_terminal;
       after : l.self.after_return ≡ ends_in_return l.initial.self.after_return (take l.byte-index l.bytes);
-      shows : l.shown.items ≡ shown_behind l.initial.self.at_terminal l.initial.self.after_return (take l.byte-index l.bytes);
+      shows : l.shown.items ≡ shown_from l.initial.self.at_terminal l.initial.self.after_return (take l.byte-index l.bytes);
     }

@@ -2,7 +2,7 @@ use Rattle.std.proofs.Common.{ℕ, List, [], IfErr, refl, subst}
 use Rattle.tn_machines.specs.declared.{messages.Message.TheVariants.{HangUp, ReadFailed, Left, Resized, Asked, Said, Refused}, faults.Ended.TheVariants.Fault}
 use Rattle.tn_machines.specs.{server.{Reaching.RefusesFor, Run.{hang_up, ends_by}}, declared.server.messages.Put.TheVariants.Nothing}
 use Rattle.tn_machines.specs.declared.faults.SessionFault.TheVariants as fault
-use Rattle.tn_machines.proofs.of_terminal.{Doing.{does_nothing, does_then}, Refusing.{take_cause, said_cause, quiet_cause}}
+use Rattle.tn_machines.proofs.of_terminal.{Doing.{does_nothing, does_then}, Refusing.{take_cause, quiet_cause}}
 use Rattle.tn_machines.proofs.of_terminal.Handling.{with_ok, with_stuck, handled_hang_up, handled_fault, handled_left, handled_resized, handled_asked}
 use Rattle.tn_machines.proofs.of_terminal.Handling.{stops_hang_up, stops_fault, stops_left, stops_resized, stops_asked}
 use Rattle.tn_machines.proofs.server.terminal.Term.act.Goals as goal
@@ -86,8 +86,8 @@ pub returns-in-Said-clause-cause : goal.returns-in-Said-clause-cause
 returns-in-Said-clause-cause c =
     let s = c.in-Said in
     let text = c.as_slice-in-Said in
-    let P : List ℕ → Type 0 = λ t. IfErr c.said.result (λ r. RefusesFor c.args.self.now (Said s.job t s.after) r.fault) in
-    rw s.is (subst P text.ensures (said_cause c.args.self.now s.job text.result.now s.after c.said.result c.requires c.said.ensures.fault c.said.ensures.grows))
+    let P : List ℕ → Type 0 = λ t. IfErr c.react.result (λ r. RefusesFor c.args.self.now (Said s.job t s.after) r.fault) in
+    rw s.is (subst P text.ensures c.react.ensures.cause)
 
 pub returns-in-Refused-clause-cause : goal.returns-in-Refused-clause-cause
 returns-in-Refused-clause-cause c =

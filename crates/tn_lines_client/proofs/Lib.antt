@@ -1,4 +1,0 @@
-pub mod Writing
-pub mod Going
-pub mod FirstBytes
-pub mod Ending

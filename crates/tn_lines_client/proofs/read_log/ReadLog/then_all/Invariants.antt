@@ -1,6 +1,0 @@
-use Rattle.std.proofs.Common.{◌≡◌, ◌++◌, take}
-use Rattle.tn_lines_client.specs.Logs.{bytes_in}
-use Rattle.tn_lines_client.proofs.read_log.ReadLog.then_all.Given as goal
-
-abbrev pub invariant-loop-byte : goal.invariant-loop-byte
-invariant-loop-byte l = bytes_in l.log ≡ bytes_in l.fn.self ++ take l.byte-index l.bytes

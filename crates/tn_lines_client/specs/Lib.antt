@@ -1,4 +1,0 @@
-pub mod Ending
-pub mod Logs
-pub mod Openings
-pub mod Talking
