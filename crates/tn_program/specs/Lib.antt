@@ -3,7 +3,5 @@ pub mod Own
 pub mod Outcomes
 pub mod Outlets
 pub mod Ports
-pub mod Runs
 pub mod Settings
 pub mod Statuses
-pub mod Told

@@ -1,6 +1,6 @@
 -- What comes of the words of a command line.
 use Rattle.std.specs.Prelude.{◌≡◌, ◌≢◌, ◌⊎◌, ⊤, ℕ, Option, Some, None, Result, Err, OnOk, OnErr, IfOk, IfErr}
-use Rattle.std.specs.{Prelude.{IsErrOf, List, option_map, string_bytes}, Io.KnownBytes.Appends}
+use Rattle.std.specs.{Prelude.{IsErrOf, List, codes, option_map, string_bytes}, Io.KnownBytes.Appends}
 use Rattle.tn_cli.specs.Ends.{EndsDecode, EndsLocal, EndsReplay, EndsWorld}
 use Rattle.tn_cli.specs.declared.fault.CliFault.{CliFault}
 use Rattle.tn_cli.specs.declared.fault.CliFault.TheVariants as fault
@@ -20,11 +20,10 @@ use Rattle.tn_program.specs.{Statuses.status_of, Settings.{UnlessMemory, count_a
 use Rattle.tn_program.specs.declared.outcome.Outcome.TheVariants as outcome
 use Rattle.tn_roster.specs.Held.{IsLimit}
 use Rattle.tn_streams.specs.Known.{KnownTyping}
-use Rattle.tn_words.specs.Words.{AskFor, AsksForHelp, AsksForVersion, Refuses, version_line}
+use Rattle.tn_words.specs.Ranges.{IsWithinRanges}
 use Rattle.tn_words.specs.declared.settings.{ConnectWords.ConnectWords, ServeWords.ServeWords}
 use Rattle.tn_words.specs.declared.words.Asked.{Asked}
 use Rattle.tn_words.specs.declared.words.Asked.TheVariants as asked
-use Rattle.tn_words.specs.declared.words.WordsFault.TheVariants as words_fault
 
 -- What came of serving.
 pub record EndsServing (machine : Machine) (serving : ServeWords) (ended : Result Served ServeFault)
@@ -71,6 +70,10 @@ pub record EndsHelp (ended : Result ⊤ CliFault) (old new : Option (List ℕ)) 
   pub ok : OnOk ended ((help : List ℕ) × Appends old new help)
   pub fault : IfErr ended (λ f. f ≡ fault.Write)
 
+-- what is printed for the version
+abbrev pub version_line : List ℕ
+version_line = codes "tn 1.2.0\n"
+
 -- What came of writing the version.
 pub record EndsVersion (ended : Result ⊤ CliFault) (old new : Option (List ℕ)) : Type 0 where
   pub ok : OnOk ended (Appends old new version_line)
@@ -108,38 +111,30 @@ ComesOfRun machine a origin bytes old new (outcome.Version ended) = ⊥
 ComesOfRun machine a origin bytes old new (outcome.Usage detail) = ⊥
 ComesOfRun machine a origin bytes old new outcome.Memory = ⊥
 
--- nothing was run: the words ask for help or for the version, or are not accepted, or memory ran out
-abbrev pub ComesOfNoRun : List (List ℕ) → Option (List ℕ) → Option (List ℕ) → Outcome → Type 0
-ComesOfNoRun words old new (outcome.Help ended) = AsksForHelp words × EndsHelp ended old new
-ComesOfNoRun words old new (outcome.Version ended) = AsksForVersion words × EndsVersion ended old new
-ComesOfNoRun words old new (outcome.Usage (Some detail)) =
-    Refuses words (words_fault.Usage detail) × (new ≡ old)
-ComesOfNoRun words old new (outcome.Usage None) = ⊥
-ComesOfNoRun words old new outcome.Memory = new ≡ old
-ComesOfNoRun words old new (outcome.Local ended) = ⊥
-ComesOfNoRun words old new (outcome.Replay ended) = ⊥
-ComesOfNoRun words old new (outcome.Decode ended) = ⊥
-ComesOfNoRun words old new (outcome.World ended) = ⊥
-ComesOfNoRun words old new (outcome.Served ended) = ⊥
-ComesOfNoRun words old new (outcome.Connected ended) = ⊥
-ComesOfNoRun words old new (outcome.Talked ended) = ⊥
-ComesOfNoRun words old new outcome.Untraced = ⊥
-ComesOfNoRun words old new outcome.Unread = ⊥
+-- nothing was run: help or the version was written, or the words are not accepted, or memory ran out
+abbrev pub ComesOfNoRun : Option (List ℕ) → Option (List ℕ) → Outcome → Type 0
+ComesOfNoRun old new (outcome.Help ended) = EndsHelp ended old new
+ComesOfNoRun old new (outcome.Version ended) = EndsVersion ended old new
+ComesOfNoRun old new (outcome.Usage (Some detail)) = new ≡ old
+ComesOfNoRun old new (outcome.Usage None) = ⊥
+ComesOfNoRun old new outcome.Memory = new ≡ old
+ComesOfNoRun old new (outcome.Local ended) = ⊥
+ComesOfNoRun old new (outcome.Replay ended) = ⊥
+ComesOfNoRun old new (outcome.Decode ended) = ⊥
+ComesOfNoRun old new (outcome.World ended) = ⊥
+ComesOfNoRun old new (outcome.Served ended) = ⊥
+ComesOfNoRun old new (outcome.Connected ended) = ⊥
+ComesOfNoRun old new (outcome.Talked ended) = ⊥
+ComesOfNoRun old new outcome.Untraced = ⊥
+ComesOfNoRun old new outcome.Unread = ⊥
 
--- this came of the words: the run that they ask for, or none
-abbrev pub ComesOf : Machine → List (List ℕ) → KeySource → Option (List ℕ) → Option (List ℕ) → Option (List ℕ)
-    → Outcome → Type 0
-ComesOf machine words origin bytes old new came =
-    ((a : Asked) × AskFor words a × ComesOfRun machine a origin bytes old new came)
-    ⊎ ComesOfNoRun words old new came
+-- a run that was asked for within its ranges, or none
+abbrev pub ComesOf : Machine → KeySource → Option (List ℕ) → Option (List ℕ) → Option (List ℕ) → Outcome → Type 0
+ComesOf machine origin bytes old new came =
+    ((a : Asked) × IsWithinRanges a × ComesOfRun machine a origin bytes old new came)
+    ⊎ ComesOfNoRun old new came
 
--- the status of what came of the words, of which this was told
-abbrev pub EndsWith : Machine → List (List ℕ) → KeySource → Option (List ℕ) → Option (List ℕ) →
-    Option (List ℕ)
-    → (Outcome → Type 0) → ℕ → Type 0
-EndsWith machine words origin bytes old new told status =
-    (came : Outcome) × ComesOf machine words origin bytes old new came × told came × (status ≡ status_of came)
-
--- they ask for no run, for no help and not for the version
-abbrev pub AskForNothing : List (List ℕ) → Type 0
-AskForNothing words = ((a : Asked) → ¬ AskFor words a) × (¬ AsksForHelp words) × (¬ AsksForVersion words)
+-- the status of what came of a command line
+abbrev pub EndsWith : Machine → KeySource → Option (List ℕ) → Option (List ℕ) → Option (List ℕ) → ℕ → Type 0
+EndsWith machine origin bytes old new status =
+    (came : Outcome) × ComesOf machine origin bytes old new came × (status ≡ status_of came)

@@ -1,15 +1,12 @@
 //! What comes of the words of a command line, and its status.
 
-ghost use Rattle.std.specs.Prelude.{◌≡◌, ◌++◌, IfOk, codes, decimal};
+ghost use Rattle.std.specs.Prelude.{◌≡◌};
 ghost use Rattle.tn_cli.specs.Faults.{status_after};
 ghost use Rattle.tn_program.specs.Statuses.{status_after_connecting, status_after_serving, status_of_over};
 ghost use Rattle.tn_program.specs.Statuses.{status_after_talking, status_of, status_of_connecting};
-ghost use Rattle.tn_program.specs.Told.{TellsAll, TellsSome, has_unprinted, is_some_left, line, text_of};
-ghost use Rattle.tn_program.specs.Told.{text_of_connecting, text_of_count, text_of_decoding, text_of_left};
-ghost use Rattle.tn_program.specs.Told.{text_of_run, text_of_serving, text_of_unprinted};
-ghost use Rattle.tn_streams.specs.Known.{known_writing};
 
 use std::alloc::{AllocError, Global};
+use std::fmt::Display;
 use tn_cli::{CliFault, Dropped, Left, Unprinted};
 use tn_connect::{ConnectFault, Connected, Over, TalkReport};
 use tn_serve::{ServeFault, Served};
@@ -72,9 +69,7 @@ impl Outcome {
     /// Tells a fault in one line on `errors`, behind it what is wrong with words, and then the causes; or
     /// what of a decoded stream is not printed. Out of memory for that, this is told. What cannot be written
     /// is dropped.
-    pub(crate) fn tell<E: Drain>(&self, alloc: Global, causes: &[u8], errors: &mut E)
-        ensures { TellsAll self.now causes.now (known_writing E.contents E.told errors.old errors.new) }
-    {
+    pub(crate) fn tell<E: Drain>(&self, alloc: Global, causes: &[u8], errors: &mut E) {
         if self.status() != 0 {
             return self.tell_some(alloc, causes, errors);
         }
@@ -87,18 +82,14 @@ impl Outcome {
     }
 
     // Whether a stream was decoded, and had something that is no item.
-    fn has_unprinted(&self) -> bool
-        ensures { result ≡ has_unprinted self.now }
-    {
+    fn has_unprinted(&self) -> bool {
         match self {
             Outcome::Decode(ended) => has_some(ended),
             _ => false,
         }
     }
 
-    fn tell_some<E: Drain>(&self, alloc: Global, causes: &[u8], errors: &mut E)
-        ensures { TellsSome self.now causes.now (known_writing E.contents E.told errors.old errors.new) }
-    {
+    fn tell_some<E: Drain>(&self, alloc: Global, causes: &[u8], errors: &mut E) {
         match self.said(alloc, causes) {
             Ok(said) => {
                 write_all(errors, &said);
@@ -109,29 +100,25 @@ impl Outcome {
         }
     }
 
-    fn said(&self, alloc: Global, causes: &[u8]) -> Result<Vec<u8>, AllocError>
-        ensures { IfOk result (λ said. said.items ≡ text_of self.now ++ causes.now) }
-    {
+    fn said(&self, alloc: Global, causes: &[u8]) -> Result<Vec<u8>, AllocError> {
         let mut said = self.text(alloc)?;
         said.extend_from_slice(causes)?;
         Ok(said)
     }
 
-    fn text(&self, alloc: Global) -> Result<Vec<u8>, AllocError>
-        ensures { IfOk result (λ text. text.items ≡ text_of self.now) }
-    {
+    fn text(&self, alloc: Global) -> Result<Vec<u8>, AllocError> {
         match self {
-            Outcome::Local(ended) => text_of_run(alloc, ended),
-            Outcome::Replay(ended) => text_of_run(alloc, ended),
+            Outcome::Local(ended) => text_of_end(alloc, ended),
+            Outcome::Replay(ended) => text_of_end(alloc, ended),
             Outcome::Decode(ended) => text_of_decoding(alloc, ended),
-            Outcome::World(ended) => text_of_run(alloc, ended),
-            Outcome::Served(ended) => text_of_serving(alloc, ended),
-            Outcome::Connected(ended) => text_of_connecting(alloc, ended),
-            Outcome::Talked(ended) => text_of_connecting(alloc, ended),
+            Outcome::World(ended) => text_of_end(alloc, ended),
+            Outcome::Served(ended) => text_of_end(alloc, ended),
+            Outcome::Connected(ended) => text_of_end(alloc, ended),
+            Outcome::Talked(ended) => text_of_end(alloc, ended),
             Outcome::Untraced => line(alloc, b"write"),
             Outcome::Unread => line(alloc, b"read"),
-            Outcome::Help(ended) => text_of_run(alloc, ended),
-            Outcome::Version(ended) => text_of_run(alloc, ended),
+            Outcome::Help(ended) => text_of_end(alloc, ended),
+            Outcome::Version(ended) => text_of_end(alloc, ended),
             Outcome::Usage(Some(detail)) => usage(alloc, detail.as_str()),
             Outcome::Usage(None) => usage(
                 alloc,
@@ -199,31 +186,17 @@ fn after_over(over: Over) -> u8
 }
 
 // One line, which tells this.
-fn line(alloc: Global, word: &[u8]) -> Result<Vec<u8>, AllocError>
-    ensures { IfOk result (λ text. text.items ≡ line word.now) }
-{
+fn line(alloc: Global, word: &[u8]) -> Result<Vec<u8>, AllocError> {
     joined(alloc, b"tn: ", word, b"\n")
 }
 
-fn usage(alloc: Global, detail: &str) -> Result<Vec<u8>, AllocError>
-    ensures { IfOk result (λ text. text.items ≡ line (codes "usage") ++ detail.now) }
-{
+fn usage(alloc: Global, detail: &str) -> Result<Vec<u8>, AllocError> {
     let mut text = line(alloc, b"usage")?;
     text.extend_from_slice(detail.as_bytes())?;
     Ok(text)
 }
 
-fn numbered(alloc: Global, number: usize, words: &[u8]) -> Result<Vec<u8>, AllocError>
-    ensures { IfOk result (λ text. text.items ≡ line (codes "line " ++ decimal number ++ words.now)) }
-{
-    let number = number.to_string(alloc)?;
-    let word = joined(alloc, b"line ", number.as_bytes(), words)?;
-    line(alloc, &word)
-}
-
-fn joined(alloc: Global, first: &[u8], second: &[u8], third: &[u8]) -> Result<Vec<u8>, AllocError>
-    ensures { IfOk result (λ all. all.items ≡ first.now ++ second.now ++ third.now) }
-{
+fn joined(alloc: Global, first: &[u8], second: &[u8], third: &[u8]) -> Result<Vec<u8>, AllocError> {
     let mut all = Vec::new(alloc);
     all.extend_from_slice(first)?;
     all.extend_from_slice(second)?;
@@ -231,32 +204,22 @@ fn joined(alloc: Global, first: &[u8], second: &[u8], third: &[u8]) -> Result<Ve
     Ok(all)
 }
 
-fn text_of_run<T>(alloc: Global, ended: &Result<T, CliFault>) -> Result<Vec<u8>, AllocError>
-    ensures { IfOk result (λ text. text.items ≡ text_of_run ended.now) }
-{
+// One line for a fault, and nothing if there is none.
+fn text_of_end<T, F: Display>(alloc: Global, ended: &Result<T, F>) -> Result<Vec<u8>, AllocError> {
     match ended {
         Ok(_) => Ok(Vec::new(alloc)),
-        Err(CliFault::Read) => line(alloc, b"read"),
-        Err(CliFault::TooLong) => line(alloc, b"input too long"),
-        Err(CliFault::Script(number)) => numbered(alloc, *number, b": bad command"),
-        Err(CliFault::World(number)) => numbered(alloc, *number, b": refused"),
-        Err(CliFault::Write) => line(alloc, b"write"),
-        Err(CliFault::Memory) => line(alloc, b"memory"),
+        Err(fault) => line(alloc, fault.to_string(alloc)?.as_bytes()),
     }
 }
 
-fn has_some(ended: &Result<Unprinted, CliFault>) -> bool
-    ensures { result ≡ has_unprinted (Outcome.Decode ended.now) }
-{
+fn has_some(ended: &Result<Unprinted, CliFault>) -> bool {
     match ended {
         Ok(unprinted) => is_some_left(unprinted.left, unprinted.dropped),
         Err(_) => false,
     }
 }
 
-fn is_some_left(left: Left, dropped: Dropped) -> bool
-    ensures { result ≡ is_some_left left dropped }
-{
+fn is_some_left(left: Left, dropped: Dropped) -> bool {
     match left {
         Left::Nothing => dropped.escapes != 0 || dropped.subnegotiations != 0,
         _ => true,
@@ -266,18 +229,14 @@ fn is_some_left(left: Left, dropped: Dropped) -> bool
 fn text_of_decoding(
     alloc: Global,
     ended: &Result<Unprinted, CliFault>,
-) -> Result<Vec<u8>, AllocError>
-    ensures { IfOk result (λ text. text.items ≡ text_of_decoding ended.now) }
-{
+) -> Result<Vec<u8>, AllocError> {
     match ended {
         Ok(unprinted) => text_of_unprinted(alloc, *unprinted),
-        Err(_) => text_of_run(alloc, ended),
+        Err(_) => text_of_end(alloc, ended),
     }
 }
 
-fn text_of_unprinted(alloc: Global, unprinted: Unprinted) -> Result<Vec<u8>, AllocError>
-    ensures { IfOk result (λ text. text.items ≡ text_of_unprinted unprinted) }
-{
+fn text_of_unprinted(alloc: Global, unprinted: Unprinted) -> Result<Vec<u8>, AllocError> {
     let dropped = unprinted.dropped;
     let escapes = text_of_count(alloc, b"dropped escapes: ", dropped.escapes)?;
     let subnegotiations = text_of_count(
@@ -290,9 +249,7 @@ fn text_of_unprinted(alloc: Global, unprinted: Unprinted) -> Result<Vec<u8>, All
 }
 
 // A line with a count, if it is not 0.
-fn text_of_count(alloc: Global, what: &[u8], count: u64) -> Result<Vec<u8>, AllocError>
-    ensures { IfOk result (λ text. text.items ≡ text_of_count what.now count) }
-{
+fn text_of_count(alloc: Global, what: &[u8], count: u64) -> Result<Vec<u8>, AllocError> {
     if count == 0 {
         return Ok(Vec::new(alloc));
     }
@@ -301,39 +258,12 @@ fn text_of_count(alloc: Global, what: &[u8], count: u64) -> Result<Vec<u8>, Allo
     line(alloc, &word)
 }
 
-fn text_of_left(alloc: Global, left: Left) -> Result<Vec<u8>, AllocError>
-    ensures { IfOk result (λ text. text.items ≡ text_of_left left) }
-{
+fn text_of_left(alloc: Global, left: Left) -> Result<Vec<u8>, AllocError> {
     match left {
         Left::Nothing => Ok(Vec::new(alloc)),
         Left::Cr => line(alloc, b"left unread: a CR"),
         Left::Iac => line(alloc, b"left unread: an IAC"),
         Left::OptionWord => line(alloc, b"left unread: an option word"),
         Left::Subnegotiation => line(alloc, b"left unread: a subnegotiation"),
-    }
-}
-
-fn text_of_serving(alloc: Global, ended: &Result<Served, ServeFault>) -> Result<Vec<u8>, AllocError>
-    ensures { IfOk result (λ text. text.items ≡ text_of_serving ended.now) }
-{
-    match ended {
-        Ok(_) => Ok(Vec::new(alloc)),
-        Err(ServeFault::Network) => line(alloc, b"network"),
-        Err(ServeFault::Limit) => line(alloc, b"bad limit"),
-        Err(ServeFault::Memory) => line(alloc, b"memory"),
-    }
-}
-
-fn text_of_connecting<T>(
-    alloc: Global,
-    ended: &Result<T, ConnectFault>,
-) -> Result<Vec<u8>, AllocError>
-    ensures { IfOk result (λ text. text.items ≡ text_of_connecting ended.now) }
-{
-    match ended {
-        Ok(_) => Ok(Vec::new(alloc)),
-        Err(ConnectFault::Network) => line(alloc, b"network"),
-        Err(ConnectFault::Session) => line(alloc, b"session"),
-        Err(ConnectFault::Memory) => line(alloc, b"memory"),
     }
 }

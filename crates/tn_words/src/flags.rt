@@ -1,6 +1,6 @@
 //! Which options take no value.
 
-use crate::commands::{CONNECT_CHOICES, Choice};
+use crate::choices::{CONNECT_CHOICES, Choice};
 
 /// Whether an option of `tn connect` that has this name takes no value.
 pub fn is_connect_flag(name: &str) -> bool {

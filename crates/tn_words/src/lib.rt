@@ -17,11 +17,16 @@ pub use tn_lines::LineEnd;
 pub use tn_network::{Dialing, Family};
 pub use words::{Asked, WordsFault, read_words};
 
+mod choices;
 mod commands;
+mod connecting;
 mod dialing;
 mod flags;
-pub mod laws;
+mod lacks;
+mod options;
 mod places;
+mod serving;
 mod settings;
 mod sockets;
+mod values;
 mod words;

@@ -1,15 +1,13 @@
-//! The host and the port of a connection, as the words name them.
+//! The host and the port of a connection, as a command line names them.
 
-ghost use Rattle.std.specs.Prelude.{◌≡◌, ℕ, List, None, Option, IfOk, IfErr, IfSome, codes, option_map};
-ghost use Rattle.std.specs.Prelude.{string_bytes};
-ghost use Rattle.clap.specs.Words.{rows_of, found_of};
-ghost use Rattle.tn_words.specs.{Services.{begins_with_letter, service_in, service_named}, Words.one_port};
-ghost use Rattle.tn_words.specs.Words.{AsksPlace, AsksPort, AsksPortOrService, AsksService, HasPlace, Lacks};
-ghost use Rattle.tn_words.specs.declared.settings.Port.{Port};
+ghost use Rattle.std.specs.Prelude.{IfOk, IfSome};
+ghost use Rattle.tn_words.specs.Ranges.{IsWithin, PortWithin};
 
-use crate::commands::{AT, AT_PLACE, HOST, PORT};
+use crate::lacks::{Lack, lacking};
+use crate::options::{AT, AT_PLACE, HOST, PORT};
 use crate::settings::{Port, place_in};
-use crate::words::{Lack, WordsFault, is_given, lacking, size};
+use crate::values::{given_short, is_given};
+use crate::words::WordsFault;
 use clap::ArgMatches;
 use std::alloc::Global;
 
@@ -38,10 +36,7 @@ pub(crate) struct Place {
 
 // The host and the port that the words ask for.
 pub(crate) fn place_of(alloc: Global, words: &ArgMatches<'_>) -> Result<Place, WordsFault>
-    ensures asked { IfOk result (λ place.
-        AsksPlace (rows_of (found_of words.now)) (string_bytes place.host) place.port) }
-    ensures lacks { IfErr result (Lacks
-        ((host : List ℕ) (port : Port) → ¬ AsksPlace (rows_of (found_of words.now)) host port)) }
+    ensures { IfOk result (λ place. PortWithin place.port) }
 {
     let Some((host, within)) = named_place(words) else {
         let text = words.get_str(HOST).unwrap_or(THIS_MACHINE);
@@ -54,9 +49,7 @@ pub(crate) fn place_of(alloc: Global, words: &ArgMatches<'_>) -> Result<Place, W
 
 // The host that is named and the port within it, or this machine.
 fn named_place<'a>(words: &ArgMatches<'a>) -> Option<(&'a str, Option<u16>)>
-    ensures some { IfSome result (λ place. HasPlace (rows_of (found_of words.now)) place.0.now place.1) }
-    ensures none { result ≡ None → (host : List ℕ) (within : Option ℕ) →
-        ¬ HasPlace (rows_of (found_of words.now)) host within }
+    ensures { IfSome result (λ place. IfSome place.1 (IsWithin 1 65535)) }
 {
     match words.get_str(HOST) {
         Some(text) => place_in(text),
@@ -70,39 +63,19 @@ fn port_asked(
     words: &ArgMatches<'_>,
     within: Option<u16>,
 ) -> Result<Port, WordsFault>
-    ensures asked { IfOk result (AsksPortOrService (rows_of (found_of words.now)) within) }
-    ensures lacks { IfErr result (Lacks
-        ((port : Port) → ¬ AsksPortOrService (rows_of (found_of words.now)) within port)) }
+    requires { IfSome within (IsWithin 1 65535) }
+    ensures { IfOk result PortWithin }
 {
-    if let Some(name) = service_in(words) {
-        return service_of(alloc, words, within, name);
-    }
-    match port_of(words, within) {
-        Some(port) => Ok(Port::Number(port)),
-        None => Err(lacking(alloc, &port_lack(words))),
-    }
-}
-
-// The name of a service that stands in the place of the port.
-fn service_in<'a>(words: &ArgMatches<'a>) -> Option<&'a str>
-    ensures { option_map (λ name. name.now) result ≡ service_in (rows_of (found_of words.now)) }
-{
-    service_named(words.get_str(AT_PLACE))
-}
-
-fn service_named<'a>(given: Option<&'a str>) -> Option<&'a str>
-    ensures { option_map (λ name. name.now) result
-        ≡ service_named (option_map (λ text. text.now) given.entry) }
-{
-    match given {
-        Some(text) if begins_with_letter(text) => Some(text),
-        _ => None,
+    match words.get_str(AT_PLACE) {
+        Some(name) if begins_with_letter(name) => service_of(alloc, words, within, name),
+        _ => match port_of(words, within) {
+            Some(port) => Ok(Port::Number(port)),
+            None => Err(lacking(alloc, &port_lack(words))),
+        },
     }
 }
 
-fn begins_with_letter(text: &str) -> bool
-    ensures { result ≡ begins_with_letter text.now }
-{
+fn begins_with_letter(text: &str) -> bool {
     match text.as_bytes() {
         [first, ..] => first.is_ascii_alphabetic(),
         [] => false,
@@ -116,15 +89,9 @@ fn service_of(
     within: Option<u16>,
     name: &str,
 ) -> Result<Port, WordsFault>
-    requires { service_in (rows_of (found_of words.now)) ≡ Some name.now }
-    ensures asked { IfOk result (AsksPortOrService (rows_of (found_of words.now)) within) }
-    ensures lacks { IfErr result (Lacks
-        ((port : Port) → ¬ AsksPortOrService (rows_of (found_of words.now)) within port)) }
+    ensures { IfOk result PortWithin }
 {
-    if is_given(words, PORT.name) {
-        return Err(lacking(alloc, &Lack::Words(MORE_PORTS)));
-    }
-    if within.is_some() {
+    if is_given(words, PORT.name) || within.is_some() {
         return Err(lacking(alloc, &Lack::Words(MORE_PORTS)));
     }
     Ok(Port::Service(String::from_str(alloc, name)?))
@@ -132,11 +99,11 @@ fn service_of(
 
 // The one number that is given, where no service is named.
 fn port_of(words: &ArgMatches<'_>, within: Option<u16>) -> Option<u16>
-    ensures some { IfSome result (AsksPort (rows_of (found_of words.now)) within) }
-    ensures none { result ≡ None → (port : ℕ) → ¬ AsksPort (rows_of (found_of words.now)) within port }
+    requires { IfSome within (IsWithin 1 65535) }
+    ensures { IfSome result (IsWithin 1 65535) }
 {
-    let option = size(words, PORT)?;
-    let place = size(words, AT)?;
+    let option = given_short(words, PORT)?;
+    let place = given_short(words, AT)?;
     one_port(option, place, within, is_given(words, HOST))
 }
 
@@ -147,7 +114,10 @@ fn one_port(
     within: Option<u16>,
     named: bool,
 ) -> Option<u16>
-    ensures { result ≡ one_port option place within named }
+    requires option { IfSome option (IsWithin 1 65535) }
+    requires place { IfSome place (IsWithin 1 65535) }
+    requires within { IfSome within (IsWithin 1 65535) }
+    ensures { IfSome result (IsWithin 1 65535) }
 {
     match (option, place, within) {
         (Some(port), None, None) => Some(port),
@@ -161,7 +131,7 @@ fn one_port(
 // Why the words give no port.
 fn port_lack<'a>(words: &ArgMatches<'a>) -> Lack<'a> {
     if let Some(text) = words.get_str(AT_PLACE) {
-        if size(words, AT).is_none() {
+        if given_short(words, AT).is_none() {
             return Lack::Value(text, BAD_PORT);
         }
     }

@@ -1,9 +1,7 @@
 //! How to serve and how to connect.
 
-ghost use Rattle.std.specs.Prelude.{◌≡◌, ℕ, Bool, List, Option, Ok, None, IfOk, IfSome, string_bytes};
-ghost use Rattle.tn_words.specs.Addresses.{WritesAddress, WritesHost, WritesName, WritesPlace, WritesService};
-ghost use Rattle.tn_words.specs.{Addresses.{has_colon, has_one_colon, has_port}, Escapes.{IsControlOf, WritesEscape}};
-ghost use Rattle.tn_words.specs.Words.{named_characters, named_mode, named_return};
+ghost use Rattle.std.specs.Prelude.{IfSome};
+ghost use Rattle.tn_words.specs.Ranges.{IsWithin};
 
 use std::alloc::{AllocError, Global};
 use tn_discipline::Limit;
@@ -27,12 +25,7 @@ pub struct Address {
 impl Address {
     // The address that a text writes: `unix:` and a path; or what stands before its last colon writes the
     // host.
-    pub(crate) fn from_text(alloc: Global, text: &str) -> Result<Option<Address>, AllocError>
-        ensures some { IfOk result (λ read. IfSome read (λ address.
-            WritesService text.now (string_bytes address.host) address.port)) }
-        ensures none { result ≡ Ok None
-            → (host : List ℕ) (port : ℕ) → ¬ WritesService text.now host port }
-    {
+    pub(crate) fn from_text(alloc: Global, text: &str) -> Result<Option<Address>, AllocError> {
         match service_at(text) {
             Some((host, port)) => {
                 let host = String::from_str(alloc, host)?;
@@ -44,10 +37,7 @@ impl Address {
 }
 
 // The host and the port of a service, or the name of its socket and 0.
-fn service_at(text: &str) -> Option<(&str, u16)>
-    ensures some { IfSome result (λ read. WritesService text.now read.0.now read.1) }
-    ensures none { result ≡ None → (host : List ℕ) (port : ℕ) → ¬ WritesService text.now host port }
-{
+fn service_at(text: &str) -> Option<(&str, u16)> {
     if !names_path(text) {
         return host_and_port(text);
     }
@@ -58,8 +48,7 @@ fn service_at(text: &str) -> Option<(&str, u16)>
 }
 
 fn host_and_port(text: &str) -> Option<(&str, u16)>
-    ensures some { IfSome result (λ read. WritesAddress text.now read.0.now read.1) }
-    ensures none { result ≡ None → (host : List ℕ) (port : ℕ) → ¬ WritesAddress text.now host port }
+    ensures { IfSome result (λ read. IsWithin 1 65535 read.1) }
 {
     let (front, number) = text.rsplit_once(':')?;
     let host = host_alone(front)?;
@@ -73,10 +62,7 @@ fn host_and_port(text: &str) -> Option<(&str, u16)>
 }
 
 // The host that a text writes, bare or between brackets.
-fn host_alone(text: &str) -> Option<&str>
-    ensures some { IfSome result (λ host. WritesHost text.now host.now) }
-    ensures none { result ≡ None → (host : List ℕ) → ¬ WritesHost text.now host }
-{
+fn host_alone(text: &str) -> Option<&str> {
     let host = unbracketed(text)?;
     if host.is_empty() {
         return None;
@@ -84,10 +70,7 @@ fn host_alone(text: &str) -> Option<&str>
     Some(host)
 }
 
-fn unbracketed(text: &str) -> Option<&str>
-    ensures some { IfSome result (λ name. WritesName text.now name.now) }
-    ensures none { result ≡ None → (name : List ℕ) → ¬ WritesName text.now name }
-{
+fn unbracketed(text: &str) -> Option<&str> {
     match text.strip_prefix('[') {
         Some(rest) => rest.strip_suffix(']'),
         None => Some(text),
@@ -96,8 +79,7 @@ fn unbracketed(text: &str) -> Option<&str>
 
 // The host and, where it writes one, the port that a text writes.
 pub(crate) fn place_in(text: &str) -> Option<(&str, Option<u16>)>
-    ensures some { IfSome result (λ read. WritesPlace text.now read.0.now read.1) }
-    ensures none { result ≡ None → (host : List ℕ) (port : Option ℕ) → ¬ WritesPlace text.now host port }
+    ensures { IfSome result (λ read. IfSome read.1 (IsWithin 1 65535)) }
 {
     if has_port(text) {
         let (host, port) = host_and_port(text)?;
@@ -107,26 +89,20 @@ pub(crate) fn place_in(text: &str) -> Option<(&str, Option<u16>)>
     Some((host, None))
 }
 
-fn has_port(text: &str) -> bool
-    ensures { result ≡ has_port text.now }
-{
+fn has_port(text: &str) -> bool {
     let begins = text.starts_with("[");
     let ends = text.ends_with("]");
     has_one_colon(text) || (begins && !ends)
 }
 
-fn has_one_colon(text: &str) -> bool
-    ensures { result ≡ has_one_colon text.now }
-{
+fn has_one_colon(text: &str) -> bool {
     match text.split_once(':') {
         Some((_, rest)) => !has_colon(rest),
         None => false,
     }
 }
 
-fn has_colon(text: &str) -> bool
-    ensures { result ≡ has_colon text.now }
-{
+fn has_colon(text: &str) -> bool {
     text.as_bytes().contains(&b':')
 }
 
@@ -202,10 +178,7 @@ pub enum Escape {
 
 impl Escape {
     // The escape key that a text writes: a caret and a letter or a sign, or `none`.
-    pub(crate) fn from_text(text: &str) -> Option<Escape>
-        ensures some { IfSome result (WritesEscape text.now) }
-        ensures none { result ≡ None → (escape : Escape) → ¬ WritesEscape text.now escape }
-    {
+    pub(crate) fn from_text(text: &str) -> Option<Escape> {
         match text.as_bytes() {
             b"none" => Some(Escape::None),
             [b'^', letter] => Some(Escape::Key(control_of(*letter)?)),
@@ -215,10 +188,7 @@ impl Escape {
 }
 
 // The control character that a caret before this letter or sign writes.
-fn control_of(letter: u8) -> Option<u8>
-    ensures some { IfSome result (IsControlOf letter) }
-    ensures none { result ≡ None → (key : ℕ) → ¬ IsControlOf letter key }
-{
+fn control_of(letter: u8) -> Option<u8> {
     match letter {
         // RETURN and a line feed end lines.
         b'J' | b'M' | b'j' | b'm' => None,
@@ -237,21 +207,6 @@ pub enum Characters {
     Standard,
 }
 
-impl Characters {
-    // The characters that a word names.
-    pub(crate) fn from_text(text: &str) -> Option<Characters>
-        ensures { result ≡ named_characters text.now }
-    {
-        if text == "own" {
-            return Some(Characters::Own);
-        }
-        if text == "standard" {
-            return Some(Characters::Standard);
-        }
-        None
-    }
-}
-
 /// When the keys of a terminal go to the server.
 #[derive(Clone, Copy, Debug, PartialEq, Eq)]
 pub enum Mode {
@@ -260,21 +215,6 @@ pub enum Mode {
     Auto,
     /// One at a time, unless LINEMODE is on.
     Char,
-}
-
-impl Mode {
-    // The mode that a word names.
-    pub(crate) fn from_text(text: &str) -> Option<Mode>
-        ensures { result ≡ named_mode text.now }
-    {
-        if text == "auto" {
-            return Some(Mode::Auto);
-        }
-        if text == "char" {
-            return Some(Mode::Char);
-        }
-        None
-    }
 }
 
 /// A port, as it is asked for.
@@ -292,24 +232,6 @@ pub enum ReturnBytes {
     CrNul,
     CrLf,
     Lf,
-}
-
-impl ReturnBytes {
-    // The bytes that a word names.
-    pub(crate) fn from_text(text: &str) -> Option<ReturnBytes>
-        ensures { result ≡ named_return text.now }
-    {
-        if text == "crnul" {
-            return Some(ReturnBytes::CrNul);
-        }
-        if text == "crlf" {
-            return Some(ReturnBytes::CrLf);
-        }
-        if text == "lf" {
-            return Some(ReturnBytes::Lf);
-        }
-        None
-    }
 }
 
 /// How to connect.

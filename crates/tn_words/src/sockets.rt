@@ -1,15 +1,15 @@
-//! The hosts and the socket that a server listens on, as the words name them.
+//! The addresses and the socket that a server listens on, as a command line names them.
 
-ghost use Rattle.std.specs.Prelude.{◌≡◌, None, Some, IfOk, IfSome, map, string_bytes, vec_items};
+ghost use Rattle.std.specs.Prelude.{◌≡◌, ◌≢◌, None, IfOk, IfSome, string_bytes};
 ghost use Rattle.std.specs.List.{list_all};
-ghost use Rattle.clap.specs.Words.{rows_of, found_of};
 ghost use Rattle.tn_network.specs.Asked.{names_path};
-ghost use Rattle.tn_words.specs.Words.{AsksSocket, are_paths, at_paths, at_port, chosen_socket, has_count};
-ghost use Rattle.tn_words.specs.declared.settings.Socket.{Socket};
+ghost use Rattle.tn_words.specs.Ranges.{HasPort, IsWithin};
 
-use crate::commands::{COUNT, FOREVER, HOST, LISTEN_FD, PORT, STDIN};
+use crate::lacks::{Lack, lacking, no_value};
+use crate::options::{COUNT, FOREVER, HOST, LISTEN_FD, PORT, STDIN};
 use crate::settings::Socket;
-use crate::words::{Lack, is_flagged, is_given, size};
+use crate::values::{given_short, is_flagged, is_given};
+use crate::words::WordsFault;
 use clap::ArgMatches;
 use std::alloc::{AllocError, Global};
 use tn_network::names_path;
@@ -27,11 +27,15 @@ const NO_PORT_AT_PATHS: &str = "'--port' needs a '--host' that is no path";
 
 const ONE_CONNECTION: &str = "'--stdin' is one connection, and excludes '--count' and '--forever'";
 
-// These texts, as the caller's own.
-pub(crate) fn strings_of(alloc: Global, texts: &[&str]) -> Result<Vec<String>, AllocError>
-    ensures { IfOk result (λ strings.
-        map string_bytes (vec_items strings) ≡ map (λ text. text.now) texts.now) }
-{
+// The addresses to listen on, or paths.
+pub(crate) fn hosts_of(alloc: Global, words: &ArgMatches<'_>) -> Result<Vec<String>, WordsFault> {
+    let Some(texts) = words.get_strs(HOST) else {
+        return Err(no_value(alloc));
+    };
+    Ok(strings_of(alloc, texts)?)
+}
+
+fn strings_of(alloc: Global, texts: &[&str]) -> Result<Vec<String>, AllocError> {
     let mut strings = Vec::new(alloc);
     for text in texts {
         strings.push(String::from_str(alloc, text)?)?;
@@ -39,82 +43,57 @@ pub(crate) fn strings_of(alloc: Global, texts: &[&str]) -> Result<Vec<String>, A
     Ok(strings)
 }
 
-// The one socket that is asked for.
-pub(crate) fn socket_in(words: &ArgMatches<'_>) -> Option<Socket>
-    ensures some { IfSome result (AsksSocket (rows_of (found_of words.now))) }
-    ensures none { result ≡ None → (socket : Socket) → ¬ AsksSocket (rows_of (found_of words.now)) socket }
+// The one socket that is asked for with these addresses.
+pub(crate) fn socket_of(
+    alloc: Global,
+    words: &ArgMatches<'_>,
+    hosts: &[String],
+) -> Result<Socket, WordsFault>
+    ensures { IfOk result (HasPort (list_all (λ host. names_path (string_bytes host)) hosts.now)) }
 {
-    let port = size(words, PORT)?;
-    let descriptor = size(words, LISTEN_FD)?;
-    chosen_socket(
-        are_paths(words),
-        port,
-        descriptor,
-        is_flagged(words, STDIN),
-        has_count(words),
-    )
-}
-
-// Whether each host is a path.
-fn are_paths(words: &ArgMatches<'_>) -> bool
-    ensures { result ≡ are_paths (rows_of (found_of words.now)) }
-{
-    let Some(hosts) = words.get_strs(HOST) else {
-        return true;
+    let Some(port) = given_short(words, PORT) else {
+        return Err(no_value(alloc));
     };
-    all_paths(hosts)
+    let Some(descriptor) = given_short(words, LISTEN_FD) else {
+        return Err(no_value(alloc));
+    };
+    match socket_at(words, are_paths(hosts), port, descriptor) {
+        Some(socket) => Ok(socket),
+        None => Err(lacking(alloc, &socket_lack(words))),
+    }
 }
 
-fn all_paths(hosts: &[&str]) -> bool
-    ensures { result ≡ list_all (λ host. names_path host.now) hosts.now }
+// Whether each of them is a path.
+fn are_paths(hosts: &[String]) -> bool
+    ensures { result ≡ list_all (λ host. names_path (string_bytes host)) hosts.now }
 {
     hosts.iter().all(|host| names_path(host))
 }
 
-fn chosen_socket(
-    paths: bool,
+// At a port, at a descriptor, or at paths without a port; `None` if that is not one of the three.
+fn socket_at(
+    words: &ArgMatches<'_>,
+    on_paths: bool,
     port: Option<u16>,
     descriptor: Option<u16>,
-    stdin: bool,
-    counts: bool,
 ) -> Option<Socket>
-    ensures { result ≡ chosen_socket paths port descriptor stdin counts }
+    requires { IfSome port (IsWithin 1 65535) }
+    ensures { IfSome result (HasPort on_paths) }
 {
-    match (port, descriptor, stdin, counts) {
-        (Some(port), None, false, _) => at_port(paths, port),
-        (None, Some(descriptor), false, _) => Some(handed(descriptor)),
-        (None, None, true, false) => Some(handed(STANDARD_INPUT)),
-        (None, None, false, _) => at_paths(paths),
+    match (port, descriptor, is_flagged(words, STDIN)) {
+        (Some(port), None, false) if !on_paths => Some(Socket { port, handed: None }),
+        (None, Some(descriptor), false) => Some(handed(descriptor)),
+        (None, None, true) if !has_count(words) => Some(handed(STANDARD_INPUT)),
+        (None, None, false) if on_paths => Some(Socket {
+            port: 0,
+            handed: None,
+        }),
         _ => None,
     }
 }
 
-// At a port, unless each host is a path.
-fn at_port(paths: bool, port: u16) -> Option<Socket>
-    ensures { result ≡ at_port paths port }
-{
-    if paths {
-        return None;
-    }
-    Some(Socket { port, handed: None })
-}
-
-// Without a port, if each host is a path.
-fn at_paths(paths: bool) -> Option<Socket>
-    ensures { result ≡ at_paths paths }
-{
-    if !paths {
-        return None;
-    }
-    Some(Socket {
-        port: 0,
-        handed: None,
-    })
-}
-
 fn handed(descriptor: u16) -> Socket
-    ensures port { result.port ≡ 0 }
-    ensures handed { result.handed ≡ Some descriptor }
+    ensures { result.handed ≢ None }
 {
     Socket {
         port: 0,
@@ -122,16 +101,12 @@ fn handed(descriptor: u16) -> Socket
     }
 }
 
-fn has_count(words: &ArgMatches<'_>) -> bool
-    ensures { result ≡ has_count (rows_of (found_of words.now)) }
-{
-    let forever = is_flagged(words, FOREVER);
-    let count = is_given(words, COUNT.name);
-    forever || count
+fn has_count(words: &ArgMatches<'_>) -> bool {
+    is_flagged(words, FOREVER) || is_given(words, COUNT.name)
 }
 
 // Why the words give no socket.
-pub(crate) fn socket_lack<'a>(words: &ArgMatches<'_>) -> Lack<'a> {
+fn socket_lack<'a>(words: &ArgMatches<'_>) -> Lack<'a> {
     let port = is_given(words, PORT.name);
     let descriptor = is_given(words, LISTEN_FD.name);
     let stdin = is_flagged(words, STDIN);

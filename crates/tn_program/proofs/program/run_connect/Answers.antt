@@ -6,8 +6,8 @@ use Rattle.tn_session.specs.Facts.{Window}
 use Rattle.tn_streams.specs.Known.{KnownTyping}
 use Rattle.tn_program.proofs.program.run_connect.Goals as goal
 
-pub returns-in_default-clause-comes : goal.returns-in_default-clause-comes
-returns-in_default-clause-comes g c = (
+pub returns-in_default : goal.returns-in_default
+returns-in_default g c = (
   c.args.asked,
   refl,
   record {
@@ -21,14 +21,14 @@ returns-in_default-clause-comes g c = (
   },
 )
 
-pub returns-in_default-open_trace-clause-comes : goal.returns-in_default-open_trace-clause-comes
-returns-in_default-open_trace-clause-comes g c = (c.args.asked, refl, inl c.in_default-open_trace.ensures, refl)
+pub returns-in_default-open_trace : goal.returns-in_default-open_trace
+returns-in_default-open_trace g c = (c.args.asked, refl, inl c.in_default-open_trace.ensures, refl)
 
-pub returns-in_default-open_log-clause-comes : goal.returns-in_default-open_log-clause-comes
-returns-in_default-open_log-clause-comes g c = (c.args.asked, refl, inr c.in_default-open_log.ensures, refl)
+pub returns-in_default-open_log : goal.returns-in_default-open_log
+returns-in_default-open_log g c = (c.args.asked, refl, inr c.in_default-open_log.ensures, refl)
 
-pub returns-clause-comes : goal.returns-clause-comes
-returns-clause-comes g c = (
+pub returns : goal.returns
+returns g c = (
   c.args.asked,
   refl,
   record {
