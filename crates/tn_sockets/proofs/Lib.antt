@@ -8,8 +8,4 @@ pub mod LastWords
 pub mod Sorting
 pub mod Meaning
 pub mod Hearing
-pub mod Tracing
-pub mod LineTexts
-pub mod Stamping
-pub mod Dating
 pub mod Plain

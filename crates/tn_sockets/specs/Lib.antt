@@ -11,5 +11,3 @@ pub mod Typing
 pub mod PlainKeys
 pub mod Kept
 pub mod Presence
-pub mod Traces
-pub mod Times

@@ -1,17 +1,12 @@
 //! The time that a line of notes or of a log begins with.
 
-ghost use Rattle.std.specs.{Duration.as_nanos, Prelude.{◌≡◌, IfOk, bytes_eq}};
-ghost use Rattle.tn_sockets.specs.Times.{IsStamp, IsTimeText, hyphenated, instant_text, last_digit};
-
 use httpdate::HttpDate;
 use std::alloc::{AllocError, Global};
 use std::time::{Clock, Duration, SystemTime};
 
 /// The time and a space: in UTC, to the millisecond, as `2026-11-26T20:11:07.123Z`. It is empty where the
 /// machine has no clock.
-pub fn stamp<C: Clock>(clock: &C, alloc: Global) -> Result<Vec<u8>, AllocError>
-    ensures { IfOk result (λ text. IsStamp text.items) }
-{
+pub fn stamp<C: Clock>(clock: &C, alloc: Global) -> Result<Vec<u8>, AllocError> {
     let Ok(now) = SystemTime::now(clock) else {
         return Ok(Vec::new(alloc));
     };
@@ -22,9 +17,7 @@ pub fn stamp<C: Clock>(clock: &C, alloc: Global) -> Result<Vec<u8>, AllocError>
 }
 
 // The text of a time since 1970.
-fn since_1970(alloc: Global, since: Duration) -> Result<Vec<u8>, AllocError>
-    ensures { IfOk result (λ text. IsTimeText (as_nanos since) text.items) }
-{
+fn since_1970(alloc: Global, since: Duration) -> Result<Vec<u8>, AllocError> {
     match HttpDate::from_unix_secs(since.as_secs()) {
         Ok(date) => time_text(alloc, &date, since.subsec_millis()),
         Err(_) => Ok(Vec::new(alloc)),
@@ -33,9 +26,7 @@ fn since_1970(alloc: Global, since: Duration) -> Result<Vec<u8>, AllocError>
 
 // A second and its milliseconds. The numbers of the date are those of HTTP's, as `Thu, 26 Nov 2026 20:11:07
 // GMT`, in the order of RFC 3339.
-fn time_text(alloc: Global, date: &HttpDate, millis: u32) -> Result<Vec<u8>, AllocError>
-    ensures { IfOk result (λ text. text.items ≡ instant_text date.now.parts millis) }
-{
+fn time_text(alloc: Global, date: &HttpDate, millis: u32) -> Result<Vec<u8>, AllocError> {
     let shown = date.to_bytes();
     let mut text = Vec::new(alloc);
     text.extend_from_slice(&shown[12..16])?;
@@ -50,45 +41,24 @@ fn time_text(alloc: Global, date: &HttpDate, millis: u32) -> Result<Vec<u8>, All
 }
 
 // The last digit of a number.
-fn digit(number: u32) -> u8
-    ensures { result ≡ last_digit number }
-{
+fn digit(number: u32) -> u8 {
     b'0' + (number % 10) as u8
 }
 
 // The number of a month between hyphens.
-fn month(name: &[u8]) -> &'static [u8]
-    ensures { result.now ≡ hyphenated name.now }
-{
-    if is_name(name, b"Jan") {
-        b"-01-"
-    } else if is_name(name, b"Feb") {
-        b"-02-"
-    } else if is_name(name, b"Mar") {
-        b"-03-"
-    } else if is_name(name, b"Apr") {
-        b"-04-"
-    } else if is_name(name, b"May") {
-        b"-05-"
-    } else if is_name(name, b"Jun") {
-        b"-06-"
-    } else if is_name(name, b"Jul") {
-        b"-07-"
-    } else if is_name(name, b"Aug") {
-        b"-08-"
-    } else if is_name(name, b"Sep") {
-        b"-09-"
-    } else if is_name(name, b"Oct") {
-        b"-10-"
-    } else if is_name(name, b"Nov") {
-        b"-11-"
-    } else {
-        b"-12-"
+fn month(name: &[u8]) -> &'static [u8] {
+    match name {
+        b"Jan" => b"-01-",
+        b"Feb" => b"-02-",
+        b"Mar" => b"-03-",
+        b"Apr" => b"-04-",
+        b"May" => b"-05-",
+        b"Jun" => b"-06-",
+        b"Jul" => b"-07-",
+        b"Aug" => b"-08-",
+        b"Sep" => b"-09-",
+        b"Oct" => b"-10-",
+        b"Nov" => b"-11-",
+        _ => b"-12-",
     }
-}
-
-fn is_name(word: &[u8], name: &[u8]) -> bool
-    ensures { result ≡ bytes_eq word.now name.now }
-{
-    word == name
 }

@@ -1,9 +1,6 @@
 //! A trace of what comes and goes: a line for each item, in the order in which it passes, with the seconds
 //! since the beginning.
 
-ghost use Rattle.std.specs.Prelude.{◌≡◌, IsTrue, IsFalse, OnOk, OnErr};
-ghost use Rattle.tn_sockets.specs.Traces.{HoldsNothing, Passes};
-
 use crate::trace_lines::{Side, data_lines, write_timed};
 use std::alloc::{AllocError, Global};
 use std::fs::File;
@@ -28,22 +25,11 @@ pub(crate) struct Sides<W> {
     went: Side,
     file: W,
     failed: bool,
-    ghost empty: { IsFalse failed → HoldsNothing came × HoldsNothing went },
 }
 
 impl<W: Write> Sides<W> {
     // Writes the lines of what passes at this time. Where that fails nothing more is to be written.
-    fn pass(&mut self, time: Duration, direction: Direction, piece: &[u8]) -> io::Result<()>
-        requires whole { IsFalse self.now.failed }
-        ensures came { OnOk result (direction ≡ Direction.Came → Passes W.contents time piece.now
-            self.old.came self.new.came self.old.file self.new.file) }
-        ensures went_stays { OnOk result (direction ≡ Direction.Came → self.new.went ≡ self.old.went) }
-        ensures went { OnOk result (direction ≡ Direction.Went → Passes W.contents time piece.now
-            self.old.went self.new.went self.old.file self.new.file) }
-        ensures came_stays { OnOk result (direction ≡ Direction.Went → self.new.came ≡ self.old.came) }
-        ensures ok { OnOk result (IsFalse self.new.failed) }
-        ensures err { OnErr result (IsTrue self.new.failed) }
-    {
+    fn pass(&mut self, time: Duration, direction: Direction, piece: &[u8]) -> io::Result<()> {
         self.failed = true;
         let text = match direction {
             Direction::Came => self.came.lines_of(piece)?,

@@ -1,11 +1,5 @@
 //! The lines of a trace: one for each item that passes, after the seconds since the beginning.
 
-ghost use Rattle.std.specs.{Duration.as_nanos, Io.KnownBytes.Appends};
-ghost use Rattle.std.specs.Prelude.{◌≡◌, ◌==◌, ◌++◌, [], ◌∷◌, true, IfOk, OnOk};
-ghost use Rattle.tn_nvt.specs.Feeding.{LeadsTo};
-ghost use Rattle.tn_sockets.specs.Traces.{HoldsNothing, Shows, last_digit, stamp_where, time_text};
-ghost use Rattle.tn_sockets.specs.Traces.{timed_lines};
-
 use std::alloc::{AllocError, Global};
 use std::io;
 use std::io::Write;
@@ -22,11 +16,7 @@ pub(crate) struct Side {
 
 impl Side {
     /// Nothing was read yet.
-    pub(crate) fn new(alloc: Global, prefix: Prefix) -> Side
-        ensures decoder { LeadsTo [] [] result.decoder }
-        ensures prefix { result.lines.prefix ≡ prefix }
-        ensures empty { HoldsNothing result }
-    {
+    pub(crate) fn new(alloc: Global, prefix: Prefix) -> Side {
         Side {
             decoder: Decoder::new(alloc),
             lines: Lines::new(alloc, prefix),
@@ -34,10 +24,7 @@ impl Side {
     }
 
     /// The lines of the items that the next piece completes. Data at its end are a line too.
-    pub(crate) fn lines_of(&mut self, piece: &[u8]) -> Result<Vec<u8>, AllocError>
-        requires empty { HoldsNothing self.now }
-        ensures { IfOk result (λ text. Shows self.old piece.now text.items self.new) }
-    {
+    pub(crate) fn lines_of(&mut self, piece: &[u8]) -> Result<Vec<u8>, AllocError> {
         match self.decoder.feed_to(piece, &mut self.lines) {
             Ok(()) => {},
             Err(_) => return Err(AllocError),
@@ -64,19 +51,14 @@ pub(crate) fn write_timed<W: Write>(
     time: Duration,
     text: &[u8],
     out: &mut W,
-) -> io::Result<()>
-    ensures { OnOk result (Appends (W.contents out.old) (W.contents out.new)
-        (timed_lines (time_text (as_nanos time)) true text.now)) }
-{
+) -> io::Result<()> {
     let stamp = stamp(alloc, time)?;
     let lines = timed(alloc, &stamp, text)?;
     out.write_all(&lines)
 }
 
 // The seconds of a time, to the millisecond, and a space.
-fn stamp(alloc: Global, time: Duration) -> Result<Vec<u8>, AllocError>
-    ensures { IfOk result (λ text. text.items ≡ time_text (as_nanos time)) }
-{
+fn stamp(alloc: Global, time: Duration) -> Result<Vec<u8>, AllocError> {
     let mut text = format!(in alloc; "{}.", time.as_secs())?.into_bytes();
     let millis = time.subsec_millis();
     text.extend_from_slice(&[digit(millis / 100), digit(millis / 10), digit(millis), b' '])?;
@@ -84,16 +66,12 @@ fn stamp(alloc: Global, time: Duration) -> Result<Vec<u8>, AllocError>
 }
 
 // The last digit of a number.
-fn digit(number: u32) -> u8
-    ensures { result ≡ last_digit number }
-{
+fn digit(number: u32) -> u8 {
     b'0' + (number % 10) as u8
 }
 
 // The text, each line of it after the stamp.
-fn timed(alloc: Global, stamp: &[u8], text: &[u8]) -> Result<Vec<u8>, AllocError>
-    ensures { IfOk result (λ lines. lines.items ≡ timed_lines stamp.now true text.now) }
-{
+fn timed(alloc: Global, stamp: &[u8], text: &[u8]) -> Result<Vec<u8>, AllocError> {
     let mut lines = Vec::new(alloc);
     let mut begins = true;
     for byte in text {
@@ -108,11 +86,7 @@ pub(crate) fn push_timed(
     byte: u8,
     stamp: &[u8],
     lines: &mut Vec<u8>,
-) -> Result<bool, AllocError>
-    ensures pushed { OnOk result (lines.new.items
-        ≡ lines.old.items ++ (stamp_where begins stamp.now ++ byte ∷ [])) }
-    ensures begins { IfOk result (λ begins. begins ≡ (byte == 10)) }
-{
+) -> Result<bool, AllocError> {
     if begins {
         lines.extend_from_slice(stamp)?;
     }
