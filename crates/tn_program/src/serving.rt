@@ -2,7 +2,7 @@
 
 ghost use Rattle.std.specs.Prelude.{◌≡◌, [], Some, IfOk, IfSome, IsErrOf, None, map, option_map, string_bytes};
 ghost use Rattle.std.specs.Prelude.{vec_items};
-ghost use Rattle.tn_serve.specs.{Causes.{FailsBy, IsCaused, place_at}, Ends.{IfAny, ServesUntil}};
+ghost use Rattle.tn_serve.specs.{Causes.{FailsBy, place_at}, Ends.{IfAny, ServesUntil}};
 ghost use Rattle.tn_network.specs.Asked.{Listens, at_place};
 ghost use Rattle.tn_program.specs.Settings.{UnlessMemory, count_as, places_as, places_at};
 ghost use Rattle.tn_roster.specs.Held.{IsLimit};
@@ -39,8 +39,6 @@ where
     ensures listened { UnlessMemory result (Listens (at_place (H.listens rt)) (H.shares rt) (H.accepts rt)
         (places_as asked.now) (λ (served : Served). served.accepted)
         (λ error ended. FailsBy error ended) result) }
-    ensures caused { IsCaused (places_as asked.now) (at_place (H.listens rt))
-        causes.old.items causes.new.items result }
     ensures counted { IfOk result (⟦<H as Serves>⟧.serves rt asked.now) }
     ensures limit { IsErrOf result ServeFault.Limit → ¬ IsLimit asked.now.sessions }
 {
@@ -99,8 +97,6 @@ where
     ensures listened { UnlessMemory result (Listens (at_place (H.listens rt)) (H.shares rt) (H.accepts rt)
         (places_as asked.now) (λ (served : Served). served.accepted)
         (λ error ended. FailsBy error ended) result) }
-    ensures caused { IsCaused (places_as asked.now) (at_place (H.listens rt))
-        causes.old.items causes.new.items result }
     ensures counted { IfOk result (⟦<H as Serves>⟧.serves rt asked.now) }
     ensures limit { IsErrOf result ServeFault.Limit → ¬ IsLimit asked.now.sessions }
 {

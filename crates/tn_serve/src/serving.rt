@@ -2,7 +2,7 @@
 
 ghost use Rattle.std.specs.Prelude.{◌≡◌, ◌⊎◌, ◌<◌, ◌≤◌, ◌+◌, ◌^◌, ◌-◌, true, IsTrue, IfOk, IfSome, IfNone};
 ghost use Rattle.std.specs.Prelude.{[], ◌∷◌, IsErrOf, Ok, map, vec_items, vec_len};
-ghost use Rattle.tn_serve.specs.{Causes.{FailsBy, IsCaused, place_at}, Ends.{AreEnough, ServesUntil}};
+ghost use Rattle.tn_serve.specs.{Causes.{FailsBy, place_at}, Ends.{AreEnough, ServesUntil}};
 ghost use Rattle.tn_serve.specs.Counted.{CountsSessions, HasEnded, StillCounts, facts_of, server_of};
 ghost use Rattle.tn_serve.specs.Places.{AreHeld, AreHeldBeside, HasNoPlace, RunsAll, RunsOver, count_from};
 ghost use Rattle.tn_serve.specs.Services.{MakesOnly, StillMakes, TurnsAway, WasTurnedAway};
@@ -78,8 +78,6 @@ where
         (V.makes service) (WasTurnedAway (H.dismisses rt)))) service served.whole served.faulted) }
     ensures listened { Listens (at_place (H.listens rt)) (H.shares rt) (H.accepts rt) (map place_at at.now)
         (λ (served : Served). served.accepted) (λ error ended. FailsBy error ended) result }
-    ensures caused { IsCaused (map place_at at.now) (at_place (H.listens rt))
-        causes.old.items causes.new.items result }
     ensures limit { IsErrOf result ServeFault.Limit → ¬ IsLimit serving.sessions }
 {
     let listeners = listen_all(&rt, alloc, at, causes)?;

@@ -1,6 +1,6 @@
-use Rattle.std.proofs.Common.{ap, inl, map, refl, subst, ◌∙◌, List}
+use Rattle.std.proofs.Common.{ap, map, subst, ◌∙◌, List}
 use Rattle.tn_network.specs.Asked.{Listens, Place, at_place}
-use Rattle.tn_serve.specs.{Causes.{FailsBy, IsCaused, place_at}, declared.served.Served.Served}
+use Rattle.tn_serve.specs.{Causes.{FailsBy, place_at}, declared.served.Served.Served}
 use Rattle.tn_program.proofs.Asked.{always, answers, counted_alone, counted_joined, joins, unless}
 use Rattle.tn_program.proofs.serving.serve_noted.Goals as goal
 
@@ -18,14 +18,6 @@ returns-clause-counted g c =
     (joins _ _ _ _ c.args.rt c.in-Some.to.port c.args.asked.now.dial _ _ _ _ _ _ c.serving_of-serving.ensures.options
     (c.in_ok-from_str.ensures.ok ∙ c.as_str.ensures.value) c.lines_of.ensures c.serve-2.ensures.each)
 
-pub returns-in_err-from_str-clause-caused : goal.returns-in_err-from_str-clause-caused
-returns-in_err-from_str-clause-caused g c = inl refl
-
-pub returns-in_default-clause-caused : goal.returns-in_default-clause-caused
-returns-in_default-clause-caused g c =
-    subst (λ (places : List Place). IsCaused places (at_place (g.H.Network.listens c.args.rt)) c.args.causes.now.items c.serve.new.causes.items c.serve.result)
-    (ap (map place_at) c.deref.ensures.value ∙ c.in_ok-at.ensures) c.serve.ensures.caused
-
 pub returns-in_default-clause-listened : goal.returns-in_default-clause-listened
 returns-in_default-clause-listened g c = always _ _ (subst (λ (places : List Place). Listens (at_place (g.H.Network.listens c.args.rt))
     (g.H.Network.shares c.args.rt) (g.H.Network.accepts c.args.rt) places (λ (served : Served). served.accepted)
@@ -35,8 +27,3 @@ pub returns-clause-listened : goal.returns-clause-listened
 returns-clause-listened g c = always _ _ (subst (λ (places : List Place). Listens (at_place (g.H.Network.listens c.args.rt))
     (g.H.Network.shares c.args.rt) (g.H.Network.accepts c.args.rt) places (λ (served : Served). served.accepted)
     (λ error ended. FailsBy error ended) c.serve-2.result) (ap (map place_at) c.deref-2.ensures.value ∙ c.in_ok-at.ensures) c.serve-2.ensures.listened)
-
-pub returns-clause-caused : goal.returns-clause-caused
-returns-clause-caused g c =
-    subst (λ (places : List Place). IsCaused places (at_place (g.H.Network.listens c.args.rt)) c.args.causes.now.items c.serve-2.new.causes.items c.serve-2.result)
-    (ap (map place_at) c.deref-2.ensures.value ∙ c.in_ok-at.ensures) c.serve-2.ensures.caused

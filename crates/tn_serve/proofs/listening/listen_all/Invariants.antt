@@ -1,11 +1,8 @@
-use Rattle.std.proofs.Common.{◌≡◌, map, take, vec_items}
+use Rattle.std.proofs.Common.{map, take, vec_items}
 use Rattle.tn_network.specs.Asked.{GiveEach, at_place}
 use Rattle.tn_serve.specs.Causes.{place_at}
 use Rattle.tn_serve.proofs.listening.listen_all.Given as goal
 
--- those so far gave a listener each, and there is no cause
+-- those so far gave a listener each
 abbrev pub invariant-loop-place : goal.invariant-loop-place
-invariant-loop-place g l = record {
-  given : GiveEach (at_place (g.N.Network.listens l.net)) (map place_at (take l.place-index l.at)) (vec_items l.listeners);
-  uncaused : l.causes.items ≡ l.fn.causes.items;
-}
+invariant-loop-place g l = GiveEach (at_place (g.N.Network.listens l.net)) (map place_at (take l.place-index l.at)) (vec_items l.listeners)
