@@ -6,7 +6,7 @@
 //! ```
 //!
 //! Its words, its statuses and what it tells on standard error are in the manual page, `docs/tn.1`. The
-//! words are read by `tn_words`, and what they ask for is done by `tn_program`: here the handle of the
+//! words are read by `tn_cli::arguments`, and what they ask for is done by `tn_program`: here the handle of the
 //! runtime, the words and the streams are handed on, and the status comes back.
 //!
 //! It sets no terminal to raw mode, which the launcher `./tn` does for `connect`. It asks for no password,
@@ -20,7 +20,7 @@ use std::os::fd::AsRawFd;
 use std::process::ExitCode;
 use std::sync::Arc;
 use std::{env, io, str};
-use tn_hosts::start_with;
+use tn_cli::hosts::start_with;
 use tn_program::{
     EDITS_LENGTH, EditorSettings, KeySource, Link, OWN_LENGTH, Outlet, OwnCharacters, Screen,
     Streams, editor_settings, own_characters, run_words,

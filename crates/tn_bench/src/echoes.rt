@@ -7,9 +7,9 @@ use std::net::{Ipv4Addr, Net, TcpListener, TcpStream};
 use std::thread;
 use std::time::Clock;
 use tn_discipline::Limit;
+use tn_serve::services::Answerers;
 use tn_serve::{Host, SessionOptions, serve_connection};
 use tn_server::Editing;
-use tn_services::Answerers;
 
 /// The length of a server's opening words.
 const OPENING: usize = 15;

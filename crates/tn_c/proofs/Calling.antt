@@ -1,8 +1,7 @@
 -- A call of what is held, which was of the call's kind.
 use Rattle.std.proofs.Common.{◌≡◌, ℕ, Option, Some, sym, ap, ◌∙◌, subst}
-use Rattle.tn_c_parts.specs.{Codes.code_number, Items.ReadStream, declared.{client.HeldClient.HeldClient, codes.Code.Code, line.HeldLine.HeldLine}}
-use Rattle.tn_c_parts.specs.declared.server.HeldServer.{HeldServer}
-use Rattle.tn_c.specs.{declared.held.Held.Held, Holding.{CallsLine, CallsDecoder, CallsServer, CallsClient}}
+use Rattle.tn_c.specs.{parts.{Codes.code_number, Items.ReadStream}, declared.parts.{client.HeldClient.HeldClient, codes.Code.Code, line.HeldLine.HeldLine}}
+use Rattle.tn_c.specs.{declared.{parts.server.HeldServer.HeldServer, held.Held.Held}, Holding.{CallsLine, CallsDecoder, CallsServer, CallsClient}}
 use Rattle.tn_c.specs.declared.held.Held.TheVariants as held
 
 pub line_called : {unwritten : Type 0} {R : Code → HeldLine → HeldLine → Type 0} {old new : Option Held} {number : ℕ} {boxed lent : Held} (answer : Code)

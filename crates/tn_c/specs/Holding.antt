@@ -1,11 +1,10 @@
 -- What a handle holds, what a call does to it where that is of the call's kind, and why the call is refused
 -- where it is not.
 use Rattle.std.specs.Prelude.{◌≡◌, ◌≢◌, ◌⊎◌, ℕ, Bool, IsTrue, Option, Some, None, IfSome, if◌then◌else◌}
-use Rattle.tn_c_parts.specs.{Codes.{code_number, Answers}, Items.ReadStream, declared.codes.Code.Code}
-use Rattle.tn_c_parts.specs.declared.codes.Code.TheVariants.{Done, Memory, NotStarted, Started, OtherKind}
-use Rattle.tn_c_parts.specs.declared.{codes.Code.TheVariants.NoLimit, client.HeldClient.HeldClient}
-use Rattle.tn_c_parts.specs.declared.{line.HeldLine.HeldLine, server.HeldServer.HeldServer}
-use Rattle.tn_c.specs.declared.held.Held.{Held}
+use Rattle.tn_c.specs.{parts.{Codes.{code_number, Answers}, Items.ReadStream}, declared.parts.codes.Code.Code}
+use Rattle.tn_c.specs.declared.parts.codes.Code.TheVariants.{Done, Memory, NotStarted, Started, OtherKind}
+use Rattle.tn_c.specs.declared.parts.{codes.Code.TheVariants.NoLimit, client.HeldClient.HeldClient}
+use Rattle.tn_c.specs.declared.{parts.{line.HeldLine.HeldLine, server.HeldServer.HeldServer}, held.Held.Held}
 use Rattle.tn_c.specs.declared.held.Held.TheVariants as held
 
 -- a line is held, of which this is so

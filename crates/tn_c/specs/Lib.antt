@@ -1,2 +1,3 @@
 pub mod Owning
 pub mod Holding
+pub mod parts

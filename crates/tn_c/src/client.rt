@@ -2,17 +2,17 @@
 
 ghost use Rattle.std.specs.Prelude.{◌≡◌, None, length};
 ghost use Rattle.tn_discipline.specs.Limits.{is_limit};
-ghost use Rattle.tn_c_parts.specs.{Calling.{Looks, Does, OfFunction, GivesChar}, Readings.char_given};
-ghost use Rattle.tn_c_parts.specs.ClientCalls.{IsOpened, KeyCall, FeedCall, ResizeCall, ProposeCall};
-ghost use Rattle.tn_c_parts.specs.ClientCalls.{NewLineCall, SendNumberCall, ReadCall, ScreenCall, GivesMode};
-ghost use Rattle.tn_c_parts.specs.ClientCalls.{GivesHalf, GivesAhead, GivesCounts, GivesOption, IsClientChar};
+ghost use Rattle.tn_c.specs.parts.{Calling.{Looks, Does, OfFunction, GivesChar}, Readings.char_given};
+ghost use Rattle.tn_c.specs.parts.ClientCalls.{IsOpened, KeyCall, FeedCall, ResizeCall, ProposeCall};
+ghost use Rattle.tn_c.specs.parts.ClientCalls.{NewLineCall, SendNumberCall, ReadCall, ScreenCall, GivesMode};
+ghost use Rattle.tn_c.specs.parts.ClientCalls.{GivesHalf, GivesAhead, GivesCounts, GivesOption, IsClientChar};
 ghost use Rattle.tn_c.specs.Holding.{HoldsClient, CallsClient, Starts, NoPointer};
 
 use crate::calls::call_held;
 use crate::handle::Handle;
 use crate::held::Held;
+use crate::parts::{Code, HeldClient};
 use std::alloc::Global;
-use tn_c_parts::{Code, HeldClient};
 use tn_discipline::Limit;
 
 /// Puts a client end into the handle, whose window has this size in characters, 0 where a side is not known,

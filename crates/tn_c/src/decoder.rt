@@ -1,15 +1,15 @@
 //! The calls of a decoder: a stream to items.
 
 ghost use Rattle.std.specs.Prelude.{◌≡◌, true, None};
-ghost use Rattle.tn_c_parts.specs.{Bytes.Gives, Calling.{Looks, Does}, Items.parameters_of};
-ghost use Rattle.tn_c_parts.specs.DecoderCalls.{IsFresh, FeedCall, TakeCall, TakeRunCall};
+ghost use Rattle.tn_c.specs.parts.{Bytes.Gives, Calling.{Looks, Does}, Items.parameters_of};
+ghost use Rattle.tn_c.specs.parts.DecoderCalls.{IsFresh, FeedCall, TakeCall, TakeRunCall};
 ghost use Rattle.tn_c.specs.Holding.{HoldsDecoder, CallsDecoder, Starts, NoPointer};
 
 use crate::calls::call_held;
 use crate::handle::Handle;
 use crate::held::Held;
+use crate::parts::{Code, HeldDecoder, ItemSeen};
 use std::alloc::Global;
-use tn_c_parts::{Code, HeldDecoder, ItemSeen};
 
 /// Puts a decoder into the handle that has read nothing.
 #[unsafe(no_mangle)]

@@ -2,14 +2,14 @@
 
 ghost use Rattle.std.specs.Prelude.{◌≡◌, ◌≢◌, ◌↔◌, ◌⊎◌, true, IsTrue, Option, None, Some, MatchOption};
 ghost use Rattle.tn_c.specs.{Owning.{handle_owns, held_coded}, declared.held.Held.Held};
-ghost use Rattle.tn_c_parts.specs.{Codes.code_number, declared.codes.Code.TheVariants.{Done, Memory}};
+ghost use Rattle.tn_c.specs.{parts.Codes.code_number, declared.parts.codes.Code.TheVariants.{Done, Memory}};
 
 use crate::held::Held;
+use crate::parts::Code;
 use crate::unboxed::Unboxed;
 use std::alloc::Global;
 use std::marker::Model;
 use std::mem;
-use tn_c_parts::Code;
 
 /// One word that C has: null where nothing is held, and else the address of a box of what is held. In C it is
 /// `tn_line`, `tn_decoder`, `tn_server` or `tn_client`, which begins as `{0}`.

@@ -1,6 +1,6 @@
 //! What a handle holds.
 
-use tn_c_parts::{HeldClient, HeldDecoder, HeldLine, HeldServer};
+use crate::parts::{HeldClient, HeldDecoder, HeldLine, HeldServer};
 
 /// What a handle holds.
 #[derive(Drop)]

@@ -30,3 +30,5 @@ pub extern "C" fn tn_version() -> u32
 {
     10_200
 }
+
+pub mod parts;

@@ -2,17 +2,16 @@
 
 ghost use Rattle.std.specs.Prelude.{◌≡◌, None};
 ghost use Rattle.tn_discipline.specs.Limits.{is_limit};
-ghost use Rattle.tn_c_parts.specs.{Bytes.Gives, Calling.{Looks, LooksBy, Does, OfFunction, GivesChar}};
-ghost use Rattle.tn_c_parts.specs.{Echoes.GivesEcho, Entries.text_of, LineCalls.IsLineChar};
-ghost use Rattle.tn_c_parts.specs.LineCalls.{IsEmpty, KeyCall, HalfGiven, SetFlagsCall, SetCharCall};
-ghost use Rattle.tn_c_parts.specs.{Readings.char_given, Terminals.flags_given};
-ghost use Rattle.tn_c.specs.Holding.{HoldsLine, CallsLine, Starts, NoPointer};
+ghost use Rattle.tn_c.specs.parts.{Bytes.Gives, Entries.text_of, Readings.char_given, Terminals.flags_given};
+ghost use Rattle.tn_c.specs.parts.{Calling.{Looks, LooksBy, Does, OfFunction, GivesChar}, Echoes.GivesEcho};
+ghost use Rattle.tn_c.specs.parts.LineCalls.{IsLineChar, IsEmpty, KeyCall, HalfGiven, SetFlagsCall};
+ghost use Rattle.tn_c.specs.{parts.LineCalls.SetCharCall, Holding.{HoldsLine, CallsLine, Starts, NoPointer}};
 
 use crate::calls::call_held;
 use crate::handle::Handle;
 use crate::held::Held;
+use crate::parts::{Code, HeldLine, TerminalFlags};
 use std::alloc::Global;
-use tn_c_parts::{Code, HeldLine, TerminalFlags};
 use tn_discipline::Limit;
 
 /// Puts an empty line into the handle, under these flags and the standard special characters, of at most

@@ -6,20 +6,20 @@ ghost use Rattle.tn_option.specs.Options.{state_of};
 ghost use Rattle.tn_pty.specs.Terminal.{first_signal};
 ghost use Rattle.tn_server.specs.{Calls.{LeadsTo, call_fault}, Events.{History, echo_set}, Screen.size};
 ghost use Rattle.tn_server.specs.{Lines.{half, waiting}, Terms.{mode, asked_mask, options}};
-ghost use Rattle.tn_c_parts.specs.{Bytes.Gives, Calling.{Looks, Does, OfFunction, GivesChar}};
-ghost use Rattle.tn_c_parts.specs.{Entries.{kind_number, signal_number, text_of}, Terminals.flags_given};
-ghost use Rattle.tn_c_parts.specs.Readings.{char_given, editing_given, side_given, state_number};
-ghost use Rattle.tn_c_parts.specs.ServerCalls.{IsOpened, Acts, FeedCall, TakeCall, ForgetCall, WriteCall};
-ghost use Rattle.tn_c_parts.specs.ServerCalls.{PullCall, WishCall, SetCharCall, SetMaskCall, SetOctetsCall};
-ghost use Rattle.tn_c_parts.specs.ServerCalls.{FeedSomeCall, SayCall, GivesPending, SentCall, ReadCall};
-ghost use Rattle.tn_c_parts.specs.{Changes.ChangesCall, ServerCalls.IsServerChar};
+ghost use Rattle.tn_c.specs.parts.{Bytes.Gives, Calling.{Looks, Does, OfFunction, GivesChar}};
+ghost use Rattle.tn_c.specs.parts.{Entries.{kind_number, signal_number, text_of}, Terminals.flags_given};
+ghost use Rattle.tn_c.specs.parts.Readings.{char_given, editing_given, side_given, state_number};
+ghost use Rattle.tn_c.specs.parts.ServerCalls.{IsOpened, Acts, FeedCall, TakeCall, ForgetCall, WriteCall};
+ghost use Rattle.tn_c.specs.parts.ServerCalls.{PullCall, WishCall, SetCharCall, SetMaskCall, SetOctetsCall};
+ghost use Rattle.tn_c.specs.parts.ServerCalls.{FeedSomeCall, SayCall, GivesPending, SentCall, ReadCall};
+ghost use Rattle.tn_c.specs.parts.{ServerCalls.IsServerChar, Changes.ChangesCall};
 ghost use Rattle.tn_c.specs.Holding.{HoldsServer, CallsServer, Starts, NoPointer};
 
 use crate::calls::call_held;
 use crate::handle::Handle;
 use crate::held::Held;
+use crate::parts::{Code, HeldServer, TerminalFlags};
 use std::alloc::Global;
-use tn_c_parts::{Code, HeldServer, TerminalFlags};
 use tn_discipline::{Chars, Limit, Settings};
 
 /// Puts a server end into the handle, over a terminal with these flags and the standard special characters,

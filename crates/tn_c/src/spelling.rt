@@ -1,10 +1,10 @@
 //! The calls that spell items, which need no handle.
 
 ghost use Rattle.tn_nvt.specs.declared.items.Item.TheVariants as item;
-ghost use Rattle.tn_c_parts.specs.{Codes.Answers, Spelled.{Spells, SpellsCommand, SpellsWord, SpellsSub}};
+ghost use Rattle.tn_c.specs.parts.{Codes.Answers, Spelled.{Spells, SpellsCommand, SpellsWord, SpellsSub}};
 
+use crate::parts::{spell_byte, spell_command, spell_newline, spell_sub, spell_word};
 use std::alloc::Global;
-use tn_c_parts::{spell_byte, spell_command, spell_newline, spell_sub, spell_word};
 
 /// Spells a byte of data, as much as fits, and says how long that is.
 #[unsafe(no_mangle)]

@@ -4,8 +4,9 @@ use Rattle.std.proofs.{Common.{append-nil, append_assoc, arith}, lemmas.List.{ta
 use Rattle.std.specs.Io.KnownBytes.{Appends, Consumes, IsAtEnd}
 use Rattle.tn_nvt.specs.{declared.items.Item.{Item, TheVariants.Byte}, Feeding.DecoderState, Sinks.{FeedsTo, all_of, calls_of}}
 use Rattle.tn_nvt.specs.Feeding as nvt
-use Rattle.tn_decode.proofs.lemmas.Taking.{takes_nothing, takes_both, taken_by_all, taken_whole}
-use Rattle.tn_decode.specs.{Lines.decoded, Printing.{Printing, Takes, EndsData, prefix_text}, declared.printer.Prefix.{Prefix, TheVariants.Empty}}
+use Rattle.tn_net.proofs.lemmas.printing.Taking.{takes_nothing, takes_both, taken_by_all, taken_whole}
+use Rattle.tn_net.specs.{printing.{Lines.decoded, Printing.{Printing, Takes, EndsData, prefix_text}}, declared.printing.printer.Prefix.Prefix}
+use Rattle.tn_net.specs.declared.printing.printer.Prefix.TheVariants.{Empty}
 use Rattle.tn_cli.proofs.{Inputs.{consumes_both, consumes_none}, Outputs.whole_input}
 use Rattle.tn_cli.specs.Decode.{IsDecodeOf, Decodes, DecodesRead, DecodesSome, HasPrinted, Decoded, PrintsPiece, PrintsLast, StopsPiece, WritesLast}
 use Rattle.tn_cli.specs.{Decode.{WritesPiece, nothing_printed}, Ends.EndsDecode, Streams.{AppendsPrefix, IsPrintFault}, declared.decode.Decoding.Decoding}

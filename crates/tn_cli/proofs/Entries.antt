@@ -6,7 +6,7 @@ use Rattle.std.specs.Io.KnownBytes.{Appends}
 use Rattle.tn_discipline.specs.{Entries.{entries_of, half_of}, Keys.roles_of, Steps.gain_all, declared.keys.Role.Role}
 use Rattle.tn_discipline.proofs.lemmas.Histories as histories
 use Rattle.tn_discipline.proofs.lemmas.KeyRoles.{roles_of-append}
-use Rattle.tn_streams.specs.Telling.{Calls, HasMade, HasFailed, AccountsFor}
+use Rattle.tn_cores.specs.streams.Telling.{Calls, HasMade, HasFailed, AccountsFor}
 use Rattle.tn_cli.specs.{Printed.{printed, printed_entry}, Streams.AppendsPrefix, Typing.{LeadsTo, Types, PrintsKeys, PrintsKeysPrefix, local_output, standard}}
 use Rattle.tn_cli.specs.declared.typing.Typing.{Typing}
 

@@ -1,8 +1,8 @@
 -- What `tn decode` prints of one direction of a stream.
 use Rattle.std.specs.{Prelude.{◌≡◌, ℕ, Option, List, [], ◌++◌}, Io.KnownBytes.{Appends, Consumes}}
 use Rattle.tn_nvt.specs.{declared.items.Item.Item, Feeding.LeadsTo, Stream.Reading}
-use Rattle.tn_decode.specs.{Lines.decoded, Printing.{Printing, Takes}}
-use Rattle.tn_decode.specs.declared.printer.Prefix.TheVariants.{Empty}
+use Rattle.tn_net.specs.printing.{Lines.decoded, Printing.{Printing, Takes}}
+use Rattle.tn_net.specs.declared.printing.printer.Prefix.TheVariants.{Empty}
 use Rattle.tn_cli.specs.{Streams.AppendsPrefix, Unprinted.Watches, declared.decode.Decoding.Decoding}
 
 -- the output is what is printed of the items of the stream's one reading

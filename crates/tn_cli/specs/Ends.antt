@@ -7,7 +7,7 @@ use Rattle.tn_cli.specs.{Playing.StopsAtRefusedLine, Streams.{max_input, max_pie
 use Rattle.tn_cli.specs.{Replay.{Replays, ReplaysPrefix}, Scripts.lines_of, Unprinted.LeavesUnprinted}
 use Rattle.tn_cli.specs.{Typing.{PrintsKeys, PrintsKeysPrefix}, declared.fault.CliFault.CliFault}
 use Rattle.tn_cli.specs.declared.fault.CliFault.TheVariants as fault
-use Rattle.tn_streams.specs.Telling.{Calls, HasFailed, SomeFailed}
+use Rattle.tn_cores.specs.streams.Telling.{Calls, HasFailed, SomeFailed}
 
 -- What every run promises, where its reader tells the bytes that it will give. `Prints` relates such an
 -- input and the output before and after a run that ends well, and `PrintsPrefix` does where a write fails.

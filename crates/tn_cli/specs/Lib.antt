@@ -8,3 +8,4 @@ pub mod Scripts
 pub mod Streams
 pub mod Typing
 pub mod Unprinted
+pub mod arguments

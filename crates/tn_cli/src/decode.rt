@@ -5,15 +5,15 @@ ghost use Rattle.std.specs.Io.KnownBytes.{IsAtEnd};
 ghost use Rattle.tn_cli.specs.Decode.{Decoded, DecodesSome, HasPrinted, PrintsLast, PrintsPiece, StopsPiece};
 ghost use Rattle.tn_cli.specs.{Decode.{WritesLast, WritesPiece}, Ends.{EndsDecode, EndsDecodeByCalls}};
 ghost use Rattle.tn_cli.specs.Streams.{IsPrintFault, max_pieces, max_writes};
-ghost use Rattle.tn_streams.specs.Telling.{AccountsFor, HasFailed};
+ghost use Rattle.tn_cores.specs.streams.Telling.{AccountsFor, HasFailed};
 
 use crate::fault::CliFault;
 use crate::streams::{PIECE_BYTES, write_whole};
 use crate::unprinted::{Unprinted, Watch};
 use std::alloc::{AllocError, Global};
-use tn_decode::{Lines, Prefix};
+use tn_cores::streams::{Drain, Source, is_interrupted};
+use tn_net::printing::{Lines, Prefix};
 use tn_nvt::Decoder;
-use tn_streams::{Drain, Source, is_interrupted};
 
 /// Reads one direction of a Telnet stream to its end, and writes a line for each item of it as soon as the
 /// line is complete, where data that follow one another are joined and then cut. Returns what is not printed:

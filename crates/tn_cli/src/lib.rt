@@ -9,19 +9,21 @@
 //! its words ask for.
 #![tactic(auto)]
 
+pub use crate::arguments::{
+    Address, Asked, Characters, ConnectWords, Escape, ServeWords, WordsFault, read_words,
+};
 pub use decode::run_decode;
 pub use fault::CliFault;
 pub use local::run_local;
 pub use replay::run_replay;
-pub use tn_roster::note;
-pub use tn_words::{
-    Address, Asked, Characters, ConnectWords, Escape, ServeWords, WordsFault, read_words,
-};
+pub use tn_session::roster::note;
 pub use unprinted::{Dropped, Left, Unprinted};
 pub use world::run_world;
 
+pub mod arguments;
 mod decode;
 mod fault;
+pub mod hosts;
 mod local;
 mod playing;
 mod printed;

@@ -3,13 +3,13 @@
 ghost use Rattle.std.specs.Prelude.{◌≡◌, ◌≤◌, [], vec_len, vec_capacity, IfErr, OnOk, OnErr};
 ghost use Rattle.tn_cli.specs.{Ends.{EndsByCalls, EndsLocal}, Streams.max_writes};
 ghost use Rattle.tn_cli.specs.Typing.{LeadsTo, PrintsKeys, PrintsKeysPrefix, max_printed};
-ghost use Rattle.tn_streams.specs.Telling.{HasFailed};
+ghost use Rattle.tn_cores.specs.streams.Telling.{HasFailed};
 
 use crate::fault::CliFault;
 use crate::streams::{read_whole, write_within};
 use crate::typing::Typing;
 use std::alloc::Global;
-use tn_streams::{Drain, Source};
+use tn_cores::streams::{Drain, Source};
 
 /// Reads all keys, types them at one line with standard settings, and writes the entries that they
 /// give, one a line. Nothing is written before the input has ended.

@@ -8,8 +8,8 @@ use crate::local::write_entries;
 use crate::streams::read_whole;
 use crate::typing::Typing;
 use std::alloc::{AllocError, Global};
+use tn_cores::streams::{Drain, Source};
 use tn_nvt::{Decoder, Item, Params, Refused, Sink};
-use tn_streams::{Drain, Source};
 
 /// Reads a client's byte stream to its end, types its data bytes and new lines as keys at one line with
 /// standard settings, and writes the entries that they give, one a line. Commands, option words and

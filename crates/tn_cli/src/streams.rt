@@ -3,13 +3,13 @@
 ghost use Rattle.std.specs.Prelude.{◌≡◌, ◌+◌, ◌-◌, ◌<◌, ◌≤◌, ◌≢◌, ℕ, List, length, vec_len, is_ok, IfOk};
 ghost use Rattle.std.specs.Prelude.{IfErr, IfSome, OnOk, OnErr, IsErrOf, Ok, Err, take, drop};
 ghost use Rattle.std.specs.Io.KnownBytes.{Consumes, IsAtEnd, Appends, Keeps};
-ghost use Rattle.tn_streams.specs.Telling.{AccountsFor, HasFailed, HasMade};
+ghost use Rattle.tn_cores.specs.streams.Telling.{AccountsFor, HasFailed, HasMade};
 ghost use Rattle.tn_cli.specs.Streams.{AppendsPrefix, IsReadFault, KeepsPiece, max_input, max_reads};
 ghost use Rattle.tn_cli.specs.Streams.{max_writes};
 
 use crate::fault::CliFault;
 use std::alloc::Global;
-use tn_streams::{Drain, Source, is_interrupted};
+use tn_cores::streams::{Drain, Source, is_interrupted};
 
 /// How long an input may be, in bytes.
 const MAX_BYTES: usize = 1_048_576;

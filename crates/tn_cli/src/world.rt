@@ -5,14 +5,14 @@ ghost use Rattle.tn_cli.specs.{Ends.{EndsByCalls, EndsWorld}, Scripts.lines_of, 
 ghost use Rattle.tn_cli.specs.Playing as play;
 ghost use Rattle.tn_world.specs.Opened.{IsOpened};
 
+use crate::arguments::{USUAL_HEIGHT, USUAL_WIDTH};
 use crate::fault::CliFault;
 use crate::playing::{Stop, play_line};
 use crate::scripts::parts;
 use crate::streams::{read_whole, write_whole};
 use std::alloc::{AllocError, Global};
+use tn_cores::streams::{Drain, Source};
 use tn_discipline::{Limit, Settings};
-use tn_streams::{Drain, Source};
-use tn_words::{USUAL_HEIGHT, USUAL_WIDTH};
 use tn_world::World;
 
 /// Reads a script of one command a line, runs it in a world that is opened with standard settings, and

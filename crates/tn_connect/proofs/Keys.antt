@@ -1,8 +1,8 @@
 -- What the bytes of a reader are as keys.
 use Rattle.std.proofs.Common.{◌≡◌, ℕ, true, false, Option, Some, None, List, [], ◌∷◌, option_map, refl, ap}
 use Rattle.tn_connect.specs.{Talks.{is_terminal, lines_in, plain_keyboard}, declared.settings.KeySource.{KeySource, TheVariants.{Reader, Input, Terminal}}}
-use Rattle.tn_sockets.proofs.Sorting.{none_mapped}
-use Rattle.tn_sockets.specs.{PlainKeys.{keys_left, keys_typed}, Prompting.closed, Typing.of_bytes}
+use Rattle.tn_net.proofs.Sorting.{none_mapped}
+use Rattle.tn_net.specs.{PlainKeys.{keys_left, keys_typed}, Prompting.closed, Typing.of_bytes}
 
 all_are_keys : (bytes : List ℕ) → keys_typed of_bytes closed bytes ≡ bytes
 unfolding keys_typed

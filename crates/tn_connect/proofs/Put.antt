@@ -2,11 +2,10 @@
 use Rattle.std.proofs.Common.{◌≡◌, ℕ, List, [], Option, Some, None, Result, Ok, Err, IfOk, subst, sym}
 use Rattle.crossbeam_channel.specs.Claims.{view}
 use Rattle.tn_connect.specs.{Clients.{RunsClient, RunsWriting}, declared.connected.Connected.Connected}
-use Rattle.tn_machines.specs.declared.faults.SessionFault.{SessionFault}
-use Rattle.tn_queue.specs.Queue.{putter}
+use Rattle.tn_cores.specs.{declared.faults.SessionFault.SessionFault, queue.Queue.putter, streams.Beside.no_words}
+use Rattle.tn_cores.specs.streams.Known.{KnownReader, KnownTyping, KnownWriting}
 use Rattle.tn_session.specs.{Client.RunningClient, Facts.{Window, client_result}, declared.parties.{ClientPorts.ClientPorts, Report.Report}}
-use Rattle.tn_sockets.specs.Queue.{PieceHand, PiecePass, put_bytes}
-use Rattle.tn_streams.specs.{Beside.no_words, Known.{KnownReader, KnownTyping, KnownWriting}}
+use Rattle.tn_net.specs.Queue.{PieceHand, PiecePass, put_bytes}
 
 abbrev pub writing : Option (List ℕ) → Option (List ℕ) → KnownWriting
 writing old new = record { before = record { bytes = old; calls = None }; after = record { bytes = new; calls = None } }

@@ -5,11 +5,11 @@ use Rattle.crossbeam_channel.specs.Claims.{view}
 use Rattle.tn_connect.specs.{Faults.IsToldAs, declared.connected.Connected.Connected, Texts.with_text}
 use Rattle.tn_connect.specs.declared.{fault.ConnectFault.ConnectFault, settings.Connecting.Connecting}
 use Rattle.tn_connect.specs.declared.settings.KeySource.{KeySource, TheVariants.{Reader, Input, Terminal}}
-use Rattle.tn_sockets.specs.{Typing.of_bytes, declared.escaping.Keyboard.Keyboard, Queue.put_bytes}
-use Rattle.tn_sockets.specs.declared.returns.ReturnKey.{ReturnKey, TheVariants.CrNul}
+use Rattle.tn_net.specs.{Typing.of_bytes, declared.escaping.Keyboard.Keyboard, Queue.put_bytes}
+use Rattle.tn_net.specs.declared.returns.ReturnKey.{ReturnKey, TheVariants.CrNul}
 use Rattle.tn_session.specs.{Client.RunningClient, Facts.{Window, client_result}}
 use Rattle.tn_session.specs.declared.parties.{ClientPorts.ClientPorts, Report.Report}
-use Rattle.tn_streams.specs.{Beside.no_words, Known.KnownTyping}
+use Rattle.tn_cores.specs.streams.{Beside.no_words, Known.KnownTyping}
 
 abbrev pub window_of : Connecting → Window
 window_of connecting =

@@ -2,9 +2,9 @@
 use Rattle.std.specs.Prelude.{◌≡◌, IsTrue, Ok, Some, []}
 use Rattle.crossbeam_channel.specs.Claims.{view}
 use Rattle.tn_connect.specs.declared.{connected.Connected.Connected, sending.Delivered.Delivered}
-use Rattle.tn_queue.specs.Queue.{taker}
-use Rattle.tn_sockets.specs.{Logs.logged, Queue.put_bytes, declared.sending.Sent.TheVariants.Whole}
-use Rattle.tn_sockets.specs.Queue.{IsSeatIn, IsSent, PieceKey, PieceTable, WritesTaken, WritesToTheEnd}
+use Rattle.tn_cores.specs.queue.Queue.{taker}
+use Rattle.tn_net.specs.{Logs.logged, declared.sending.Sent.TheVariants.Whole}
+use Rattle.tn_net.specs.Queue.{put_bytes, IsSeatIn, IsSent, PieceKey, PieceTable, WritesTaken, WritesToTheEnd}
 
 -- what was taken from the queue with this table and this key was written to the connection
 pub record IsDelivered (table : PieceTable) (key : PieceKey) (delivered : Delivered) : Type 0 where

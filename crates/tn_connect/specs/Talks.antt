@@ -3,8 +3,8 @@ use Rattle.std.specs.Prelude.{◌≡◌, ◌≢◌, ℕ, Bool, true, false, Opti
 use Rattle.std.specs.declared.net.tcp.TcpStream.{TcpStream}
 use Rattle.tn_connect.specs.declared.settings.KeySource.{KeySource, TheVariants.{Reader, Input, Terminal}}
 use Rattle.tn_connect.specs.{declared.talks.TalkReport.TalkReport, Warnings.count_in}
-use Rattle.tn_sockets.specs.{Typing.of_bytes, Logs.logged}
-use Rattle.tn_sockets.specs.declared.{escaping.Keyboard.Keyboard, returns.ReturnKey.TheVariants.CrNul}
+use Rattle.tn_net.specs.{Typing.of_bytes, Logs.logged, declared.escaping.Keyboard.Keyboard}
+use Rattle.tn_net.specs.declared.returns.ReturnKey.TheVariants.{CrNul}
 use Rattle.tn_lines.specs.{Logs.bytes_in, Openings.{negotiates, warnings_if}, Talking.{Talked, streams}}
 use Rattle.tn_lines.specs.declared.{line_ends.LineEnd.LineEnd, talk.Over.TheVariants.{Closed, Broken}}
 

@@ -2,7 +2,7 @@
 //! a value in it may be cut.
 
 use std::io::Write;
-use tn_sockets::Link;
+use tn_net::Link;
 
 /// Notes this line.
 pub(crate) fn note(causes: &mut Vec<u8>, line: &[u8]) {

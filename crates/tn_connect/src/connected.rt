@@ -2,8 +2,8 @@
 
 use std::net::TcpStream;
 use std::snapshot::Snapshot;
+use tn_net::{PiecePass, WriteLog};
 use tn_session::{ClientPorts, Report};
-use tn_sockets::{PiecePass, WriteLog};
 
 /// A client's session over a connection that ended without a fault.
 #[derive(Drop)]

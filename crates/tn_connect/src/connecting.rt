@@ -6,12 +6,9 @@ ghost use Rattle.crossbeam_channel.specs.{Claims.view, Ends.sends_on};
 ghost use Rattle.tn_connect.specs.Clients.{ConnectsBy, RunsClient, RunsWriting, connection_of, foreseen};
 ghost use Rattle.tn_connect.specs.{Clients.{keyboard_of, text_by, window_of}, Faults.IsOfNetwork};
 ghost use Rattle.tn_connect.specs.Sent.{TookWhatWasWritten};
-ghost use Rattle.tn_machines.specs.Ending.{EndsWhole};
-ghost use Rattle.tn_network.specs.{Asked.ReachesBy, Dialing.suits};
-ghost use Rattle.tn_queue.specs.Queue.{putter};
-ghost use Rattle.tn_sockets.specs.{Ends.IsNew, Logs.logged, Queue.{IsNamed, IsSent, put_bytes}};
-ghost use Rattle.tn_sockets.specs.declared.sending.Sent.TheVariants.{Whole};
-ghost use Rattle.tn_streams.specs.Known.{known_typing};
+ghost use Rattle.tn_cores.specs.{Ending.EndsWhole, queue.Queue.putter, streams.Known.known_typing};
+ghost use Rattle.tn_net.specs.{network.{Asked.ReachesBy, Dialing.suits}, Ends.IsNew, Logs.logged};
+ghost use Rattle.tn_net.specs.{Queue.{IsNamed, IsSent, put_bytes}, declared.sending.Sent.TheVariants.Whole};
 
 use crate::causes::{note, note_log, note_unsent};
 use crate::connected::Connected;
@@ -32,14 +29,14 @@ use std::snapshot::Snapshot;
 use std::sync::Arc;
 use std::sync::atomic::AtomicBool;
 use std::time::Duration;
-use tn_network::{Network, reach_by};
-use tn_session::{ClientPorts, Ended, Report, SessionFault, client_session};
-use tn_sockets::{
+use tn_cores::streams::{Drain, Source};
+use tn_net::network::{Network, reach_by};
+use tn_net::{
     Connection, Console, Host, Incoming, Keyboard, Keys, LineKeys, LineMode, Link, Logged,
     NewQueue, Outgoing, PiecePass, Queue, ReturnKey, Sent, Sizes, Terminal, Throttle, Trace,
     Typing, WriteLog, new_queue,
 };
-use tn_streams::{Drain, Source};
+use tn_session::{ClientPorts, Ended, Report, SessionFault, client_session};
 
 /// After how many milliseconds a write that waits looks whether the user has left.
 const WRITE_LOOK: u64 = 100;

@@ -15,10 +15,8 @@ pub use news::News;
 pub use settings::{ClientContext, Connecting, KeySource, Plain};
 pub use talks::{TalkReport, connect_plain};
 pub use tn_lines::{LineEnd, Over, ReadLog};
-pub use tn_network::{Dialing, Family};
-pub use tn_sockets::{
-    EditKeys, EditorSettings, Host, Link, OwnCharacters, ReturnKey, Screen, Words,
-};
+pub use tn_net::network::{Dialing, Family};
+pub use tn_net::{EditKeys, EditorSettings, Host, Link, OwnCharacters, ReturnKey, Screen, Words};
 pub use warnings::Warnings;
 
 mod causes;

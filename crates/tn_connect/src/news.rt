@@ -7,8 +7,8 @@ use std::fs::File;
 use std::io::Write;
 use std::net::SocketAddr;
 use std::os::fd::AsRawFd;
-use tn_network::Trying;
-use tn_streams::{Drain, write_all};
+use tn_cores::streams::{Drain, write_all};
+use tn_net::network::Trying;
 
 /// The line that says that a connection stands: ACK and a line feed.
 const STANDS: &[u8] = b"\x06\n";

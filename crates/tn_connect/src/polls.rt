@@ -11,9 +11,9 @@ use libc::types::pollfd;
 use std::mem;
 use std::sync::Wait;
 use std::time::{Clock, Instant};
+use tn_cores::streams::{Drain, write_all};
 use tn_lines::{Await, Ready, Wants};
-use tn_sockets::Link;
-use tn_streams::{Drain, write_all};
+use tn_net::Link;
 
 /// The descriptor of standard input (POSIX, `STDIN_FILENO`).
 const STANDARD_INPUT: i32 = 0;

@@ -3,8 +3,8 @@
 use std::alloc::{AllocError, Global};
 use std::sync::Arc;
 use tn_discipline::Chars;
+use tn_net::Link;
 use tn_session::{Gate, Origin, Place, Terms};
-use tn_sockets::Link;
 
 /// Notes what the client's core tells, after each message.
 #[derive(Drop)]

@@ -3,14 +3,14 @@
 ghost use Rattle.std.specs.Prelude.{◌≡◌, []};
 ghost use Rattle.crossbeam_channel.specs.Claims.{view};
 ghost use Rattle.tn_connect.specs.Sent.{IsDelivered};
-ghost use Rattle.tn_queue.specs.Queue.{taker};
-ghost use Rattle.tn_sockets.specs.Logs.{logged};
+ghost use Rattle.tn_cores.specs.queue.Queue.{taker};
+ghost use Rattle.tn_net.specs.Logs.{logged};
 
 use std::marker::PhantomData;
 use std::net::TcpStream;
 use std::thread::{Promise, PromisedHandle};
 use std::{io, thread};
-use tn_sockets::{Connection, Host, Logged, PiecePass, Queue, Sending, Sent, WriteLog};
+use tn_net::{Connection, Host, Logged, PiecePass, Queue, Sending, Sent, WriteLog};
 
 /// What sends over a connection, and has sent nothing yet.
 #[derive(Drop)]

@@ -6,8 +6,8 @@ use std::fs::File;
 use std::sync::Arc;
 use tn_discipline::Limit;
 use tn_lines::LineEnd;
-use tn_network::Dialing;
-use tn_sockets::{EditorSettings, Link, OwnCharacters, ReturnKey};
+use tn_net::network::Dialing;
+use tn_net::{EditorSettings, Link, OwnCharacters, ReturnKey};
 
 /// Where the keys of a client come from.
 #[derive(Clone, Copy, PartialEq, Eq)]

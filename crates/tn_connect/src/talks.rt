@@ -3,7 +3,7 @@
 ghost use Rattle.std.specs.Prelude.{◌≡◌, ◌≢◌, IfOk, Ok};
 ghost use Rattle.tn_connect.specs.{Clients.ConnectsBy, Talks.{RunsTalk, is_terminal}, Warnings.count_in};
 ghost use Rattle.tn_connect.specs.Talks.{plain_keyboard, talked_over, HeardToTheEnd, HoldsTalk, HoldsTyped};
-ghost use Rattle.tn_network.specs.{Asked.ReachesBy, Dialing.suits};
+ghost use Rattle.tn_net.specs.network.{Asked.ReachesBy, Dialing.suits};
 
 use crate::causes::{note, note_log, note_unsent};
 use crate::fault::ConnectFault;
@@ -19,13 +19,13 @@ use std::os::fd::AsRawFd;
 use std::snapshot::Snapshot;
 use std::sync::Wait;
 use std::time::Clock;
+use tn_cores::streams::{Drain, Finish, Source};
 use tn_lines::{Over, ReadLog, Talk, TalkFault};
-use tn_network::{Network, reach_by};
-use tn_sockets::{
+use tn_net::network::{Network, reach_by};
+use tn_net::{
     About, Connection, Host, Keyboard, LineSettings, Link, Logged, Noted, NotedWriter, PlainKeys,
     PlainLines, ReturnKey, Sizes, Terminal, Trace, WriteLog,
 };
-use tn_streams::{Drain, Finish, Source};
 
 /// A talk that is over. In its logs contracts see all that was typed, said and told, and each warning.
 #[derive(Drop)]

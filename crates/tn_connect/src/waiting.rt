@@ -1,7 +1,7 @@
 //! Keys whose end is told late, so that a server that hangs up at it has time to answer.
 
 ghost use Rattle.std.specs.{Prelude.{◌≡◌, None}, Io.{ReadsAtMost, KnownBytes.ReadConsumes}};
-ghost use Rattle.tn_streams.specs.Beside.{TellsNext};
+ghost use Rattle.tn_cores.specs.streams.Beside.{TellsNext};
 
 use std::alloc::Global;
 use std::io;
@@ -9,8 +9,8 @@ use std::io::{ErrorKind, Read};
 use std::sync::atomic::{AtomicBool, Ordering};
 use std::sync::{Arc, Wait};
 use std::time::Clock;
-use tn_sockets::Link;
-use tn_streams::{Source, WindowSize, nothing_to_say};
+use tn_cores::streams::{Source, WindowSize, nothing_to_say};
+use tn_net::Link;
 
 /// After how many milliseconds it is looked whether more can come, and how often that is in a second.
 pub(crate) const LOOK: u16 = 200;

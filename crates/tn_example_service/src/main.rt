@@ -9,8 +9,8 @@ use std::env;
 use std::io::Write;
 use std::process::ExitCode;
 use tn_discipline::Text;
+use tn_serve::services::{Greeted, Greeting};
 use tn_serve::{At, Call, Finished, Hook, Host, Never, Service, Serving, serve};
-use tn_services::{Greeted, Greeting};
 use tn_session::Maker;
 
 mod greeter;

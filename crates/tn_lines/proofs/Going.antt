@@ -5,7 +5,7 @@ use Rattle.std.specs.Io.KnownBytes.{Appends, Consumes, Keeps}
 use Rattle.tn_lines.specs.{Edges.{HasShown, at_screen}, Said.{LeadsTo, said_of}, Logs.bytes_in, declared.{line_ends.LineEnd.LineEnd, talk.Talk.Talk}}
 use Rattle.tn_lines.specs.Talking.{Begins, Streams, streams, Leads, LeadsBy, GoesOn, TypesKeys, ShowsBytes}
 use Rattle.tn_lines.proofs.{FirstBytes.{rises_more, rises_none}, Writing.{consumes_more, consumes_kept, consumes_none}}
-use Rattle.tn_streams.proofs.lemmas.Writing.{appends_more, appends_kept, appends_none}
+use Rattle.tn_cores.proofs.lemmas.streams.Writing.{appends_more, appends_kept, appends_none}
 
 -- the logs name these keys and these bytes
 named : (e : LineEnd) (at : Bool) (first last : Streams) (talk : Talk) (all seen : List ℕ) → bytes_in talk.typed ≡ all → bytes_in talk.heard ≡ seen

@@ -2,7 +2,7 @@
 use Rattle.std.specs.Prelude.{◌≡◌, ◌<◌, ◌≤◌, ◌⊎◌, ⊤, ℕ, Bool, true, false, IsTrue, List, Option, Some, None}
 use Rattle.std.specs.Io.KnownBytes.{IsAtEnd}
 use Rattle.tn_lines.specs.declared.talk.Over.{Over, TheVariants.{Closed, Broken, Left, Asked}}
-use Rattle.tn_streams.specs.{Foretelling.Failures, Telling.Calls}
+use Rattle.tn_cores.specs.streams.{Foretelling.Failures, Telling.Calls}
 
 -- the talk is over, since the connection is broken
 abbrev pub has_broken : Option Over → Bool

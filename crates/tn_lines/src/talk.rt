@@ -18,7 +18,7 @@ use std::alloc::Global;
 use std::io;
 use std::io::ErrorKind;
 use std::sync::Wait;
-use tn_streams::{Drain, Finish, Source, is_interrupted, write_all};
+use tn_cores::streams::{Drain, Finish, Source, is_interrupted, write_all};
 
 /// How many bytes one read asks for.
 const PIECE_BYTES: usize = 4_096;

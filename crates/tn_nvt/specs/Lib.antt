@@ -1,6 +1,7 @@
 pub mod Spelling
 pub mod Stream
 pub mod Feeding
+pub mod Prefixes
 pub mod Sinks
 pub mod Machine
 pub mod Runs

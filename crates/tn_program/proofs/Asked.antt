@@ -1,8 +1,8 @@
 -- It is served as was asked for.
 use Rattle.std.proofs.Common.{◌≡◌, ◌≤◌, ◌∙◌, inl, inr, ℕ, List, Option, Some, None, Result, Ok, Err, IfOk, IfSome, IsErrAnd, option_map, string_bytes, subst}
 use Rattle.std.specs.declared.net.tcp.TcpStream.{TcpStream}
-use Rattle.tn_services.specs.declared.{answerers.Answerers.Answerers, cutting.LineFormat.LineFormat, dialing.Joiner.Joiner}
-use Rattle.tn_serve.specs.{Ends.{IfAny, ServesUntil}, Counted.{CountsSessions, server_of}, declared.{fault.ServeFault.ServeFault, served.Served.Served}}
+use Rattle.tn_serve.specs.{declared.services.{answerers.Answerers.Answerers, cutting.LineFormat.LineFormat, dialing.Joiner.Joiner}, Ends.{IfAny, ServesUntil}}
+use Rattle.tn_serve.specs.{Counted.{CountsSessions, server_of}, declared.{fault.ServeFault.ServeFault, served.Served.Served}}
 use Rattle.tn_serve.specs.declared.{fault.ServeFault.TheVariants.{Network, Memory, Limit}, settings.SessionOptions.SessionOptions}
 use Rattle.tn_program.specs.{declared.watching.AtFile.AtFile, Settings.{AnswersAsAsked, JoinsAsAsked, UnlessMemory}}
 use Rattle.tn_session.specs.Facts.{JobFacts}

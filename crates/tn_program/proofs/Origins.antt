@@ -2,7 +2,7 @@
 use Rattle.std.proofs.Common.{◌≡◌, ℕ, Bool, List, Option, refl}
 use Rattle.tn_connect.specs.{Clients.foreseen, declared.settings.KeySource.{KeySource, TheVariants.{Reader, Input, Terminal}}}
 use Rattle.tn_program.specs.Settings.{origin_as}
-use Rattle.tn_words.specs.declared.settings.Characters.{Characters, TheVariants.{Own, Standard}}
+use Rattle.tn_cli.specs.declared.arguments.settings.Characters.{Characters, TheVariants.{Own, Standard}}
 
 pub foreseen_as : (characters : Characters) (origin : KeySource) (text : Bool) (bytes : Option (List ℕ))
     → foreseen (origin_as characters origin) text bytes ≡ foreseen origin text bytes

@@ -1,7 +1,7 @@
 -- One place more to listen at.
 use Rattle.std.proofs.{Common.{◌≡◌, ◌<◌, ◌+◌, ℕ, List, [], ◌∷◌, ◌++◌, None, length, map, take, get_or, ap, ap₂, sym, ◌∙◌}, lemmas.List.{map-append, take_more}}
 use Rattle.std.specs.Borrow.{Bor}
-use Rattle.tn_network.specs.Asked.{Place}
+use Rattle.tn_net.specs.network.Asked.{Place}
 use Rattle.tn_program.specs.Settings.{places_at}
 use Rattle.tn_serve.specs.{Causes.place_at, declared.listening.At.At}
 

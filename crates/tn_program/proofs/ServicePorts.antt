@@ -1,7 +1,7 @@
 -- The port of a service.
 use Rattle.std.proofs.Common.{ℕ}
 use Rattle.tn_program.specs.Ports.{IsPort, IsService}
-use Rattle.tn_words.specs.declared.settings.Port.{Port, TheVariants.{Number, Service}}
+use Rattle.tn_cli.specs.declared.arguments.settings.Port.{Port, TheVariants.{Number, Service}}
 
 -- which one it is, is not said
 pub any_port : (asked : Port) (port : ℕ) → IsService asked → IsPort asked port

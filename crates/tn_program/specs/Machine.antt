@@ -2,9 +2,9 @@
 use Rattle.std.specs.{Prelude.{ℕ, List, Option, Result}, Net.ToAddrs.HostAddrs, declared.io.Error.Error}
 use Rattle.std.specs.declared.net.{socket_addr.SocketAddr.SocketAddr, tcp.TcpListener.TcpListener}
 use Rattle.std.specs.declared.net.tcp.TcpStream.{TcpStream}
-use Rattle.tn_network.specs.{Asked.{Asking, asking}, declared.peers.Peer.Peer}
+use Rattle.tn_net.specs.{network.Asked.{Asking, asking}, declared.network.peers.Peer.Peer}
 use Rattle.tn_serve.specs.declared.served.Served.{Served}
-use Rattle.tn_words.specs.declared.settings.ServeWords.{ServeWords}
+use Rattle.tn_cli.specs.declared.arguments.settings.ServeWords.{ServeWords}
 
 -- What is known of one machine: what each call of its network gives evidence of, at which paths a file was
 -- seen, and what its servers may count.

@@ -1,8 +1,9 @@
 -- What comes of the words of a command line.
 use Rattle.std.specs.Prelude.{◌≡◌, ◌≢◌, ◌⊎◌, ⊤, ℕ, Option, Some, None, Result, Err, OnOk, OnErr, IfOk, IfErr}
 use Rattle.std.specs.{Prelude.{IsErrOf, List, codes, option_map, string_bytes}, Io.KnownBytes.Appends}
-use Rattle.tn_cli.specs.Ends.{EndsDecode, EndsLocal, EndsReplay, EndsWorld}
-use Rattle.tn_cli.specs.declared.fault.CliFault.{CliFault}
+use Rattle.tn_cli.specs.{Ends.{EndsDecode, EndsLocal, EndsReplay, EndsWorld}, arguments.Ranges.IsWithinRanges}
+use Rattle.tn_cli.specs.declared.{fault.CliFault.CliFault, arguments.settings.ConnectWords.ConnectWords}
+use Rattle.tn_cli.specs.declared.arguments.{settings.ServeWords.ServeWords, words.Asked.Asked}
 use Rattle.tn_cli.specs.declared.fault.CliFault.TheVariants as fault
 use Rattle.tn_connect.specs.Clients.{ConnectsBy, RunsClient, connection_of, foreseen}
 use Rattle.tn_connect.specs.{Talks.{RunsTalk, talked_over}, declared.connected.Connected.Connected}
@@ -13,17 +14,13 @@ use Rattle.tn_lines.specs.declared.line_ends.LineEnd.{LineEnd}
 use Rattle.tn_serve.specs.{Causes.FailsBy, Ends.{IfAny, ServesUntil}, declared.fault.ServeFault.ServeFault}
 use Rattle.tn_serve.specs.declared.served.Served.{Served}
 use Rattle.tn_serve.specs.declared.fault.ServeFault.TheVariants as serve
-use Rattle.tn_machines.specs.Ending.{EndsWhole}
-use Rattle.tn_network.specs.{Asked.{Listens, ReachesBy, at_place}, Dialing.suits}
+use Rattle.tn_cores.specs.{Ending.EndsWhole, streams.Known.KnownTyping}
+use Rattle.tn_net.specs.network.{Asked.{Listens, ReachesBy, at_place}, Dialing.suits}
 use Rattle.tn_program.specs.{Machine.Machine, Ports.{IsPort, IsUnknown}, declared.outcome.Outcome.Outcome}
 use Rattle.tn_program.specs.{Statuses.status_of, Settings.{UnlessMemory, count_as, origin_as, places_as, window_as}}
 use Rattle.tn_program.specs.declared.outcome.Outcome.TheVariants as outcome
-use Rattle.tn_roster.specs.Held.{IsLimit}
-use Rattle.tn_streams.specs.Known.{KnownTyping}
-use Rattle.tn_words.specs.Ranges.{IsWithinRanges}
-use Rattle.tn_words.specs.declared.settings.{ConnectWords.ConnectWords, ServeWords.ServeWords}
-use Rattle.tn_words.specs.declared.words.Asked.{Asked}
-use Rattle.tn_words.specs.declared.words.Asked.TheVariants as asked
+use Rattle.tn_session.specs.roster.Held.{IsLimit}
+use Rattle.tn_cli.specs.declared.arguments.words.Asked.TheVariants as asked
 
 -- What came of serving.
 pub record EndsServing (machine : Machine) (serving : ServeWords) (ended : Result Served ServeFault)

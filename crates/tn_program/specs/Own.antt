@@ -2,7 +2,7 @@
 use Rattle.std.specs.Prelude.{ℕ, nat_eq, Option, Some, None, List, option_map, slice_index, if◌then◌else◌}
 use Rattle.std.specs.Result.{result_ok}
 use Rattle.hex.specs.Hex.{decode_sized}
-use Rattle.tn_sockets.specs.declared.own_characters.OwnCharacters.{OwnCharacters}
+use Rattle.tn_net.specs.declared.own_characters.OwnCharacters.{OwnCharacters}
 
 -- 0 stands for a character that is disabled (POSIX.1-2017, XBD 11.1.9, _POSIX_VDISABLE)
 abbrev pub character_as : ℕ → Option ℕ

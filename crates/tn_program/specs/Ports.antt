@@ -1,7 +1,7 @@
 -- The port that is asked for.
 use Rattle.std.specs.Prelude.{◌≡◌, ⊤, ℕ, Result, Err}
 use Rattle.tn_connect.specs.declared.fault.ConnectFault.{ConnectFault, TheVariants.Network}
-use Rattle.tn_words.specs.declared.settings.Port.{Port, TheVariants.{Number, Service}}
+use Rattle.tn_cli.specs.declared.arguments.settings.Port.{Port, TheVariants.{Number, Service}}
 
 -- the port has this number; which one a service has, a file of the machine says
 abbrev pub IsPort : Port → ℕ → Type 0

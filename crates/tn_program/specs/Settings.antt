@@ -3,21 +3,21 @@ use Rattle.std.specs.Prelude.{◌≡◌, ◌||◌, ◌&&◌, not, is_some, ◌/�
 use Rattle.std.specs.Prelude.{Some, IsSome, unwrap_or, Result, List, [], ◌∷◌, map, codes, eqb, nat_eq, Ok}
 use Rattle.std.specs.Prelude.{if◌then◌else◌, Err, string_bytes, vec_items}
 use Rattle.std.specs.{List.{list_all, starts_with}, Str.bytes_eq}
-use Rattle.tn_network.specs.Asked.{Place, names_path}
-use Rattle.tn_services.specs.declared.{answerers.Answerers.Answerers, cutting.LineFormat.LineFormat}
-use Rattle.tn_services.specs.declared.dialing.Joiner.{Joiner}
-use Rattle.tn_serve.specs.declared.{fault.ServeFault.ServeFault, settings.SessionOptions.SessionOptions}
+use Rattle.tn_net.specs.{network.Asked.{Place, names_path}, Mapping.none_own}
+use Rattle.tn_net.specs.declared.returns.ReturnKey.{ReturnKey, TheVariants.{CrNul, CrLf, Lf}}
+use Rattle.tn_serve.specs.declared.services.{answerers.Answerers.Answerers, cutting.LineFormat.LineFormat}
+use Rattle.tn_serve.specs.declared.{services.dialing.Joiner.Joiner, fault.ServeFault.ServeFault}
+use Rattle.tn_serve.specs.declared.settings.SessionOptions.{SessionOptions}
 use Rattle.tn_serve.specs.declared.fault.ServeFault.TheVariants.{Network, Memory, Limit as BadLimit}
 use Rattle.tn_connect.specs.declared.settings.KeySource.{KeySource, TheVariants.{Reader, Input, Terminal}}
-use Rattle.tn_sockets.specs.{Mapping.none_own, declared.returns.ReturnKey.ReturnKey}
-use Rattle.tn_sockets.specs.declared.returns.ReturnKey.TheVariants.{CrNul, CrLf, Lf}
 use Rattle.tn_server.specs.declared.wishes.Editing.{Editing, TheVariants.{Local, Remote}}
 use Rattle.tn_session.specs.Facts.{Window}
-use Rattle.tn_words.specs.declared.settings.Characters.{Characters, TheVariants.{Own, Standard}}
-use Rattle.tn_words.specs.declared.settings.{ConnectWords.ConnectWords, Escape.Escape, ServeWords.ServeWords}
-use Rattle.tn_words.specs.declared.settings.{Mode.{Mode, TheVariants.{Auto, Char}}, ReturnBytes.{ReturnBytes}}
-use Rattle.tn_words.specs.declared.settings.Escape.TheVariants as escape
-use Rattle.tn_words.specs.declared.settings.ReturnBytes.TheVariants as bytes
+use Rattle.tn_cli.specs.declared.arguments.settings.Characters.{Characters, TheVariants.{Own, Standard}}
+use Rattle.tn_cli.specs.declared.arguments.settings.{ConnectWords.ConnectWords, Escape.Escape, Mode.Mode}
+use Rattle.tn_cli.specs.declared.arguments.settings.{ServeWords.ServeWords, Mode.TheVariants.{Auto, Char}}
+use Rattle.tn_cli.specs.declared.arguments.settings.ReturnBytes.{ReturnBytes}
+use Rattle.tn_cli.specs.declared.arguments.settings.Escape.TheVariants as escape
+use Rattle.tn_cli.specs.declared.arguments.settings.ReturnBytes.TheVariants as bytes
 
 abbrev pub editing_as : Bool → Editing
 editing_as true = Local

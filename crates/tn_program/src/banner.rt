@@ -7,7 +7,7 @@ use std::fs::{File, Files};
 use std::io;
 use std::io::{ErrorKind, Read, Write};
 use std::sync::Arc;
-use tn_words::ServeWords;
+use tn_cli::arguments::ServeWords;
 
 /// How many bytes such a file has at most.
 const MOST_BYTES: u64 = 65_536;

@@ -2,9 +2,9 @@
 
 use crate::serving::Noting;
 use tn_jobs::Job;
-use tn_network::Network;
+use tn_net::network::Network;
 use tn_serve::Host;
-use tn_services::{
+use tn_serve::services::{
     Answerer, Answerers, Gateway, Heard, Joiner, ServiceReader, ServiceWriter, Told,
 };
 use tn_session::Maker;
@@ -13,7 +13,7 @@ use tn_session::Maker;
 /// words.
 pub trait Serves {
     ghost use Rattle.tn_serve.specs.declared.served.Served.{Served};
-    ghost use Rattle.tn_words.specs.declared.settings.ServeWords.{ServeWords};
+    ghost use Rattle.tn_cli.specs.declared.arguments.settings.ServeWords.{ServeWords};
 
     // each session that it counts is one that the words ask for
     ghost serves: { Self → ServeWords → Served → Type 0 };

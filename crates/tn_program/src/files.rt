@@ -9,9 +9,9 @@ use std::io::Write;
 use std::os::unix::fs::OpenOptionsExt;
 use std::sync::Wait;
 use std::{fs, io};
+use tn_cli::arguments::ConnectWords;
 use tn_connect::Link;
-use tn_sockets::{ClientFiles, PRIVATE, is_device, open_device};
-use tn_words::ConnectWords;
+use tn_net::{ClientFiles, PRIVATE, is_device, open_device};
 
 /// The file that gets the trace, if one is wanted. If it can't be made, that is noted.
 pub(crate) fn open_trace<H: Files<File = File>>(

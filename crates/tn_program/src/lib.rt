@@ -23,7 +23,7 @@ pub use serving::{Joining, Noting};
 pub use settings::Answering;
 pub use streams::Streams;
 pub use tn_connect::{EditorSettings, KeySource, Link, OwnCharacters, Screen};
-pub use tn_network::Network;
+pub use tn_net::network::Network;
 pub use watching::Lookout;
 
 mod banner;

@@ -9,8 +9,8 @@ use std::alloc::{AllocError, Global};
 use std::fmt::Display;
 use tn_cli::{CliFault, Dropped, Left, Unprinted};
 use tn_connect::{ConnectFault, Connected, Over, TalkReport};
+use tn_cores::streams::{Drain, write_all};
 use tn_serve::{ServeFault, Served};
-use tn_streams::{Drain, write_all};
 
 /// The status of a process whose words were not accepted.
 const USAGE: u8 = 2;

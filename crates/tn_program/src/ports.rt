@@ -7,7 +7,7 @@ use std::alloc::Global;
 use std::fs::{File, Files};
 use std::io::{Read, Write};
 use std::{io, str};
-use tn_words::Port;
+use tn_cli::arguments::Port;
 
 /// The services of this machine, one a line: a name, a port with its protocol, and other names (services(5)).
 const SERVICES: &str = "/etc/services";

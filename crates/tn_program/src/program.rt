@@ -3,7 +3,7 @@
 ghost use Rattle.std.specs.Prelude.{◌≡◌, ◌≢◌, ℕ, List, None, Option, Some, IfErr, IfOk, IsOk, OnErr};
 ghost use Rattle.std.specs.IoError.{error_kind};
 ghost use Rattle.tn_program.specs.{Machine.machine_of, Outcomes.{ComesOf, ComesOfNoRun, ComesOfRun, EndsVersion, EndsWith}};
-ghost use Rattle.tn_words.specs.Ranges.{IsWithinRanges};
+ghost use Rattle.tn_cli.specs.arguments.Ranges.{IsWithinRanges};
 
 use crate::banner::read_banner;
 use crate::counting::Serves;
@@ -19,14 +19,16 @@ use std::alloc::{AllocError, Global};
 use std::fs::{File, Files};
 use std::io;
 use std::io::{ErrorKind, Read, Write};
+use tn_cli::arguments::{
+    Asked, ConnectWords, LineEnd, ServeWords, VERSION_LINE, WordsFault, read_words,
+};
 use tn_cli::{CliFault, run_decode, run_local, run_replay, run_world};
 use tn_connect::{ClientContext, ConnectFault, Host, KeySource, News, connect, connect_plain};
-use tn_network::Network;
-use tn_streams::Drain;
-use tn_words::{Asked, ConnectWords, LineEnd, ServeWords, VERSION_LINE, WordsFault, read_words};
+use tn_cores::streams::Drain;
+use tn_net::network::Network;
 
 /// Runs what the words of the command line ask for, if they could be read. The program's name is the first of
-/// them; a host of the user's own file is no longer among them, but what it stands for (`tn_hosts`). Returns
+/// them; a host of the user's own file is no longer among them, but what it stands for (`tn_cli::hosts`). Returns
 /// the status to end with: 0 if that was done, and else the status of its fault (`EndsWith`). A fault is one
 /// line on `errors`, followed by what is wrong with words, or why; what cannot be written is dropped. Of
 /// streams at standard input nothing is known beforehand.

@@ -3,9 +3,9 @@
 ghost use Rattle.std.specs.Prelude.{◌≡◌, [], Some, IfOk, IfSome, IsErrOf, None, map, option_map, string_bytes};
 ghost use Rattle.std.specs.Prelude.{vec_items};
 ghost use Rattle.tn_serve.specs.{Causes.{FailsBy, place_at}, Ends.{IfAny, ServesUntil}};
-ghost use Rattle.tn_network.specs.Asked.{Listens, at_place};
+ghost use Rattle.tn_net.specs.network.Asked.{Listens, at_place};
 ghost use Rattle.tn_program.specs.Settings.{UnlessMemory, count_as, places_as, places_at};
-ghost use Rattle.tn_roster.specs.Held.{IsLimit};
+ghost use Rattle.tn_session.specs.roster.Held.{IsLimit};
 
 use crate::counting::Serves;
 use crate::metrics::{Counting, Counts, Replacing};
@@ -15,19 +15,19 @@ use crate::watching::{AtFile, Lookout};
 use log::{Log, Logged};
 use std::alloc::{AllocError, Global};
 use std::sync::{Arc, Wait};
-use tn_network::Network;
-use tn_serve::{At, Call, Finished, Host, NoteWriter, Notes, ServeFault, Served, Service, serve};
-use tn_services::{
+use tn_net::network::Network;
+use tn_serve::services::{
     Gateway, Greets, Heard, HearsCut, HearsTelnet, Joiner, LineFormat, ServiceReader,
     ServiceWriter, Told,
 };
+use tn_serve::{At, Call, Finished, Host, NoteWriter, Notes, ServeFault, Served, Service, serve};
 
 /// Serves as was asked for, and writes notes to standard error: `is_journal` says that systemd's journal reads
 /// them. Each client is shown `banner` first. If it cannot listen, `causes` gets a line.
 pub(crate) fn serve_asked<H>(
     rt: H,
     alloc: Global,
-    asked: &tn_words::ServeWords,
+    asked: &tn_cli::arguments::ServeWords,
     banner: Option<Arc<Vec<u8>, Global>>,
     is_journal: bool,
     causes: &mut Vec<u8>,
@@ -66,7 +66,7 @@ where
 fn publishing<H: Host + Replacing, L: Log>(
     rt: H,
     alloc: Global,
-    asked: &tn_words::ServeWords,
+    asked: &tn_cli::arguments::ServeWords,
     writer: &NoteWriter,
     counts: &Arc<Counts, Global>,
     log: &L,
@@ -84,7 +84,7 @@ fn publishing<H: Host + Replacing, L: Log>(
 fn serve_noted<H, L>(
     rt: H,
     alloc: Global,
-    asked: &tn_words::ServeWords,
+    asked: &tn_cli::arguments::ServeWords,
     banner: Option<Arc<Vec<u8>, Global>>,
     log: &L,
     causes: &mut Vec<u8>,
@@ -119,10 +119,13 @@ where
 }
 
 // Where to listen.
-fn places_of(alloc: Global, asked: &tn_words::ServeWords) -> Result<Vec<At<'_>>, AllocError>
+fn places_of(
+    alloc: Global,
+    asked: &tn_cli::arguments::ServeWords,
+) -> Result<Vec<At<'_>>, AllocError>
     ensures { IfOk result (λ places. map place_at (vec_items places) ≡ places_as asked.now) }
 {
-    let tn_words::Socket { port, handed } = asked.socket;
+    let tn_cli::arguments::Socket { port, handed } = asked.socket;
     match handed {
         Some(descriptor) => handed_place(alloc, port, descriptor),
         None => places_at(alloc, &asked.hosts, port),
@@ -163,7 +166,7 @@ fn places_at(alloc: Global, hosts: &[String], port: u16) -> Result<Vec<At<'_>>, 
 fn until_of<H: Copy + Lookout>(
     rt: H,
     alloc: Global,
-    asked: &tn_words::ServeWords,
+    asked: &tn_cli::arguments::ServeWords,
 ) -> Result<Option<AtFile<H>>, AllocError>
     ensures rt { IfOk result (λ until. IfSome until (λ at. at.rt ≡ rt)) }
     ensures path { IfOk result (λ until. option_map (λ at. string_bytes at.path) until

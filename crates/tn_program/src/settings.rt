@@ -8,15 +8,17 @@ ghost use Rattle.tn_program.specs.Settings.{per_host_as, return_as, usual_per_ho
 
 use log::Level;
 use std::alloc::{AllocError, Global};
+use tn_cli::arguments::{
+    Characters, Escape, LineEnd, Mode, ReturnBytes, USUAL_HEIGHT, USUAL_WIDTH,
+};
 use tn_connect::{
     Connecting, EditKeys, EditorSettings, KeySource, OwnCharacters, Plain, ReturnKey, Words,
 };
 use tn_discipline::Limit;
-use tn_network::names_path;
+use tn_net::network::names_path;
+use tn_serve::services::{Answerer, Answerers, LineFormat};
 use tn_serve::{Call, Finished, NoteFormat, NoteStyle, Service, Serving, SessionOptions};
 use tn_server::Editing;
-use tn_services::{Answerer, Answerers, LineFormat};
-use tn_words::{Characters, Escape, LineEnd, Mode, ReturnBytes, USUAL_HEIGHT, USUAL_WIDTH};
 
 /// After how many connections a server without end stops: more than can ever be accepted.
 const WITHOUT_END: u64 = u64::MAX;
@@ -51,7 +53,7 @@ impl Service for Answering {
 }
 
 // How it was asked to serve.
-pub(crate) fn serving_of(asked: &tn_words::ServeWords) -> Serving
+pub(crate) fn serving_of(asked: &tn_cli::arguments::ServeWords) -> Serving
     ensures sessions { result.sessions ≡ asked.now.sessions }
     ensures per_host { result.per_host
         ≡ per_host_as asked.now.per_host (is_local asked.now) asked.now.sessions }
@@ -73,7 +75,7 @@ pub(crate) fn serving_of(asked: &tn_words::ServeWords) -> Serving
 }
 
 // Whether only this machine reaches a server, as far as its words tell.
-fn is_local(asked: &tn_words::ServeWords) -> bool
+fn is_local(asked: &tn_cli::arguments::ServeWords) -> bool
     ensures { result ≡ is_local asked.now }
 {
     let handed = asked.socket.handed.is_some();
@@ -134,7 +136,7 @@ fn idle_of(given: Option<u32>, loopback: bool) -> u32
 }
 
 // How the notes look.
-pub(crate) fn note_style_of(asked: &tn_words::ServeWords, is_journal: bool) -> NoteStyle {
+pub(crate) fn note_style_of(asked: &tn_cli::arguments::ServeWords, is_journal: bool) -> NoteStyle {
     let format = if asked.logfmt {
         NoteFormat::Logfmt
     } else {
@@ -144,7 +146,7 @@ pub(crate) fn note_style_of(asked: &tn_words::ServeWords, is_journal: bool) -> N
 }
 
 // What is noted: with `--verbose` each event, else those that an operator has to see.
-pub(crate) fn note_level_of(asked: &tn_words::ServeWords) -> Level {
+pub(crate) fn note_level_of(asked: &tn_cli::arguments::ServeWords) -> Level {
     if asked.verbose {
         Level::Info
     } else {
@@ -163,14 +165,14 @@ fn count_of(asked: Option<u32>) -> u64
 }
 
 // The jobs that were asked for, where each session has its own.
-pub(crate) fn answering_of(asked: &tn_words::ServeWords) -> Answering
+pub(crate) fn answering_of(asked: &tn_cli::arguments::ServeWords) -> Answering
     ensures { result.ticks ≡ asked.now.ticks }
 {
     Answering { ticks: asked.ticks }
 }
 
 // How lines go to the service that was asked for.
-pub(crate) fn lines_of(asked: &tn_words::ServeWords) -> LineFormat
+pub(crate) fn lines_of(asked: &tn_cli::arguments::ServeWords) -> LineFormat
     ensures { result ≡ lines_as asked.now }
 {
     LineFormat {
@@ -182,7 +184,7 @@ pub(crate) fn lines_of(asked: &tn_words::ServeWords) -> LineFormat
 }
 
 // What is the same of all sessions that were asked for.
-pub(crate) fn options_of(asked: &tn_words::ServeWords) -> SessionOptions
+pub(crate) fn options_of(asked: &tn_cli::arguments::ServeWords) -> SessionOptions
     ensures { result ≡ options_as asked.now }
 {
     let editing = if asked.local {
@@ -199,7 +201,7 @@ pub(crate) fn options_of(asked: &tn_words::ServeWords) -> SessionOptions
 }
 
 pub(crate) fn connecting_of(
-    asked: &tn_words::ConnectWords,
+    asked: &tn_cli::arguments::ConnectWords,
     port: u16,
     origin: KeySource,
     editor: EditorSettings,
@@ -234,7 +236,7 @@ pub(crate) fn connecting_of(
 
 // How it was asked to talk to a service that takes lines.
 pub(crate) fn plain_of(
-    asked: &tn_words::ConnectWords,
+    asked: &tn_cli::arguments::ConnectWords,
     port: u16,
     line_end: LineEnd,
     origin: KeySource,
@@ -277,7 +279,7 @@ fn origin_of(characters: Characters, origin: KeySource) -> KeySource
 
 // How lines are edited at a terminal with these settings. With the standard characters it has no editing keys, and none
 // that stops the screen.
-fn editor_of(asked: &tn_words::ConnectWords, editor: EditorSettings) -> EditorSettings {
+fn editor_of(asked: &tn_cli::arguments::ConnectWords, editor: EditorSettings) -> EditorSettings {
     let (keys, start, stop) = match asked.characters {
         Characters::Own => (editor.keys, editor.start, editor.stop),
         Characters::Standard => (plain_keys(editor.keys.words), None, None),
@@ -301,7 +303,10 @@ fn plain_keys(words: Words) -> EditKeys {
 }
 
 // How they are edited without Telnet. The terminal itself stops its screen then.
-fn plain_editor_of(asked: &tn_words::ConnectWords, editor: EditorSettings) -> EditorSettings {
+fn plain_editor_of(
+    asked: &tn_cli::arguments::ConnectWords,
+    editor: EditorSettings,
+) -> EditorSettings {
     EditorSettings {
         start: None,
         stop: None,

@@ -3,7 +3,7 @@ use Rattle.std.proofs.Common.{◌≡◌, inl, inr, ℕ, ◌+◌, [], ◌∷◌, 
 use Rattle.std.specs.declared.net.tcp.TcpStream.{TcpStream}
 use Rattle.tn_serve.specs.{Counted.{CountsSessions, Joined, ServerFacts, StillCounts}, Ends.{IsWhole, finished_as, whole_end, whole_of, whole_report}}
 use Rattle.tn_serve.specs.declared.finished.Finished.{Finished}
-use Rattle.tn_machines.specs.{Ending.EndsWhole, declared.faults.{Ended.{Ended, TheVariants.{HangUp, Done, Fault}}, SessionFault.SessionFault}}
+use Rattle.tn_cores.specs.{Ending.EndsWhole, declared.faults.{Ended.{Ended, TheVariants.{HangUp, Done, Fault}}, SessionFault.SessionFault}}
 use Rattle.tn_session.specs.declared.parties.Report.{Report}
 
 module _ {M J : Type 0} (server : ServerFacts M J) (whole faulted refused : ℕ) where

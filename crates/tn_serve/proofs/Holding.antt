@@ -2,7 +2,7 @@
 use Rattle.std.proofs.Common.{◌≡◌, ◌≢◌, ◌⊎◌, ◌≤◌, ◌+◌, inl, inr, ℕ, Bool, true, false, Option, None, is_some, List, [], length, arith, ap, refl, subst, sym}
 use Rattle.std.proofs.{Common.{◌∙◌, if◌then◌else◌}, lemmas.Bool.{cases_eq, eq-eqb, ne_eqb}}
 use Rattle.std.specs.Prelude.{count_by, slice_index_or, ⊤}
-use Rattle.tn_roster.specs.Held.{Enters, Held, Leaves, held_count, is_held}
+use Rattle.tn_session.specs.roster.Held.{Enters, Held, Leaves, held_count, is_held}
 use Rattle.tn_serve.proofs.Hearing.{none_live}
 use Rattle.tn_serve.specs.{Places.{AreHeld, AreHeldBeside, HasNoPlace, HoldsSo, RunsAll, held_of}, Turns.{AreApart, IsOneMore, is_same, live_of}}
 

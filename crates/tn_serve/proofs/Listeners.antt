@@ -2,7 +2,7 @@
 use Rattle.std.proofs.Common.{inl, ◌<◌, ◌+◌, ℕ, List, [], ◌∷◌, ◌++◌, Result, Ok, Err, length, map, take, get_or, arith, sym, subst}
 use Rattle.std.proofs.lemmas.List.{get_or-map, length-map, map_more, take_more}
 use Rattle.std.specs.{Prelude.{Contains, IsErrAnd}, declared.{io.Error.Error, net.tcp.TcpListener.TcpListener}}
-use Rattle.tn_network.specs.Asked.{AreRefusedAt, GiveEach, Place}
+use Rattle.tn_net.specs.network.Asked.{AreRefusedAt, GiveEach, Place}
 use Rattle.tn_serve.specs.{Causes.{FailsBy, place_at}, Faults.IsToldAs, declared.{fault.ServeFault.ServeFault, listening.At.At}}
 
 -- one more gave one more

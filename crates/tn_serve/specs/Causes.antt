@@ -1,7 +1,6 @@
 -- Why a server could not listen.
-use Rattle.std.specs.Prelude.{Result, Ok, Err}
-use Rattle.std.specs.declared.io.Error.{Error}
-use Rattle.tn_network.specs.Asked.{Place}
+use Rattle.std.specs.{Prelude.{Result, Ok, Err}, declared.io.Error.Error}
+use Rattle.tn_net.specs.network.Asked.{Place}
 use Rattle.tn_serve.specs.{Faults.IsToldAs, declared.{fault.ServeFault.ServeFault, listening.At.At}}
 
 -- it failed by what this error is told as

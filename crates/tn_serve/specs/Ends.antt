@@ -4,10 +4,9 @@ use Rattle.std.specs.{Prelude.IsOk, IoError.raw_os_error, declared.io.Error.Erro
 use Rattle.std.specs.declared.net.tcp.TcpStream.{TcpStream}
 use Rattle.tn_serve.specs.declared.{acceptor.Accepted.Accepted, conversed.{Conversed.Conversed, Ran.Ran}}
 use Rattle.tn_serve.specs.declared.{finished.Finished.Finished, served.Served.Served}
-use Rattle.tn_machines.specs.{Ending.EndsWhole, declared.faults.{Ended.Ended, SessionFault.SessionFault}}
-use Rattle.tn_machines.specs.declared.faults.Ended.TheVariants.{HangUp, Done, Fault}
-use Rattle.tn_machines.specs.declared.faults.SessionFault.TheVariants.{Start}
-use Rattle.tn_network.specs.{Asked.AcceptsAll, declared.peers.Peer.Peer}
+use Rattle.tn_cores.specs.{Ending.EndsWhole, declared.faults.{Ended.Ended, SessionFault.TheVariants.Start}}
+use Rattle.tn_cores.specs.declared.faults.{SessionFault.SessionFault, Ended.TheVariants.{HangUp, Done, Fault}}
+use Rattle.tn_net.specs.{network.Asked.AcceptsAll, declared.network.peers.Peer.Peer}
 use Rattle.tn_session.specs.declared.parties.Report.{Report}
 
 -- the session came to its report, and ended without a fault

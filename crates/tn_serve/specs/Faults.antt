@@ -2,8 +2,8 @@
 use Rattle.std.specs.{Prelude.{◌≡◌, ◌≢◌}, IoError.error_kind, declared.io.Error.Error}
 use Rattle.std.specs.declared.io.ErrorKind.TheVariants.{OutOfMemory}
 use Rattle.tn_serve.specs.declared.fault.ServeFault.{ServeFault, TheVariants.{Network, Limit, Memory}}
-use Rattle.tn_roster.specs.declared.RosterFault.{RosterFault}
-use Rattle.tn_roster.specs.declared.RosterFault.TheVariants as roster
+use Rattle.tn_session.specs.declared.roster.RosterFault.{RosterFault}
+use Rattle.tn_session.specs.declared.roster.RosterFault.TheVariants as roster
 
 -- an error of the network is told as this: out of memory as that
 abbrev pub IsToldAs : Error → ServeFault → Type 0

@@ -6,3 +6,4 @@ pub mod Services
 pub mod Servers
 pub mod Turns
 pub mod Counted
+pub mod services

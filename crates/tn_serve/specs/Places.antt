@@ -4,9 +4,9 @@ use Rattle.std.specs.{Prelude.{count_by, length, if◌then◌else◌, get_or}, N
 use Rattle.std.specs.{Net.Addr.ipv6_segments, declared.net.ip_addr.IpAddr.{IpAddr, TheVariants.{V4, V6}}}
 use Rattle.std.specs.declared.net.{ipv6_addr.Ipv6Addr.Ipv6Addr, tcp.TcpStream.TcpStream}
 use Rattle.std.specs.contracts.net.ip_addr.IpAddrPartialEq.TheImpl as comparing
-use Rattle.tn_network.specs.declared.peers.Peer.{Peer, TheVariants.{Address, Unix}}
+use Rattle.tn_net.specs.declared.network.peers.Peer.{Peer, TheVariants.{Address, Unix}}
 use Rattle.tn_serve.specs.{declared.caller.Caller.Caller, Turns.{live_of, with_one}}
-use Rattle.tn_roster.specs.Held.{Held, held_count, is_held}
+use Rattle.tn_session.specs.roster.Held.{Held, held_count, is_held}
 
 -- the first 64 bits of an address, and zeros after them
 abbrev pub subnet_of : Ipv6Addr → Ipv6Addr

@@ -6,9 +6,8 @@ use Rattle.tn_serve.specs.declared.conversed.{Conversed.Conversed, Ran.Ran}
 use Rattle.tn_serve.specs.declared.settings.SessionOptions.{SessionOptions}
 use Rattle.tn_session.specs.Facts.{JobFacts, SessionResult, TermSettings, session_result}
 use Rattle.tn_session.specs.Session.{RunningSession, IsRefusal}
-use Rattle.tn_sockets.specs.{LastWords.last_lines, Logs.wrote, declared.write_log.WriteLog.WriteLog}
-use Rattle.tn_machines.specs.server.Welcoming.{too_far_ahead}
-use Rattle.tn_streams.specs.Known.{KnownReader}
+use Rattle.tn_net.specs.{LastWords.last_lines, Logs.wrote, declared.write_log.WriteLog.WriteLog}
+use Rattle.tn_cores.specs.{server.Welcoming.too_far_ahead, streams.Known.KnownReader}
 
 -- a terminal with standard settings, under these options
 abbrev pub terminal_of : SessionOptions → TermSettings

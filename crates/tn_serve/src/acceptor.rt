@@ -2,7 +2,7 @@
 
 ghost use Rattle.std.specs.Prelude.{◌≡◌, true, Contains, IsTrue, false, IsFalse, Ok, IfErr, IfNone, IfOk};
 ghost use Rattle.std.specs.Prelude.{IfSome, vec_items};
-ghost use Rattle.tn_network.specs.Asked.{AcceptsAtOne};
+ghost use Rattle.tn_net.specs.network.Asked.{AcceptsAtOne};
 ghost use Rattle.tn_serve.specs.Ends.{AcceptsUntil, AreEnough, IsBroken};
 
 use crate::events::Event;
@@ -20,8 +20,8 @@ use std::snapshot::Snapshot;
 use std::thread::{Promise, PromisedHandle};
 use std::time::Duration;
 use std::{io, thread};
-use tn_network::{Network, Peer};
-use tn_sockets::Host;
+use tn_net::Host;
+use tn_net::network::{Network, Peer};
 
 /// How many milliseconds lie between two attempts where the machine can give no connection.
 const PAUSE: u64 = 100;
@@ -94,7 +94,7 @@ pub(crate) struct AcceptorSays<H, U> {
 
 impl<H: Network, U: Until> Promise<Accepted> for AcceptorSays<H, U> {
     ghost use Rattle.std.specs.Prelude.{vec_items};
-    ghost use Rattle.tn_network.specs.Asked.{AcceptsAtOne};
+    ghost use Rattle.tn_net.specs.network.Asked.{AcceptsAtOne};
     ghost use Rattle.tn_serve.specs.Ends.{AcceptsUntil};
 
     ghost kept_by = { λ p accepted. AcceptsUntil

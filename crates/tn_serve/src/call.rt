@@ -4,8 +4,8 @@ use crate::events::{Event, SaysEnd};
 use crossbeam_channel::Sender;
 use std::alloc::{AllocError, Global};
 use std::sync::Wait;
-use tn_network::Peer;
-use tn_sockets::Hook;
+use tn_net::Hook;
+use tn_net::network::Peer;
 
 /// A connection that is to have a session.
 #[derive(Drop)]

@@ -1,7 +1,7 @@
 //! Who a session is with.
 
 use std::time::{Clock, Duration, Instant};
-use tn_network::Peer;
+use tn_net::network::Peer;
 
 /// Who a session is with, and since when.
 #[derive(Clone, Copy)]

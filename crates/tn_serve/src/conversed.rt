@@ -6,8 +6,8 @@ ghost use Rattle.tn_serve.specs.Ends.{finished_as};
 use crate::finished::Finished;
 use std::net::TcpStream;
 use std::snapshot::Snapshot;
+use tn_net::WriteLog;
 use tn_session::{Ports, Report, SessionFault};
-use tn_sockets::WriteLog;
 
 /// A session over a connection that came to its report.
 #[derive(Drop)]

@@ -3,7 +3,7 @@
 use std::io;
 use std::net::TcpStream;
 use std::sync::Wait;
-use tn_network::Peer;
+use tn_net::network::Peer;
 
 /// Who says that a session has ended. The thread of a session knows no more of the others.
 pub(crate) trait SaysEnd {

@@ -5,7 +5,7 @@ ghost use Rattle.std.specs.Prelude.{◌≡◌};
 use std::alloc::{AllocError, AllocFailed};
 use std::io;
 use thiserror::Error;
-use tn_roster::RosterFault;
+use tn_session::roster::RosterFault;
 
 /// Why serving failed.
 #[derive(Clone, Copy, Debug, PartialEq, Eq, Error)]

@@ -4,7 +4,7 @@ ghost use Rattle.std.specs.Prelude.{◌≡◌};
 ghost use Rattle.tn_serve.specs.Places.{counted_as, host_of, subnet_of};
 
 use std::net::{IpAddr, Ipv6Addr, SocketAddr};
-use tn_network::Peer;
+use tn_net::network::Peer;
 
 /// The address as which a peer is counted, if it is. One over a Unix-domain socket is not: no bound is its own.
 pub(crate) fn counted_as(peer: Peer) -> Option<IpAddr>

@@ -21,8 +21,8 @@ pub use service::Service;
 pub use serving::{serve, serve_on};
 pub use session::serve_connection;
 pub use settings::{Serving, SessionOptions};
-pub use tn_network::Peer;
-pub use tn_sockets::{Hook, Host};
+pub use tn_net::network::Peer;
+pub use tn_net::{Hook, Host};
 pub use turns::Turn;
 pub use until::{Never, Until};
 
@@ -44,6 +44,7 @@ mod proxied;
 mod running;
 mod served;
 mod service;
+pub mod services;
 mod serving;
 mod session;
 mod settings;

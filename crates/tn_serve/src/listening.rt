@@ -1,14 +1,14 @@
 //! A listener at a host.
 
 ghost use Rattle.std.specs.Prelude.{IfErr, IfOk, map, vec_items};
-ghost use Rattle.tn_network.specs.Asked.{AreRefusedAt, GiveEach, at_place};
+ghost use Rattle.tn_net.specs.network.Asked.{AreRefusedAt, GiveEach, at_place};
 ghost use Rattle.tn_serve.specs.Causes.{place_at};
 
 use crate::acceptor::remove_files;
 use std::alloc::{AllocError, Global};
 use std::io;
 use std::net::TcpListener;
-use tn_network::{Network, names_path};
+use tn_net::network::{Network, names_path};
 
 /// Where to listen: at a host, which is an address or a name that has one, and at this port of it; at a path,
 /// if the host is `unix:` and that path; or at the socket that the process was started with at this descriptor.

@@ -11,7 +11,7 @@ use std::io::ErrorKind;
 use std::net::TcpListener;
 use std::time::Duration;
 use std::{fmt, io, str};
-use tn_network::{ListeningOn, Peer};
+use tn_net::network::{ListeningOn, Peer};
 use tn_session::{Ended, SessionFault};
 
 /// Notes where connections are accepted.

@@ -12,7 +12,7 @@ use std::sync::atomic::{AtomicU64, Ordering};
 use std::sync::{Arc, Wait};
 use std::time::{Clock, Duration};
 use std::{fmt, str, thread};
-use tn_sockets::{Host, stamp};
+use tn_net::{Host, stamp};
 
 /// The target of the program's own lines about faults, such as `tn: session`, which are printed as they are.
 pub(crate) const FAULT: &str = "tn";

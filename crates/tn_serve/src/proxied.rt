@@ -4,7 +4,7 @@ use std::io::Read;
 use std::net::{IpAddr, SocketAddr, TcpStream};
 use std::str;
 use std::time::{Clock, Duration, Instant};
-use tn_network::Peer;
+use tn_net::network::Peer;
 
 /// How many bytes the line has at most, with its CR LF.
 const MOST: usize = 107;

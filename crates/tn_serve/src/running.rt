@@ -5,7 +5,7 @@ ghost use Rattle.std.specs.Prelude.{◌≢◌, All, IfNone, vec_items, vec_len, 
 ghost use Rattle.tn_serve.specs.Counted.{HasEnded, StillCounts, facts_of, server_of};
 ghost use Rattle.tn_serve.specs.Places.{HasNoPlace, count_at, count_from, counted_as, is_one_host};
 ghost use Rattle.tn_serve.specs.Turns.{IsOneEnd, IsOneMore, live_of};
-ghost use Rattle.tn_roster.specs.Held.{Enters};
+ghost use Rattle.tn_session.specs.roster.Held.{Enters};
 
 use crate::asked::Asked;
 use crate::caller::Caller;
@@ -22,9 +22,9 @@ use std::marker::PhantomData;
 use std::net::{IpAddr, TcpStream};
 use std::thread::{PromisedHandle, Threads};
 use tn_jobs::Job;
-use tn_network::Peer;
-use tn_roster::Roster;
+use tn_net::network::Peer;
 use tn_session::Maker;
+use tn_session::roster::Roster;
 
 // A started session. Its thread promises what it gives back, under the options that were asked for.
 #[derive(Drop)]
@@ -175,7 +175,7 @@ impl<J: Job, M: Maker<Job = J>, O: Asked<M>> Running<J, M, O> {
             return None;
         }
         let entered = roster.enter();
-        tn_roster::note(log, &entered);
+        tn_session::roster::note(log, &entered);
         match entered {
             Ok(number) => Some(number),
             Err(_) => None,

@@ -7,8 +7,8 @@ ghost use Rattle.tn_serve.specs.Counted.{CountsSessions, HasEnded, StillCounts, 
 ghost use Rattle.tn_serve.specs.Places.{AreHeld, AreHeldBeside, HasNoPlace, RunsAll, RunsOver, count_from};
 ghost use Rattle.tn_serve.specs.Services.{MakesOnly, StillMakes, TurnsAway, WasTurnedAway};
 ghost use Rattle.tn_serve.specs.Turns.{HearsAll, HearsOfJobs, HearsOfNone, StillHears, live_of};
-ghost use Rattle.tn_network.specs.Asked.{Accepts, GiveEach, Listens, at_place};
-ghost use Rattle.tn_roster.specs.Held.{IsLimit, held_count};
+ghost use Rattle.tn_net.specs.network.Asked.{Accepts, GiveEach, Listens, at_place};
+ghost use Rattle.tn_session.specs.roster.Held.{IsLimit, held_count};
 
 use crate::acceptor::{Accepted, Acceptor, AcceptorSays, Waiting};
 use crate::asked::Asked;
@@ -38,9 +38,9 @@ use std::slice;
 use std::sync::Arc;
 use std::thread::PromisedHandle;
 use std::time::{Duration, Instant};
-use tn_network::{Network, Peer};
-use tn_roster::Roster;
-use tn_sockets::{Hook, Host, Standing};
+use tn_net::network::{Network, Peer};
+use tn_net::{Hook, Host, Standing};
+use tn_session::roster::Roster;
 
 /// How many events wait at most for the loop.
 const EVENTS: usize = 16;

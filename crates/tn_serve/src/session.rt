@@ -3,8 +3,8 @@
 ghost use Rattle.std.specs.Prelude.{◌≡◌, ◌≢◌, [], IfOk, IfErr, IfSome};
 ghost use Rattle.tn_serve.specs.Servers.{IsPromised, RunsServer, RunsWriting, connection_of};
 ghost use Rattle.tn_session.specs.{Facts.{job_facts, session_result}, Makers.begins, Session.IsRefusal};
-ghost use Rattle.tn_sockets.specs.Logs.{logged};
-ghost use Rattle.tn_machines.specs.server.Welcoming.{too_far_ahead};
+ghost use Rattle.tn_net.specs.Logs.{logged};
+ghost use Rattle.tn_cores.specs.server.Welcoming.{too_far_ahead};
 
 use crate::conversed::{Conversed, Ran};
 use crate::events::SaysEnd;
@@ -17,10 +17,10 @@ use std::snapshot::Snapshot;
 use std::sync::Arc;
 use std::thread;
 use std::thread::{Promise, PromisedHandle};
+use tn_cores::streams::Source;
 use tn_discipline::Settings;
+use tn_net::{Attended, Connection, Host, Logged, Standing, WriteLog};
 use tn_session::{Maker, Ports, Report, SessionFault, serve_session};
-use tn_sockets::{Attended, Connection, Host, Logged, Standing, WriteLog};
-use tn_streams::Source;
 
 /// A session that is to run over a connection that was accepted.
 #[derive(Drop)]

@@ -2,9 +2,9 @@
 
 use std::alloc::Global;
 use std::sync::Arc;
-use tn_machines::{Gate, Place, Typed};
-use tn_sockets::Standing;
-use tn_streams::WindowSize;
+use tn_cores::streams::WindowSize;
+use tn_cores::{Gate, Place, Typed};
+use tn_net::Standing;
 
 /// Notes how far a session is with what its client typed, and the size of the client's window.
 #[derive(Drop)]

@@ -5,8 +5,8 @@ use std::io;
 use std::io::ErrorKind;
 use std::sync::Arc;
 use std::sync::atomic::{AtomicI32, AtomicU64, Ordering};
-use tn_sockets::Standing;
-use tn_streams::{Drain, Finish, Source};
+use tn_cores::streams::{Drain, Finish, Source};
+use tn_net::Standing;
 
 /// What has passed over a connection so far.
 #[derive(Drop)]

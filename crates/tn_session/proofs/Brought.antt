@@ -3,16 +3,15 @@ use Rattle.std.proofs.Common.{◌≡◌, ℕ, Bool, true, false, List, [], ◌�
 use Rattle.std.proofs.{Common.append_assoc, lemmas.{List.map-append, Grind.flat_map-append}}
 use Rattle.std.specs.{Io.KnownBytes.Consumes, List.concat}
 use Rattle.tn_client.specs.declared.commands.UserCommand.{UserCommand}
-use Rattle.tn_machines.specs.client.Bringing.{Input, key_typed, asked_in, all_asked, input_by, input_of, inputs_in, inputs_brought, brought_from, brought}
-use Rattle.tn_machines.specs.{client.Commands.command_of, Pieces.bytes_in, declared.messages.Message.Message}
-use Rattle.tn_machines.specs.declared.messages.Message.TheVariants.{Piece, HangUp, ReadFailed, Take, Said, Refused, Left, Resized, Asked}
-use Rattle.tn_machines.specs.declared.client.messages.Origin.TheVariants as origin
+use Rattle.tn_cores.specs.client.Bringing.{Input, key_typed, asked_in, all_asked, input_by, input_of, inputs_in, inputs_brought, brought_from, brought}
+use Rattle.tn_cores.specs.{client.Commands.command_of, Pieces.bytes_in, declared.messages.Message.Message, streams.{Foretelling.Failures, Known.KnownReader}}
+use Rattle.tn_cores.specs.declared.messages.Message.TheVariants.{Piece, HangUp, ReadFailed, Take, Said, Refused, Left, Resized, Asked}
+use Rattle.tn_cores.specs.declared.streams.control.Control.{Control}
+use Rattle.tn_cores.specs.declared.client.messages.Origin.TheVariants as origin
 use Rattle.tn_session.proofs.{Mailbox.sender_share, lemmas.Plain.{PlainlyCloses, plainly}}
-use Rattle.tn_session.specs.{CoreTurns.all_told, Transcripts.bytes_sent}
-use Rattle.tn_workers.specs.{Mailbox.{same, from, mail, sender}, Reader.ReaderSends, declared.{channels.View.View, mail.{Mail.Mail, Sender.Sender}}}
-use Rattle.tn_workers.specs.Reading.{IsEnding, Telling, piece_told, size_told, control_told, told_messages, pieces_in, controls_in}
-use Rattle.tn_workers.specs.declared.mail.Sender.TheVariants.{Net, Desk, Back, Keys}
-use Rattle.tn_streams.specs.{Foretelling.Failures, Known.KnownReader, declared.control.Control.Control}
+use Rattle.tn_session.specs.{CoreTurns.all_told, Transcripts.bytes_sent, workers.{Mailbox.{same, from, mail, sender}, Reader.ReaderSends}}
+use Rattle.tn_session.specs.declared.workers.{channels.View.View, mail.{Mail.Mail, Sender.{Sender, TheVariants.{Net, Desk, Back, Keys}}}}
+use Rattle.tn_session.specs.workers.Reading.{IsEnding, Telling, piece_told, size_told, control_told, told_messages, pieces_in, controls_in}
 
 keys_bytes : (m : Message) → brought_from origin.Keys origin.Keys m ≡ bytes_in m
 keys_bytes (Piece piece) = refl

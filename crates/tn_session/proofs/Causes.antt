@@ -1,13 +1,12 @@
 -- Why a session ended by a read or a write.
 use Rattle.std.proofs.Common.{◌≡◌, ℕ, Bool, true, false, ◌&&◌, ◌⊎◌, inl, inr, ⊎_elim, List, [], ◌∷◌, ◌++◌, refl, sym, ap, ◌∙◌, subst, map}
 use Rattle.tn_session.proofs.Lefts.{same_self}
-use Rattle.tn_workers.specs.{Mailbox.{same, from}, Reading.{Telling, piece_told, size_told, control_told, told_messages}, declared.mail.Mail.Mail}
-use Rattle.tn_workers.specs.declared.mail.Sender.{Sender}
-use Rattle.tn_session.specs.Turns.{messages_of}
-use Rattle.tn_machines.specs.{server.Marks.{no_write_failed, no_writes_failed}, declared.{server.messages.ServerMark.ServerMark, messages.Message.Message}}
-use Rattle.tn_machines.specs.declared.messages.Message.TheVariants.{Piece, ReadFailed, Left, Resized, Asked}
-use Rattle.tn_machines.specs.declared.server.messages.ServerMark.TheVariants as mark
-use Rattle.tn_streams.specs.declared.{control.Control.Control, window.WindowSize.WindowSize}
+use Rattle.tn_session.specs.{workers.{Mailbox.{same, from}, Reading.{Telling, piece_told, size_told, control_told, told_messages}}, Turns.messages_of}
+use Rattle.tn_session.specs.declared.workers.mail.{Mail.Mail, Sender.Sender}
+use Rattle.tn_cores.specs.{server.Marks.{no_write_failed, no_writes_failed}, declared.{server.messages.ServerMark.ServerMark, messages.Message.Message}}
+use Rattle.tn_cores.specs.declared.{messages.Message.TheVariants.{Piece, ReadFailed, Left, Resized, Asked}, streams.control.Control.Control}
+use Rattle.tn_cores.specs.declared.streams.window.WindowSize.{WindowSize}
+use Rattle.tn_cores.specs.declared.server.messages.ServerMark.TheVariants as mark
 
 pub from_hit : (s : Sender) (x : Mail) (xs : List Mail) → same x.from s ≡ true → from s (x ∷ xs) ≡ x ∷ from s xs
 from_hit s x xs is = rw is refl

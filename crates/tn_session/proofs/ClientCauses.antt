@@ -1,16 +1,16 @@
 -- Why a client's session ended by a read or a write.
 use Rattle.std.proofs.Common.{◌≡◌, ℕ, Bool, false, ◌&&◌, ◌⊎◌, inl, inr, ⊎_elim, List, [], ◌∷◌, ◌++◌, Option, None, refl, sym, ap, ◌∙◌, subst, map, length}
-use Rattle.tn_machines.specs.{client.{Ending.IsEndedAt, Marks.{no_write_failed, no_show_failed, all_by}, Run.Run}, declared.client.messages.Told.Told}
-use Rattle.tn_machines.specs.declared.{client.messages.ClientMark.ClientMark, messages.Message.{Message, TheVariants.ReadFailed}}
+use Rattle.tn_cores.specs.{client.{Ending.IsEndedAt, Marks.{no_write_failed, no_show_failed, all_by}, Run.Run}, declared.client.messages.Told.Told}
+use Rattle.tn_cores.specs.{declared.{client.messages.ClientMark.ClientMark, messages.Message.{Message, TheVariants.ReadFailed}}, streams.Known.KnownReader}
+use Rattle.tn_cores.specs.streams.{Writing.{Tells, max_writes}, Foretelling.{Failures, WillFail}, Telling.{Calls, SomeFailed}}
 use Rattle.tn_session.proofs.{Causes.{HasFailure, has_split, failure_from, failure_last, failure_never, never_and}, Ending.messages_from}
 use Rattle.tn_session.proofs.lemmas.Plain.{PlainlyCloses, plainly}
-use Rattle.tn_session.specs.{CoreTurns.all_told, Turns.messages_of}
-use Rattle.tn_workers.specs.{Mailbox.{Interleaves, from, four, sender}, Reader.ReaderSends, Reading.{IsReadCause, max_reads, Telling, told_messages, pieces_in}}
-use Rattle.tn_workers.specs.declared.{channels.View.View, mail.{Mail.Mail, Sender.{Sender, TheVariants.{Net, Desk, Back, Keys}}}}
-use Rattle.tn_streams.specs.{Writing.{Tells, max_writes}, Foretelling.{Failures, WillFail}, Known.KnownReader, Telling.{Calls, SomeFailed}}
-use Rattle.tn_streams.proofs.lemmas.Telling.{some_failed}
-use Rattle.tn_machines.specs.declared.faults.Ended.TheVariants as ended
-use Rattle.tn_machines.specs.declared.faults.SessionFault.TheVariants as fault
+use Rattle.tn_session.specs.{CoreTurns.all_told, Turns.messages_of, workers.{Mailbox.{Interleaves, from, four, sender}, Reader.ReaderSends}}
+use Rattle.tn_session.specs.{workers.Reading.{IsReadCause, max_reads, Telling, told_messages, pieces_in}, declared.workers.{channels.View.View, mail.Mail.Mail}}
+use Rattle.tn_session.specs.declared.workers.mail.Sender.{Sender, TheVariants.{Net, Desk, Back, Keys}}
+use Rattle.tn_cores.proofs.lemmas.streams.Telling.{some_failed}
+use Rattle.tn_cores.specs.declared.faults.Ended.TheVariants as ended
+use Rattle.tn_cores.specs.declared.faults.SessionFault.TheVariants as fault
 
 messages_told : (mails : List Mail) → map (λ (t : Told). t.message) (all_told mails) ≡ messages_of mails
 messages_told [] = refl

@@ -1,24 +1,22 @@
 -- A whole client session: its passes joined, and what its threads did.
 use Rattle.std.proofs.Common.{◌≡◌, ℕ, Bool, true, false, refl, List, [], ◌∷◌, ◌++◌, map, Some, None, sym, ap, ◌∙◌, subst, append-nil, arith}
 use Rattle.std.specs.List.{FoldsTo}
-use Rattle.tn_machines.proofs.lemmas.client.{Bringing.{in_order, keys-brought}, Ending.fault_cause}
-use Rattle.tn_machines.specs.client.{Bringing.{TakesInOrder, inputs_brought, brought, brought_from}, Marks.{Turns, all_written, all_whole}, Run.{Run, start}}
-use Rattle.tn_machines.specs.declared.client.{machine.Core.Core, messages.{ClientMark.ClientMark, Told.Told}, progress.ClientProgress.ClientProgress}
-use Rattle.tn_machines.specs.declared.faults.SessionFault.{SessionFault}
-use Rattle.tn_machines.specs.declared.client.messages.Origin.TheVariants as origin
+use Rattle.tn_cores.proofs.lemmas.client.{Bringing.{in_order, keys-brought}, Ending.fault_cause}
+use Rattle.tn_cores.specs.client.{Bringing.{TakesInOrder, inputs_brought, brought, brought_from}, Marks.{Turns, all_written, all_whole}, Run.{Run, start}}
+use Rattle.tn_cores.specs.declared.client.{machine.Core.Core, messages.{ClientMark.ClientMark, Told.Told}, progress.ClientProgress.ClientProgress}
+use Rattle.tn_cores.specs.{declared.faults.SessionFault.SessionFault, queue.Queue.putter, streams.Known.{KnownReader, KnownTyping, KnownWriting}}
+use Rattle.tn_cores.specs.declared.client.messages.Origin.TheVariants as origin
 use Rattle.tn_session.proofs.{Brought.{keys_brought, requests_brought, net_all, net_brought}, ClientCauses.{read_cause, write_cause}, CoreGoing.unwritten}
 use Rattle.tn_session.proofs.{Going.false_true, Lefts.none_over, Mailbox.all_woven, Sent.reader_sent, Stopped.{was_left, stopped_told}}
 use Rattle.tn_session.proofs.lemmas.{Sessions.{client_said, client_stepped, client_reads, as_read}, Noting.same_steps}
-use Rattle.tn_queue.specs.Queue.{putter}
 use Rattle.tn_session.specs.Client as of_client
 use Rattle.tn_session.specs.{Client.{core_view, AreTwoSettled, IsClientRun, brings, brought_by, client_report}, Facts.ClientResult, Stops.IsTold}
 use Rattle.tn_session.specs.{CoreTurns.{CoreHandles, all_told, is_marked_written, is_over, says, told_of}, Notes.{Noted, NotesAll, no_notes}}
 use Rattle.tn_session.specs.{Transcripts.{Exchange, IsStep, Transcribes, bytes_sent, came_by, exchange_of, total}, declared.parties.Report.Report}
-use Rattle.tn_workers.specs.{Mailbox.{Interleaves, from, four, sender, union, nobody, everyone, with_handled, Total}, Reader.{ReaderSends, TypingSends}}
-use Rattle.tn_workers.specs.declared.{channels.View.View, mail.{Mail.Mail, Sender.TheVariants.{Net, Desk, Back, Keys}}}
-use Rattle.tn_streams.specs.Known.{KnownReader, KnownTyping, KnownWriting}
-use Rattle.tn_machines.specs.declared.faults.Ended.TheVariants as ended
-use Rattle.tn_machines.specs.declared.faults.SessionFault.TheVariants as fault
+use Rattle.tn_session.specs.workers.{Mailbox.{Interleaves, from, four, sender, union, nobody, everyone, with_handled, Total}, Reader.{ReaderSends, TypingSends}}
+use Rattle.tn_session.specs.declared.workers.{channels.View.View, mail.{Mail.Mail, Sender.TheVariants.{Net, Desk, Back, Keys}}}
+use Rattle.tn_cores.specs.declared.faults.Ended.TheVariants as ended
+use Rattle.tn_cores.specs.declared.faults.SessionFault.TheVariants as fault
 
 -- the passes before anything was sent
 pub ready_two : (v₀ v₁ v₂ n k : View) → v₀ ≡ everyone → v₁ ≡ record v₀ { net = None } → n ≡ record nobody { net = v₀.net } → v₂ ≡ record v₁ { keys = None }

@@ -3,18 +3,17 @@ use Rattle.std.proofs.Common.{◌≡◌, ℕ, Bool, true, false, not, ◌||◌, 
 use Rattle.std.proofs.{Common.{append_assoc, append-nil}, lemmas.{Bool.false_from_ne_true, Fn.FoldsTo-push, List.map-append}}
 use Rattle.std.specs.Io.KnownBytes.{Appends, Keeps}
 use Rattle.tn_client.specs.{Replies.items_said, Screen.text_shown}
-use Rattle.tn_machines.specs.client.Marks.{Runs, Turns, no_write_failed, no_show_failed, is_written, is_whole, all_by, all_written, all_whole}
-use Rattle.tn_machines.specs.{client.{Reaching.{LeadsTo, IsTurn, SendsPrefix, ShowsPrefix}, Run.{Run, fail}}, declared.client.machine.Core.Core}
-use Rattle.tn_machines.specs.declared.client.{messages.{ClientMark.ClientMark, Told.Told}, progress.ClientProgress.ClientProgress}
-use Rattle.tn_machines.specs.declared.client.messages.ClientMark.TheVariants as mark
+use Rattle.tn_cores.specs.client.{Marks.{Runs, Turns, no_write_failed, no_show_failed, is_written, is_whole, all_by, all_written, all_whole}, Run.{Run, fail}}
+use Rattle.tn_cores.specs.{client.Reaching.{LeadsTo, IsTurn, SendsPrefix, ShowsPrefix}, declared.client.{machine.Core.Core, messages.ClientMark.ClientMark}}
+use Rattle.tn_cores.specs.{declared.client.{messages.Told.Told, progress.ClientProgress.ClientProgress}, streams.Writing.{Writes, Tells, max_writes}}
+use Rattle.tn_cores.specs.streams.{Known.{KnownWriter, KnownWriting}, Telling.Calls}
+use Rattle.tn_cores.specs.declared.client.messages.ClientMark.TheVariants as mark
 use Rattle.tn_nvt.specs.Spelling.{spells}
 use Rattle.tn_session.proofs.{Going.{true_false, false_true, from_to, left_over}, lemmas.Noting.total-push, Stopped.stands_more, Stopping.core_stays}
 use Rattle.tn_session.specs.{CoreTurns.{TurnsTold, ToldAll, told_of, all_told, says, is_over, is_marked_written}, Notes.{Noted, NotesWrite, NotesAll, no_notes}}
-use Rattle.tn_session.specs.{Stops.{StandsTold, core_stops, has_left}, Transcripts.IsStep}
-use Rattle.tn_streams.specs.{Writing.{Writes, Tells, max_writes}, Known.{KnownWriter, KnownWriting}, Telling.Calls}
-use Rattle.tn_workers.specs.declared.mail.{Mail.Mail, Sender.TheVariants.Keys}
-use Rattle.tn_streams.proofs.lemmas.{Writing.{appends_more, appends_kept, appends_none}, Telling.{accounts_none, accounts_well, accounts_both}}
-use Rattle.tn_machines.specs.declared.faults.SessionFault.TheVariants as fault
+use Rattle.tn_session.specs.{Stops.{StandsTold, core_stops, has_left}, Transcripts.IsStep, declared.workers.mail.{Mail.Mail, Sender.TheVariants.Keys}}
+use Rattle.tn_cores.proofs.lemmas.streams.{Writing.{appends_more, appends_kept, appends_none}, Telling.{accounts_none, accounts_well, accounts_both}}
+use Rattle.tn_cores.specs.declared.faults.SessionFault.TheVariants as fault
 
 -- a front was shown, and all where no write failed
 record Written (b : Bool) (x y : Option (List ℕ)) (bytes : List ℕ) : Type 0 where

@@ -2,8 +2,8 @@
 use Rattle.std.proofs.Common.{◌≡◌, ◌≤◌, ◌||◌, Bool, true, false, Result, Ok, Err, MatchResult, ℕ, ◌+◌, List, [], ◌∷◌, ◌++◌, refl, ap, ◌∙◌, arith, length}
 use Rattle.std.proofs.Common.{length-append}
 use Rattle.crossbeam_channel.specs.Fifo.{Pushes, Pops, Forks, Learns}
-use Rattle.tn_workers.specs.Credits.{AnyTally, none_taken, one_given, one_taken, owed_one, piece_one, pieces_among, step_one, steps_among}
-use Rattle.tn_workers.specs.declared.{credit.{Credit.Credit, CreditTally.CreditTally}, mail.Mail.Mail}
+use Rattle.tn_session.specs.workers.Credits.{AnyTally, none_taken, one_given, one_taken, owed_one, piece_one, pieces_among, step_one, steps_among}
+use Rattle.tn_session.specs.declared.workers.{credit.{Credit.Credit, CreditTally.CreditTally}, mail.Mail.Mail}
 
 -- THE RULE
 

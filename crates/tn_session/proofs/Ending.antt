@@ -6,23 +6,19 @@ use Rattle.tn_discipline.specs.declared.reads.Entry.{Entry}
 use Rattle.tn_jobs.specs.{Jobs.Jobs, declared.{held_jobs.JobId.JobId, reactions.Reaction.Reaction, verdicts.After.TheVariants.Stay}}
 use Rattle.tn_server.specs.{Events.items, Lines.entries}
 use Rattle.tn_session.proofs.{Causes.{from_hit, from_miss, HasFailure, has_failure, failure_from, failure_last, never_and, write_failed}, Lefts.same_self}
-use Rattle.tn_session.proofs.Mailbox.{sender_share}
-use Rattle.tn_workers.proofs.lemmas.{Readers.{IsSaid, closes_ending, if_said, is_said}, Turning.{IsClose, is_close}}
-use Rattle.tn_workers.specs.{Acts.JobActs, Mailbox.{same, from, sender, mail}, Reader.SaysLast, Stepping.step_said, Turning.Holds, declared.channels.View.View}
-use Rattle.tn_workers.specs.Reading.{IsEnding, IsReadCause, max_reads, Telling, piece_told, size_told, control_told, told_messages, pieces_in}
-use Rattle.tn_workers.specs.{Talk.{Closes, turns_said, entries_of, ends_done}, EntryChannel.EntryHand, declared.mail.{Mail.Mail, Sender.Sender}}
-use Rattle.tn_workers.specs.declared.mail.Sender.TheVariants.{Net, Desk, Back, Keys}
-use Rattle.tn_session.specs.{Facts.{SessionJobs, SessionResult, TermSettings}, Session.{Schedule, HearsReader, TakesEntries}, Transcripts.{bytes_sent, came_by}}
-use Rattle.tn_session.specs.Turns.{messages_of}
-use Rattle.tn_queue.specs.Queue.{taker}
-use Rattle.tn_streams.specs.{Writing.max_writes, Foretelling.WillFail, Known.{KnownReader, KnownWriting}, Telling.SomeFailed}
-use Rattle.tn_streams.proofs.lemmas.Telling.{some_failed}
-use Rattle.tn_machines.proofs.lemmas.server.Hearing.{entries_grow, entries_same}
-use Rattle.tn_machines.specs.{server.{Giving.{GivesPrefix, entries_put}, Ending.{IsEndedAt, IsFaultCause}, Marks.no_writes_failed, Run.Run}, Pieces.bytes_in}
-use Rattle.tn_machines.specs.{server.Hearing.{heard, at_end_after, MayCome, MayAllCome, KeepsOn, AllKeepOn, Hears, HangsUp}, declared.messages.Message.Message}
-use Rattle.tn_machines.specs.declared.messages.Message.TheVariants.{Piece, HangUp, ReadFailed, Take, Said, Refused, Left, Resized, Asked}
-use Rattle.tn_machines.specs.declared.faults.Ended.TheVariants as ended
-use Rattle.tn_machines.specs.declared.faults.SessionFault.TheVariants as fault
+use Rattle.tn_session.proofs.{Mailbox.sender_share, lemmas.workers.{Readers.{IsSaid, closes_ending, if_said, is_said}, Turning.{IsClose, is_close}}}
+use Rattle.tn_session.specs.{workers.{Acts.JobActs, Mailbox.{same, from, sender, mail}, Reader.SaysLast, Stepping.step_said, Turning.Holds}, Turns.messages_of}
+use Rattle.tn_session.specs.{declared.workers.channels.View.View, workers.{Talk.{Closes, turns_said, entries_of, ends_done}, EntryChannel.EntryHand}}
+use Rattle.tn_session.specs.workers.Reading.{IsEnding, IsReadCause, max_reads, Telling, piece_told, size_told, control_told, told_messages, pieces_in}
+use Rattle.tn_session.specs.{declared.workers.mail.{Mail.Mail, Sender.{Sender, TheVariants.{Net, Desk, Back, Keys}}}, Transcripts.{bytes_sent, came_by}}
+use Rattle.tn_session.specs.{Facts.{SessionJobs, SessionResult, TermSettings}, Session.{Schedule, HearsReader, TakesEntries}}
+use Rattle.tn_cores.specs.{queue.Queue.taker, streams.{Writing.max_writes, Foretelling.WillFail, Known.{KnownReader, KnownWriting}, Telling.SomeFailed}}
+use Rattle.tn_cores.specs.{server.{Giving.{GivesPrefix, entries_put}, Ending.{IsEndedAt, IsFaultCause}, Marks.no_writes_failed, Run.Run}, Pieces.bytes_in}
+use Rattle.tn_cores.specs.{server.Hearing.{heard, at_end_after, MayCome, MayAllCome, KeepsOn, AllKeepOn, Hears, HangsUp}, declared.messages.Message.Message}
+use Rattle.tn_cores.specs.declared.messages.Message.TheVariants.{Piece, HangUp, ReadFailed, Take, Said, Refused, Left, Resized, Asked}
+use Rattle.tn_cores.proofs.lemmas.{streams.Telling.some_failed, server.Hearing.{entries_grow, entries_same}}
+use Rattle.tn_cores.specs.declared.faults.Ended.TheVariants as ended
+use Rattle.tn_cores.specs.declared.faults.SessionFault.TheVariants as fault
 use Rattle.tn_linemode.specs.Prefixes.{IsRead}
 
 true_false : true ≡ false → ⊥

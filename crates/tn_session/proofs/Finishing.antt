@@ -1,7 +1,7 @@
 -- The writer is told once that no more comes, and nothing is written after that.
 use Rattle.std.proofs.Common.{◌≡◌, Bool, true, false, ◌||◌, Option, refl, ap, ◌∙◌, subst, sym}
 use Rattle.tn_session.specs.Closing.{Closes}
-use Rattle.tn_streams.specs.Sending.{Sending, finished_on, StaysOpen, IsFinished}
+use Rattle.tn_cores.specs.streams.Sending.{Sending, finished_on, StaysOpen, IsFinished}
 
 -- how far the writer was told: more may come, or it was told and nothing more is sent
 abbrev pub StandsAt : Bool → Bool → Option Sending → Option Sending → Type 0

@@ -8,16 +8,15 @@ use Rattle.tn_nvt.specs.Spelling.{spells}
 use Rattle.tn_server.specs.Replies.{items_said}
 use Rattle.tn_session.proofs.{lemmas.Noting.total-push, Stopped.stands_more, Stopping.term_stays}
 use Rattle.tn_session.specs.{Notes.{Note, Noted, NotesWrite, NotesAll, notes, takes, writes}, Stops.{StandsTold, has_left, term_stops}, Transcripts.IsStep}
-use Rattle.tn_session.specs.Turns.{TurnsMessage, GoesOn, left_one, lefts_of, messages_of, says, is_over, is_marked_whole}
-use Rattle.tn_queue.specs.Queue.{putter}
-use Rattle.tn_workers.specs.{EntryChannel.EntryHand, declared.mail.{Mail.Mail, Sender.TheVariants.Back}}
-use Rattle.tn_streams.proofs.lemmas.{Telling.{accounts_none, accounts_well, accounts_both}, Writing.{appends_more, appends_kept, appends_none}}
-use Rattle.tn_streams.specs.{Known.{KnownWriter, KnownWriting}, Telling.Calls, Writing.{Writes, Tells, max_writes}}
-use Rattle.tn_machines.specs.server.{Marks.{Runs, Turns, is_whole, all_whole, no_write_failed, no_writes_failed}, Reaching.{IsTurn, LeadsTo}}
-use Rattle.tn_machines.specs.{server.Run.{Run, fail, puts_of}, declared.server.messages.{Put.{Put, TheVariants.Nothing}, ServerMark.ServerMark}}
-use Rattle.tn_machines.specs.declared.{messages.Message.{Message, TheVariants.Left}, server.{progress.ServerProgress.ServerProgress, terminal.Term.Term}}
-use Rattle.tn_machines.specs.declared.faults.SessionFault.TheVariants as fault
-use Rattle.tn_machines.specs.declared.server.messages.ServerMark.TheVariants as mark
+use Rattle.tn_session.specs.{Turns.{TurnsMessage, GoesOn, left_one, lefts_of, messages_of, says, is_over, is_marked_whole}, workers.EntryChannel.EntryHand}
+use Rattle.tn_session.specs.declared.workers.mail.{Mail.Mail, Sender.TheVariants.Back}
+use Rattle.tn_cores.specs.{queue.Queue.putter, streams.{Known.{KnownWriter, KnownWriting}, Telling.Calls, Writing.{Writes, Tells, max_writes}}}
+use Rattle.tn_cores.specs.server.{Marks.{Runs, Turns, is_whole, all_whole, no_write_failed, no_writes_failed}, Reaching.{IsTurn, LeadsTo}}
+use Rattle.tn_cores.specs.{server.Run.{Run, fail, puts_of}, declared.server.messages.{Put.{Put, TheVariants.Nothing}, ServerMark.ServerMark}}
+use Rattle.tn_cores.specs.declared.{messages.Message.{Message, TheVariants.Left}, server.{progress.ServerProgress.ServerProgress, terminal.Term.Term}}
+use Rattle.tn_cores.proofs.lemmas.streams.{Telling.{accounts_none, accounts_well, accounts_both}, Writing.{appends_more, appends_kept, appends_none}}
+use Rattle.tn_cores.specs.declared.faults.SessionFault.TheVariants as fault
+use Rattle.tn_cores.specs.declared.server.messages.ServerMark.TheVariants as mark
 
 pub true_false : true ≡ false → ⊥
 true_false e = cc

@@ -1,7 +1,7 @@
 -- Where each sender's list ends in its one Left, and all Lefts were handled, nothing is left over.
 use Rattle.std.proofs.Common.{◌≡◌, ◌+◌, ◌≤◌, ◌<◌, ℕ, Bool, true, false, List, [], ◌∷◌, ◌++◌, refl, sym, ap, ◌∙◌, subst, arith}
-use Rattle.tn_workers.specs.{declared.mail.{Sender.{Sender, TheVariants.{Net, Desk, Back, Keys}}, Mail.Mail}, Mailbox.{same, from, four, Interleaves}}
-use Rattle.tn_session.specs.Turns.{left_one, lefts_of}
+use Rattle.tn_session.specs.{declared.workers.mail.{Sender.{Sender, TheVariants.{Net, Desk, Back, Keys}}, Mail.Mail}, Turns.{left_one, lefts_of}}
+use Rattle.tn_session.specs.workers.Mailbox.{same, from, four, Interleaves}
 use Rattle.tn_session.proofs.Mailbox.{from-append}
 
 pub lefts-append : (a b : List Mail) → lefts_of (a ++ b) ≡ lefts_of a + lefts_of b

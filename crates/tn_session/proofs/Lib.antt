@@ -17,3 +17,4 @@ pub mod CoreGoing
 pub mod Brought
 pub mod ClientCauses
 pub mod ClientWhole
+pub mod of_workers

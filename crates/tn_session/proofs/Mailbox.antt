@@ -1,12 +1,12 @@
 -- Each step of the mailbox keeps its rule.
 use Rattle.std.proofs.Common.{◌≡◌, ◌⊎◌, ℕ, Bool, true, false, List, [], ◌∷◌, ◌++◌, Option, Some, None, refl, sym, ap, ◌∙◌, subst, inl, inr, append_assoc}
 use Rattle.std.proofs.Common.{append-nil}
-use Rattle.tn_workers.specs.declared.{mail.{Sender.{Sender, TheVariants.{Net, Desk, Back, Keys}}, Mail.Mail}, channels.View.View}
-use Rattle.tn_workers.specs.Mailbox.{same, from, Interleaves, share, Woven, add, grown, grown_at, handed, nobody, everyone, union, either, Total, sender}
-use Rattle.tn_workers.specs.Mailbox.{with_handled, four}
+use Rattle.tn_session.specs.declared.workers.{mail.{Sender.{Sender, TheVariants.{Net, Desk, Back, Keys}}, Mail.Mail}, channels.View.View}
+use Rattle.tn_session.specs.workers.Mailbox.{same, from, Interleaves, share, Woven, add, grown, grown_at, handed, nobody, everyone, union, either, Total}
+use Rattle.tn_session.specs.workers.Mailbox.{sender, with_handled, four}
 use Rattle.crossbeam_channel.specs.Fifo.{Pushes, Pops, Forks, Merges, Learns}
-use Rattle.tn_streams.specs.Seats.{Kept}
-use Rattle.tn_streams.proofs.lemmas.Seats.{or_held, same_held, begins, learns, moves, Cuts, forks, merges}
+use Rattle.tn_cores.specs.streams.Seats.{Kept}
+use Rattle.tn_cores.proofs.lemmas.streams.Seats.{or_held, same_held, begins, learns, moves, Cuts, forks, merges}
 
 pub same_true : (a b : Sender) → same a b ≡ true → a ≡ b
 same_true Net Net e = refl

@@ -2,10 +2,10 @@
 use Rattle.std.proofs.Common.{◌≡◌, ℕ, ◌+◌, ◌≤◌, Option, Some, None, IfSome, Ok, Err, List, [], ◌∷◌, ◌++◌, length, refl, sym, ap, ◌∙◌, subst, arith}
 use Rattle.std.proofs.lemmas.Fn.{FoldsTo-push}
 use Rattle.std.specs.List.{FoldsTo}
-use Rattle.tn_workers.specs.{Turning.{EachFresh, ids_of, jobs_of}, declared.back.Runner.Runner}
+use Rattle.tn_session.specs.{workers.Turning.{EachFresh, ids_of, jobs_of}, declared.workers.back.Runner.Runner}
 use Rattle.tn_session.specs.Makers.{AreFresh, HasMade, MayBeDone, MayGoOn, MakesJob, AreAll, IsMakerFault}
-use Rattle.tn_machines.specs.declared.faults.SessionFault.{SessionFault}
-use Rattle.tn_machines.specs.declared.faults.SessionFault.TheVariants as fault
+use Rattle.tn_cores.specs.declared.faults.SessionFault.{SessionFault}
+use Rattle.tn_cores.specs.declared.faults.SessionFault.TheVariants as fault
 
 pub none_came : (J E : Type 0) (old new : Option ℕ) → MakesJob {J = J} {E = E} old new (Ok None) → MayBeDone old
 none_came J E None new m = tt

@@ -2,8 +2,8 @@
 use Rattle.std.proofs.Common.{◌≡◌, ◌≢◌, ℕ, List, [], ◌∷◌, ◌++◌, ◌⊎◌, ⊎_elim, inl, inr, Option, Some, None, sym, ap, ◌∙◌, subst}
 use Rattle.tn_jobs.specs.{Jobs.{Jobs, state_at, Adds}, declared.held_jobs.JobId.JobId}
 use Rattle.tn_jobs.specs.declared.verdicts.JobState.TheVariants as job
-use Rattle.tn_session.specs.{Jobs.{Numbered, IsMade}, declared.making.Made.Made}
-use Rattle.tn_workers.specs.{Stepping.IsIn, Turning.{ids_of, AreApart, EachFresh, IsQueue}, declared.back.Runner.Runner}
+use Rattle.tn_session.specs.{Jobs.{Numbered, IsMade}, declared.making.Made.Made, workers.{Stepping.IsIn, Turning.{ids_of, AreApart, EachFresh, IsQueue}}}
+use Rattle.tn_session.specs.declared.workers.back.Runner.{Runner}
 
 none_some : {A : Type 0} (o : Option A) (x : A) → o ≡ None → o ≡ Some x → ⊥
 none_some o x a b = cc

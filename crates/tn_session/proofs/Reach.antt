@@ -1,15 +1,13 @@
 -- A session whose messages are welcome doesn't end because too many entries wait.
 use Rattle.std.proofs.Common.{◌≡◌, ℕ, Bool, true, false, List, sym, ap, ◌∙◌, subst}
-use Rattle.tn_machines.specs.{Counting.first_end, declared.{faults.Ended.{Ended, TheVariants.{HangUp, Done, Fault}}, messages.Message.Message}, server.Run.Run}
-use Rattle.tn_machines.specs.{server.{Marks.run_after_opening, Reaching.LeadsTo, Welcoming.{IsWelcome, too_far_ahead}}, declared.server.terminal.Term.Term}
-use Rattle.tn_machines.specs.declared.server.progress.ServerProgress.{ServerProgress}
-use Rattle.tn_machines.specs.declared.faults.SessionFault.TheVariants as fault
+use Rattle.tn_cores.specs.{Counting.first_end, declared.{faults.Ended.{Ended, TheVariants.{HangUp, Done, Fault}}, messages.Message.Message}, server.Run.Run}
+use Rattle.tn_cores.specs.{server.{Marks.run_after_opening, Reaching.LeadsTo, Welcoming.{IsWelcome, too_far_ahead}}, declared.server.terminal.Term.Term}
+use Rattle.tn_cores.specs.{declared.server.progress.ServerProgress.ServerProgress, streams.Known.KnownWriting}
+use Rattle.tn_cores.specs.declared.faults.SessionFault.TheVariants as fault
 use Rattle.tn_discipline.specs.declared.reads.Entry.{Entry}
 use Rattle.std.specs.Prelude.{Option}
-use Rattle.tn_session.specs.{Notes.{Noted, no_notes}, Session.IsOpening, Turns.{GoesOn, TurnsMessage, StaysInReach}}
-use Rattle.tn_workers.specs.EntryChannel.{EntryHand}
-use Rattle.tn_streams.specs.Known.{KnownWriting}
-use Rattle.tn_machines.proofs.lemmas.server.Welcoming.{stays_in_reach}
+use Rattle.tn_session.specs.{Notes.{Noted, no_notes}, Session.IsOpening, Turns.{GoesOn, TurnsMessage, StaysInReach}, workers.EntryChannel.EntryHand}
+use Rattle.tn_cores.proofs.lemmas.server.Welcoming.{stays_in_reach}
 
 ended_as : (c : Run) (t : Term) → LeadsTo c t → t.progress.ended ≡ c.progress.ended
 ended_as c t at = ap (λ (p : ServerProgress). p.ended) at.progress

@@ -1,13 +1,11 @@
 -- Each thread sends one Left, its last message.
 use Rattle.std.proofs.{Common.{◌≡◌, ℕ, Bool, List, [], ◌∷◌, ◌++◌, Option, refl, sym, ap, ◌∙◌, ⊎_elim, map, subst, append_assoc, arith}, lemmas.List.map-append}
-use Rattle.tn_session.proofs.Lefts.{EndsLeft, lefts-append}
+use Rattle.tn_session.proofs.{Lefts.{EndsLeft, lefts-append}, lemmas.workers.Readers.{if_said, is_said}}
 use Rattle.tn_jobs.specs.declared.held_jobs.JobId.{JobId}
-use Rattle.tn_workers.proofs.lemmas.Readers.{if_said, is_said}
-use Rattle.tn_workers.specs.{Mailbox.{sender, mail}, Reader.ReaderSends, Reading.{IsEnding, Telling, piece_told, size_told, control_told, told_messages}}
-use Rattle.tn_workers.specs.declared.{channels.View.View, mail.{Mail.Mail, Sender.Sender}}
-use Rattle.tn_session.specs.Turns.{left_one, lefts_of}
-use Rattle.tn_streams.specs.Known.{KnownReader}
-use Rattle.tn_machines.specs.declared.messages.Message.{Message, TheVariants.{Piece, HangUp, ReadFailed, Take, Said, Refused, Left, Resized, Asked}}
+use Rattle.tn_session.specs.{workers.{Mailbox.{sender, mail}, Reader.ReaderSends}, declared.workers.{channels.View.View, mail.{Mail.Mail, Sender.Sender}}}
+use Rattle.tn_session.specs.{workers.Reading.{IsEnding, Telling, piece_told, size_told, control_told, told_messages}, Turns.{left_one, lefts_of}}
+use Rattle.tn_cores.specs.{streams.Known.KnownReader, declared.messages.Message.Message}
+use Rattle.tn_cores.specs.declared.messages.Message.TheVariants.{Piece, HangUp, ReadFailed, Take, Said, Refused, Left, Resized, Asked}
 
 abbrev pub NoLeft : List Message → Type 0
 NoLeft [] = Unit {0}

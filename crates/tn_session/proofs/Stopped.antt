@@ -2,11 +2,11 @@
 use Rattle.std.proofs.Common.{◌≡◌, Bool, true, false, not, ◌||◌, ◌&&◌, List, [], ◌∷◌, ◌++◌, Option, Some, None, IfSome, refl, sym, ap, ◌∙◌, subst, map}
 use Rattle.std.proofs.Common.{append_assoc, arith}
 use Rattle.crossbeam_channel.specs.{Claims.IsSeatAt, Ends.{sends_on, receives_on}}
-use Rattle.tn_machines.specs.declared.messages.Message.{Message, TheVariants.{Piece, HangUp, ReadFailed, Take, Said, Refused, Left, Resized, Asked}}
-use Rattle.tn_queue.specs.Queue.{putter, put_more, joined_hands, one_of, LeftOver}
+use Rattle.tn_cores.specs.declared.messages.Message.{Message, TheVariants.{Piece, HangUp, ReadFailed, Take, Said, Refused, Left, Resized, Asked}}
+use Rattle.tn_cores.specs.queue.Queue.{putter, put_more, joined_hands, one_of, LeftOver}
 use Rattle.tn_session.proofs.Lefts.{lefts_here, lefts_else}
-use Rattle.tn_workers.specs.{Mailbox.{same, from, mail}, Stops.{StopHand, StopsStay, has_stopped, took_some}, declared.mail.{Mail.Mail, Sender.Sender}}
-use Rattle.tn_workers.specs.declared.{mail.Sender.TheVariants.{Net, Desk, Back, Keys}, stops.{Stop.Stop, StopSeat.StopSeat}}
+use Rattle.tn_session.specs.{workers.{Mailbox.{same, from, mail}, Stops.{StopHand, StopsStay, has_stopped, took_some}}, declared.workers.mail.Mail.Mail}
+use Rattle.tn_session.specs.declared.workers.{mail.Sender.{Sender, TheVariants.{Net, Desk, Back, Keys}}, stops.{Stop.Stop, StopSeat.StopSeat}}
 use Rattle.tn_session.specs.{Stops.{IsTold, AreNewStops, LeavesAt, StandsTold, is_left, leaves, has_left}, Turns.{left_one, lefts_of}}
 use Rattle.tn_session.specs.declared.stops.StopTeller.{StopTeller}
 

@@ -1,22 +1,22 @@
 -- Where a thread is to stop, it is to stop from there on.
 use Rattle.std.proofs.Common.{◌≡◌, ℕ, Bool, true, false, ◌||◌, Option, Some, None, List, [], ◌∷◌, refl, sym, ap, ◌∙◌}
-use Rattle.tn_machines.specs.client.Counting as core_counting
-use Rattle.tn_machines.specs.client.Marks as core_marks
-use Rattle.tn_machines.specs.client.Run as core_run
-use Rattle.tn_machines.specs.declared.client.messages.ClientMark as core_mark
-use Rattle.tn_machines.specs.declared.client.messages.ClientMark.TheVariants as core_is
-use Rattle.tn_machines.specs.declared.{client.{messages.{Origin.Origin, Told.Told}, progress.ClientProgress.ClientProgress}, messages.Message.Message}
-use Rattle.tn_machines.specs.declared.messages.Message.TheVariants.{Piece, HangUp, ReadFailed, Take, Said, Refused, Left, Resized, Asked}
-use Rattle.tn_machines.specs.declared.client.messages.Origin.TheVariants as origin
+use Rattle.tn_cores.specs.client.Counting as core_counting
+use Rattle.tn_cores.specs.client.Marks as core_marks
+use Rattle.tn_cores.specs.client.Run as core_run
+use Rattle.tn_cores.specs.declared.client.messages.ClientMark as core_mark
+use Rattle.tn_cores.specs.declared.client.messages.ClientMark.TheVariants as core_is
+use Rattle.tn_cores.specs.declared.{client.{messages.{Origin.Origin, Told.Told}, progress.ClientProgress.ClientProgress}, messages.Message.Message}
+use Rattle.tn_cores.specs.declared.messages.Message.TheVariants.{Piece, HangUp, ReadFailed, Take, Said, Refused, Left, Resized, Asked}
+use Rattle.tn_cores.specs.declared.client.messages.Origin.TheVariants as origin
 use Rattle.tn_discipline.specs.declared.reads.Entry.{Entry}
 use Rattle.tn_jobs.specs.declared.verdicts.{JobState.JobState, Verdict.Verdict, Why.Why}
 use Rattle.tn_jobs.specs.declared.verdicts.JobState.TheVariants as job
 use Rattle.tn_server.specs.{Events.{next, took}, Lines.waiting}
 use Rattle.tn_session.specs.Stops.{core_stops, term_stops}
-use Rattle.tn_machines.specs.server.Marks as term_marks
-use Rattle.tn_machines.specs.server.Run as term_run
-use Rattle.tn_machines.specs.declared.server.messages.ServerMark as term_mark
-use Rattle.tn_machines.specs.declared.server.messages.ServerMark.TheVariants as term_is
+use Rattle.tn_cores.specs.server.Marks as term_marks
+use Rattle.tn_cores.specs.server.Run as term_run
+use Rattle.tn_cores.specs.declared.server.messages.ServerMark as term_mark
+use Rattle.tn_cores.specs.declared.server.messages.ServerMark.TheVariants as term_is
 
 by_over : (over at_end : Bool) → over ≡ true → (over || at_end) ≡ true
 by_over over at_end e = ap (λ (b : Bool). b || at_end) e

@@ -7,21 +7,20 @@ use Rattle.tn_jobs.specs.{Jobs.Jobs, declared.{held_jobs.JobId.JobId, reactions.
 use Rattle.tn_nvt.specs.Spelling.{spells}
 use Rattle.tn_server.specs.{Replies.items_said, declared.wishes.Editing.Editing}
 use Rattle.tn_session.proofs.{Going.{false_true, from_to}, Lefts.none_over, Mailbox.all_woven, Sent.{NoLeft, Sent, no_left-append, sent_by, reader_sent}}
-use Rattle.tn_session.proofs.{Stopped.{was_left, stopped_told}, lemmas.{Noting.{IsUpTo, same_steps}, Sessions.server_stepped}}
-use Rattle.tn_workers.specs.{Acts.JobActs, Mailbox.{Interleaves, from, four, sender, union, nobody, everyone, with_handled, mail, Total}, Reader.ReaderSends}
-use Rattle.tn_workers.specs.{Stepping.{BackJobs, AreSteps, step_said}, Stops.StopHand, Talk.{IsJob, IsTalk, Closes, turns_said}, Turning.{Holds, queue_of}}
-use Rattle.tn_workers.specs.{declared.{channels.View.View, mail.{Mail.Mail, Sender.TheVariants.{Net, Desk, Back}}}, EntryChannel.EntryHand}
-use Rattle.tn_session.specs.{Facts.{SessionJobs, SessionResult, SessionViews}, Joining.{handler, AreSettled}, Notes.{Note, Noted, NotesAll, no_notes, notes}}
-use Rattle.tn_session.specs.{Session.{IsNoted, IsOpening, IsRun, OpensOrTurns, brings, brought_by, report_of}, Stops.{IsTold, term_stops}}
-use Rattle.tn_session.specs.{Transcripts.{Exchange, IsStep, Transcribes, exchange_of, total}, Turns.{HandlesAll, is_marked_whole, is_over, messages_of, says}}
-use Rattle.tn_queue.specs.Queue.{putter, taker, joined_hands, both_hands, no_hand, LeftOver}
+use Rattle.tn_session.proofs.{Stopped.{was_left, stopped_told}, lemmas.{Noting.{IsUpTo, same_steps}, Sessions.server_stepped, workers.Turning.is_close}}
+use Rattle.tn_session.specs.workers.{Acts.JobActs, Mailbox.{Interleaves, from, four, sender, union, nobody, everyone, with_handled, mail, Total}}
+use Rattle.tn_session.specs.workers.{Reader.ReaderSends, Stepping.{BackJobs, AreSteps, step_said}, Stops.StopHand, Talk.{IsJob, IsTalk, Closes, turns_said}}
+use Rattle.tn_session.specs.{workers.Turning.{Holds, queue_of}, declared.workers.{channels.View.View, mail.{Mail.Mail, Sender.TheVariants.{Net, Desk, Back}}}}
+use Rattle.tn_session.specs.{workers.EntryChannel.EntryHand, Facts.{SessionJobs, SessionResult, SessionViews}, Joining.{handler, AreSettled}}
+use Rattle.tn_session.specs.{Notes.{Note, Noted, NotesAll, no_notes, notes}, Session.{IsNoted, IsOpening, IsRun, OpensOrTurns, brings, brought_by, report_of}}
+use Rattle.tn_session.specs.{Stops.{IsTold, term_stops}, Transcripts.{Exchange, IsStep, Transcribes, exchange_of, total}}
+use Rattle.tn_session.specs.Turns.{HandlesAll, is_marked_whole, is_over, messages_of, says}
+use Rattle.tn_cores.specs.{queue.Queue.{putter, taker, joined_hands, both_hands, no_hand, LeftOver}, streams.Writing.max_writes, Pieces.bytes_in}
+use Rattle.tn_cores.specs.{streams.Known.{KnownReader, KnownWriter}, server.Marks.{Turns, run_after_opening, all_whole, no_writes_failed}}
+use Rattle.tn_cores.specs.{server.Run.{Run, start, opening}, declared.server.{messages.ServerMark.ServerMark, progress.ServerProgress.ServerProgress}}
+use Rattle.tn_cores.specs.declared.{messages.Message.{Message, TheVariants.{Take, Refused, Left}}, server.terminal.Term.Term}
 use Rattle.tn_session.specs.Session as of_server
-use Rattle.tn_workers.proofs.lemmas.Turning.{is_close}
-use Rattle.tn_streams.specs.{Writing.max_writes, Known.{KnownReader, KnownWriter}}
-use Rattle.tn_streams.proofs.lemmas.{Writing.appends_more, Telling.accounts_both}
-use Rattle.tn_machines.specs.{server.{Marks.{Turns, run_after_opening, all_whole, no_writes_failed}, Run.{Run, start, opening}}, Pieces.bytes_in}
-use Rattle.tn_machines.specs.declared.{server.{messages.ServerMark.ServerMark, progress.ServerProgress.ServerProgress}, messages.Message.Message}
-use Rattle.tn_machines.specs.declared.{messages.Message.TheVariants.{Take, Refused, Left}, server.terminal.Term.Term}
+use Rattle.tn_cores.proofs.lemmas.streams.{Writing.appends_more, Telling.accounts_both}
 
 -- the passes are joined and cut again
 

@@ -4,3 +4,4 @@ pub mod Transcribing
 pub mod Sessions
 pub mod Noting
 pub mod Plain
+pub mod workers

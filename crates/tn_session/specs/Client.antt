@@ -4,29 +4,28 @@ use Rattle.std.specs.{Prelude.{IfSome, map}, Io.KnownBytes.Appends}
 use Rattle.crossbeam_channel.specs.Claims.{Pass, view, IsSeatAt}
 use Rattle.crossbeam_channel.specs.Ends.{sends_on, receives_on, ruled_capacity}
 use Rattle.tn_client.specs.{Replies.items_said, Screen.text_shown}
-use Rattle.tn_machines.specs.client.Bringing.{Input, inputs_brought, keys_in, input_of, all_asked}
-use Rattle.tn_machines.specs.client.{Bringing.{brought_from, brought, TakesInOrder}, Ending.IsEndedAt}
-use Rattle.tn_machines.specs.client.Marks.{Turns, Runs, no_write_failed, no_show_failed, all_by, all_written}
-use Rattle.tn_machines.specs.client.{Marks.all_whole, Reaching.LeadsTo, Run.{Run, start}}
-use Rattle.tn_machines.specs.declared.client.{machine.Core.Core, messages.{ClientMark.ClientMark, Told.Told}}
-use Rattle.tn_machines.specs.declared.client.progress.ClientProgress.{ClientProgress}
-use Rattle.tn_machines.specs.declared.faults.{Ended.TheVariants.Fault, SessionFault.SessionFault}
-use Rattle.tn_machines.specs.declared.client.messages.Origin.TheVariants as origin
+use Rattle.tn_cores.specs.client.Bringing.{Input, inputs_brought, keys_in, input_of, all_asked, brought_from}
+use Rattle.tn_cores.specs.client.{Bringing.{brought, TakesInOrder}, Ending.IsEndedAt, Marks.all_whole}
+use Rattle.tn_cores.specs.client.Marks.{Turns, Runs, no_write_failed, no_show_failed, all_by, all_written}
+use Rattle.tn_cores.specs.{client.{Reaching.LeadsTo, Run.{Run, start}}, declared.client.machine.Core.Core}
+use Rattle.tn_cores.specs.{declared.client.messages.{ClientMark.ClientMark, Told.Told}, queue.Queue.putter}
+use Rattle.tn_cores.specs.{declared.client.progress.ClientProgress.ClientProgress, streams.Beside.TellsFirst}
+use Rattle.tn_cores.specs.declared.faults.{Ended.TheVariants.Fault, SessionFault.SessionFault}
+use Rattle.tn_cores.specs.streams.{Writing.{Tells, max_writes}, Foretelling.WillFail, Telling.SomeFailed}
+use Rattle.tn_cores.specs.streams.Known.{KnownReader, KnownTyping, KnownWriting}
+use Rattle.tn_cores.specs.declared.client.messages.Origin.TheVariants as origin
 use Rattle.tn_nvt.specs.Spelling.{spells}
-use Rattle.tn_queue.specs.Queue.{putter}
 use Rattle.tn_session.specs.CoreTurns as turns
 use Rattle.tn_session.specs.{CoreTurns.{all_told, origin_of}, Notes.{Note, notes, no_notes}}
 use Rattle.tn_session.specs.{Facts.{ClientResult, Window}, Stops.{AreNewStops, IsTold, LeavesAt, core_stops}}
 use Rattle.tn_session.specs.Transcripts.{Exchange, ReadsPrefix, Transcribes, all_read, all_wrote, came_by}
 use Rattle.tn_session.specs.{Transcripts.exchange_of, declared.client.{CoreEnds.CoreEnds, Mailbox.Mailbox}}
 use Rattle.tn_session.specs.declared.{parties.Report.Report, stops.StopTeller.StopTeller}
-use Rattle.tn_session.specs.declared.threads.ReaderSays.{ReaderSays}
-use Rattle.tn_workers.specs.{Mailbox.{Interleaves, four, sender}, Reader.ReaderSends, declared.mail.Mail.Mail}
-use Rattle.tn_workers.specs.{Reading.{max_reads, pieces_in, controls_in}, declared.channels.View.View}
-use Rattle.tn_workers.specs.declared.mail.Sender.TheVariants.{Net, Keys}
-use Rattle.tn_streams.specs.{Writing.{Tells, max_writes}, Foretelling.WillFail, Beside.TellsFirst}
-use Rattle.tn_streams.specs.{Known.{KnownReader, KnownTyping, KnownWriting}, Telling.SomeFailed}
-use Rattle.tn_machines.specs.declared.faults.SessionFault.TheVariants as fault
+use Rattle.tn_session.specs.{declared.threads.ReaderSays.ReaderSays, workers.Reader.ReaderSends}
+use Rattle.tn_session.specs.{workers.Mailbox.{Interleaves, four, sender}, declared.workers.mail.Mail.Mail}
+use Rattle.tn_session.specs.workers.Reading.{max_reads, pieces_in, controls_in}
+use Rattle.tn_session.specs.declared.workers.{channels.View.View, mail.Sender.TheVariants.{Net, Keys}}
+use Rattle.tn_cores.specs.declared.faults.SessionFault.TheVariants as fault
 
 -- the view of the one that handles, in a session of two senders; nobody sends as Desk or Back
 abbrev pub core_view : List Mail → View

@@ -1,6 +1,6 @@
 -- When the writer is told that no more comes from this end.
 use Rattle.std.specs.Prelude.{◌≡◌, Bool, true, IsTrue, false, IsFalse, Option}
-use Rattle.tn_streams.specs.Sending.{Sending, finished_on}
+use Rattle.tn_cores.specs.streams.Sending.{Sending, finished_on}
 
 -- it is told once: now, where it is to be and was not before; the answer is whether it was told
 abbrev pub Closes : Bool → Bool → Bool → Option Sending → Option Sending → Type 0

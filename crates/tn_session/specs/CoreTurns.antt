@@ -2,17 +2,17 @@
 use Rattle.std.specs.{Prelude.{◌≡◌, ℕ, ◌≤◌, Bool, IsTrue, IsFalse, List, map}, List.FoldsTo}
 use Rattle.std.specs.Io.KnownBytes.{Appends}
 use Rattle.tn_client.specs.Replies.{items_said}
-use Rattle.tn_machines.specs.client.Marks.{Turns, Runs, is_written, no_write_failed, no_show_failed, all_by}
-use Rattle.tn_machines.specs.{client.Marks.{all_written, all_whole}, declared.client.machine.Core.Core}
-use Rattle.tn_machines.specs.client.{Reaching.{LeadsTo, IsTurn, SendsPrefix, ShowsPrefix}, Run.Run}
-use Rattle.tn_machines.specs.declared.client.messages.{ClientMark.ClientMark, Origin.Origin, Told.Told}
-use Rattle.tn_machines.specs.declared.client.messages.Origin.TheVariants as origin
+use Rattle.tn_cores.specs.client.Marks.{Turns, Runs, is_written, no_write_failed, no_show_failed, all_by}
+use Rattle.tn_cores.specs.{client.Marks.{all_written, all_whole}, declared.client.machine.Core.Core}
+use Rattle.tn_cores.specs.client.{Reaching.{LeadsTo, IsTurn, SendsPrefix, ShowsPrefix}, Run.Run}
+use Rattle.tn_cores.specs.declared.client.messages.{ClientMark.ClientMark, Origin.Origin, Told.Told}
+use Rattle.tn_cores.specs.streams.{Writing.Tells, Known.KnownWriting}
+use Rattle.tn_cores.specs.declared.client.messages.Origin.TheVariants as origin
 use Rattle.tn_nvt.specs.Spelling.{spells}
-use Rattle.tn_workers.specs.{Mailbox.with_handled, Stops.StopHand, declared.channels.View.View}
-use Rattle.tn_workers.specs.declared.mail.{Mail.Mail, Sender.{Sender, TheVariants.Keys}}
+use Rattle.tn_session.specs.{workers.{Mailbox.with_handled, Stops.StopHand}, declared.workers.mail.Mail.Mail}
+use Rattle.tn_session.specs.declared.workers.{channels.View.View, mail.Sender.{Sender, TheVariants.Keys}}
 use Rattle.tn_session.specs.{Notes.{Noted, NotesAll, no_notes, writes}, Transcripts.{IsStep, total}}
 use Rattle.tn_session.specs.{Stops.{IsTold, StandsTold, core_stops}, Turns.lefts_of}
-use Rattle.tn_streams.specs.{Writing.Tells, Known.KnownWriting}
 
 -- in a client's session all that is not from the keys is from the network
 abbrev pub origin_of : Sender → Origin

@@ -2,10 +2,10 @@
 -- each step.
 use Rattle.std.specs.Prelude.{◌≡◌, ◌+◌, ◌≤◌, List, length}
 use Rattle.crossbeam_channel.specs.{Claims.IsSeatAt, Ends.{sends_on, receives_on, ruled_capacity}}
-use Rattle.tn_session.specs.declared.credit.CreditGiver.{CreditGiver}
-use Rattle.tn_workers.specs.{Credits.{pieces_among, steps_among}, Mailbox.with_handled}
-use Rattle.tn_workers.specs.declared.{channels.View.View, credit.CreditTally.CreditTally, mail.Mail.Mail}
-use Rattle.tn_workers.specs.declared.credit.StepCredits.{StepCredits}
+use Rattle.tn_session.specs.{declared.credit.CreditGiver.CreditGiver, workers.Mailbox.with_handled}
+use Rattle.tn_session.specs.{workers.Credits.{pieces_among, steps_among}, declared.workers.channels.View.View}
+use Rattle.tn_session.specs.declared.workers.{credit.CreditTally.CreditTally, mail.Mail.Mail}
+use Rattle.tn_session.specs.declared.workers.credit.StepCredits.{StepCredits}
 
 -- one credit at most is given for each step that was handled
 abbrev pub GivesStepCredits : View → View → CreditTally → CreditTally → Type 0

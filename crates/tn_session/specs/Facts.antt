@@ -4,10 +4,10 @@ use Rattle.crossbeam_channel.specs.Claims.{view}
 use Rattle.tn_discipline.specs.{Canon.Canon, declared.reads.Entry.Entry}
 use Rattle.tn_jobs.specs.declared.{held_jobs.JobId.JobId, reactions.Reaction.Reaction}
 use Rattle.tn_server.specs.declared.wishes.Editing.{Editing}
-use Rattle.tn_workers.specs.{Acts.{JobActs, job_acts}, declared.{back.Runner.Runner, channels.View.View}}
-use Rattle.tn_workers.specs.{EntryChannel.EntryHand, Stops.StopHand}
-use Rattle.tn_session.specs.{Notes.{Noted, noted_of}, declared.parties.{ClientPorts.ClientPorts, Ports.Ports}}
-use Rattle.tn_session.specs.declared.parties.Report.{Report}
+use Rattle.tn_session.specs.{workers.Acts.{JobActs, job_acts}, declared.workers.back.Runner.Runner}
+use Rattle.tn_session.specs.{declared.workers.channels.View.View, workers.EntryChannel.EntryHand}
+use Rattle.tn_session.specs.{workers.Stops.StopHand, Notes.{Noted, noted_of}, declared.parties.Ports.Ports}
+use Rattle.tn_session.specs.declared.parties.{ClientPorts.ClientPorts, Report.Report}
 
 -- of a type of jobs: how they act, and with which a session may begin, the first and then the others, in
 -- order

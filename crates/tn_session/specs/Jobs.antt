@@ -2,8 +2,7 @@
 use Rattle.std.specs.Prelude.{◌≡◌, ◌≢◌, ℕ, Some, None, List}
 use Rattle.tn_jobs.specs.{Jobs.{Jobs, state_at}, declared.held_jobs.JobId.JobId}
 use Rattle.tn_jobs.specs.declared.verdicts.JobState.TheVariants as job
-use Rattle.tn_workers.specs.{Stepping.IsIn, Turning.{IsQueue, ids_of}}
-use Rattle.tn_session.specs.declared.making.Made.{Made}
+use Rattle.tn_session.specs.{workers.{Stepping.IsIn, Turning.{IsQueue, ids_of}}, declared.making.Made.Made}
 
 -- the first job is in the foreground, these others are in the background, and there are no more
 pub record Numbered (jobs : Jobs) (first : JobId) (others : List ℕ) : Type 0 where

@@ -3,10 +3,10 @@ use Rattle.std.specs.Prelude.{◌≡◌, List, Option, Some, None, [], ◌++◌}
 use Rattle.crossbeam_channel.specs.{Claims.{view, IsSeatAt}, Ends.{sends_on, receives_on, ruled_capacity}}
 use Rattle.tn_discipline.specs.declared.reads.Entry.{Entry}
 use Rattle.tn_session.specs.{Credits.AreNewCredits, Facts.SessionViews, declared.session.Channels.Channels}
-use Rattle.tn_workers.specs.{Mailbox.{Interleaves, four, sender}, declared.channels.View.View}
-use Rattle.tn_workers.specs.declared.mail.{Mail.Mail, Sender.TheVariants.{Net, Desk, Back}}
-use Rattle.tn_queue.specs.Queue.{putter, taker}
-use Rattle.tn_streams.specs.Prefixes.{IsPrefixOf}
+use Rattle.tn_session.specs.{workers.Mailbox.{Interleaves, four, sender}, declared.workers.channels.View.View}
+use Rattle.tn_session.specs.declared.workers.mail.{Mail.Mail, Sender.TheVariants.{Net, Desk, Back}}
+use Rattle.tn_cores.specs.queue.Queue.{putter, taker}
+use Rattle.tn_nvt.specs.Prefixes.{IsPrefixOf}
 
 -- the view of the one that handles, in a session of three senders; nobody sends as Keys
 abbrev pub handler : List Mail → View

@@ -11,3 +11,5 @@ pub mod Transcripts
 pub mod Session
 pub mod CoreTurns
 pub mod Client
+pub mod roster
+pub mod workers

@@ -1,7 +1,7 @@
 -- The jobs that a maker makes, as it tells how many are to come.
 use Rattle.std.specs.Prelude.{◌≡◌, ◌≢◌, ℕ, ◌+◌, min, Option, Some, None, Result, Ok, Err, List, [], ◌∷◌}
 use Rattle.std.specs.{Prelude.length, List.FoldsTo}
-use Rattle.tn_machines.specs.declared.faults.SessionFault.{SessionFault, TheVariants.{Memory, Start}}
+use Rattle.tn_cores.specs.declared.faults.SessionFault.{SessionFault, TheVariants.{Memory, Start}}
 
 -- so many jobs were made; whoever tells nothing goes on to tell nothing
 abbrev pub HasMade : ℕ → Option ℕ → Option ℕ → Type 0

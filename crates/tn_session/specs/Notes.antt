@@ -2,7 +2,7 @@
 -- wrote to the network before it took the next.
 use Rattle.std.specs.Prelude.{◌≡◌, ℕ, Bool, IsTrue, Option, Some, None, List, [], ◌∷◌, ◌++◌, map}
 use Rattle.std.specs.Io.KnownBytes.{Appends}
-use Rattle.tn_workers.specs.declared.mail.Mail.{Mail}
+use Rattle.tn_session.specs.declared.workers.mail.Mail.{Mail}
 use Rattle.tn_session.specs.declared.transcript.Transcript.{Transcript, Begun, Took', Wrote'}
 
 -- the mail that was taken, none before the first, and what was written from there on

@@ -3,29 +3,28 @@ use Rattle.std.specs.Prelude.{◌≡◌, ◌⊎◌, ℕ, Bool, IsTrue, false, Is
 use Rattle.std.specs.{Prelude.{◌∷◌, ◌++◌, length, map}, Io.KnownBytes.{Appends, Consumes, IsAtEnd}}
 use Rattle.tn_discipline.specs.declared.reads.Entry.{Entry}
 use Rattle.tn_jobs.specs.{Jobs.Jobs, declared.held_jobs.JobId.JobId}
-use Rattle.tn_nvt.specs.{Spelling.spells, declared.items.Item.Item}
+use Rattle.tn_nvt.specs.{Spelling.spells, declared.items.Item.Item, Prefixes.IsPrefixOf}
 use Rattle.tn_server.specs.{Events.items, Lines.entries, Replies.items_said}
-use Rattle.tn_workers.specs.{Acts.JobActs, Mailbox.{Interleaves, four, sender}, Reader.ReaderSends}
-use Rattle.tn_workers.specs.{Reading.{max_reads, pieces_in}, Stepping.AreSteps, Talk.{IsJob, IsTalk}}
-use Rattle.tn_workers.specs.{Turning.{Holds, IsQueue, ids_of, jobs_of, queue_of}, declared.back.Runner.Runner}
-use Rattle.tn_workers.specs.declared.mail.{Mail.Mail, Sender.TheVariants.{Net, Desk, Back}}
-use Rattle.tn_session.specs.{Facts.{JobFacts, SessionJobs, SessionResult, TermSettings}, Jobs.Numbered}
-use Rattle.tn_session.specs.{Notes.{Noted, NotesWrite, no_notes, noted_of, notes}, Makers.AreAll}
-use Rattle.tn_session.specs.{Stops.{IsTold, LeavesAt, term_stops}, Transcripts.exchange_of, Turns.messages_of}
-use Rattle.tn_session.specs.Transcripts.{Exchange, ReadsPrefix, Transcribes, all_read, all_wrote, came_by}
-use Rattle.tn_session.specs.declared.{parties.Report.Report, session.Begun.Begun}
-use Rattle.tn_streams.specs.{Prefixes.IsPrefixOf, Writing.{Tells, max_writes}, Foretelling.WillFail}
-use Rattle.tn_streams.specs.{Known.{KnownReader, KnownWriter, KnownWriting}, Telling.SomeFailed}
-use Rattle.tn_queue.specs.Queue.{putter, taker}
+use Rattle.tn_session.specs.{workers.Acts.JobActs, Facts.{JobFacts, SessionJobs, SessionResult, TermSettings}}
+use Rattle.tn_session.specs.workers.{Mailbox.{Interleaves, four, sender}, Reading.{max_reads, pieces_in}}
+use Rattle.tn_session.specs.workers.{Reader.ReaderSends, Turning.{Holds, IsQueue, ids_of, jobs_of, queue_of}}
+use Rattle.tn_session.specs.{workers.Stepping.AreSteps, Notes.{Noted, NotesWrite, no_notes, noted_of, notes}}
+use Rattle.tn_session.specs.{workers.Talk.{IsJob, IsTalk}, Jobs.Numbered, Makers.AreAll, Turns.messages_of}
+use Rattle.tn_session.specs.declared.workers.{back.Runner.Runner, mail.Sender.TheVariants.{Net, Desk, Back}}
+use Rattle.tn_session.specs.{declared.workers.mail.Mail.Mail, Stops.{IsTold, LeavesAt, term_stops}}
+use Rattle.tn_session.specs.Transcripts.{exchange_of, Exchange, ReadsPrefix, Transcribes, all_read, all_wrote}
+use Rattle.tn_session.specs.{Transcripts.came_by, declared.{parties.Report.Report, session.Begun.Begun}}
+use Rattle.tn_cores.specs.streams.{Writing.{Tells, max_writes}, Foretelling.WillFail, Telling.SomeFailed}
+use Rattle.tn_cores.specs.{streams.Known.{KnownReader, KnownWriter, KnownWriting}, server.Ending.IsFaultCause}
+use Rattle.tn_cores.specs.{queue.Queue.{putter, taker}, server.Giving.{GivesPrefix, entries_put}}
+use Rattle.tn_cores.specs.server.{Reaching.LeadsTo, Hearing.entries_by, Run.{Run, start, opening}}
+use Rattle.tn_cores.specs.{Pieces.bytes_in, declared.faults.Ended.{Ended, TheVariants.{HangUp, Fault}}}
+use Rattle.tn_cores.specs.server.Marks.{Turns, Runs, run_after_opening, all_whole, no_writes_failed}
+use Rattle.tn_cores.specs.declared.{faults.SessionFault.SessionFault, messages.Message.Message}
+use Rattle.tn_cores.specs.declared.server.{messages.ServerMark.ServerMark, terminal.Term.Term}
+use Rattle.tn_cores.specs.declared.server.progress.ServerProgress.{ServerProgress}
 use Rattle.tn_session.specs.Turns as turns
-use Rattle.tn_machines.specs.server.{Ending.IsFaultCause, Giving.{GivesPrefix, entries_put}, Reaching.LeadsTo}
-use Rattle.tn_machines.specs.{server.{Hearing.entries_by, Run.{Run, start, opening}}, Pieces.bytes_in}
-use Rattle.tn_machines.specs.server.Marks.{Turns, Runs, run_after_opening, all_whole, no_writes_failed}
-use Rattle.tn_machines.specs.declared.faults.Ended.{Ended, TheVariants.{HangUp, Fault}}
-use Rattle.tn_machines.specs.declared.{faults.SessionFault.SessionFault, messages.Message.Message}
-use Rattle.tn_machines.specs.declared.server.{messages.ServerMark.ServerMark, terminal.Term.Term}
-use Rattle.tn_machines.specs.declared.server.progress.ServerProgress.{ServerProgress}
-use Rattle.tn_machines.specs.declared.faults.SessionFault.TheVariants as fault
+use Rattle.tn_cores.specs.declared.faults.SessionFault.TheVariants as fault
 use Rattle.tn_linemode.specs.Prefixes.{IsRead}
 
 abbrev pub report_of : ServerProgress → Report

@@ -2,12 +2,11 @@
 -- has any effect any more, or nothing more comes from the network, unless it has left by then.
 use Rattle.std.specs.Prelude.{◌≡◌, Bool, true, IsTrue, false, IsFalse, ◌||◌, ◌&&◌, List, [], ◌∷◌, ◌++◌, map}
 use Rattle.crossbeam_channel.specs.{Claims.{view, IsSeatAt}, Ends.{sends_on, receives_on}}
-use Rattle.tn_machines.specs.declared.client.progress.ClientProgress.{ClientProgress}
-use Rattle.tn_machines.specs.declared.messages.Message.{Message, TheVariants.Left}
-use Rattle.tn_machines.specs.declared.server.progress.ServerProgress.{ServerProgress}
-use Rattle.tn_queue.specs.Queue.{putter, taker}
-use Rattle.tn_workers.specs.{Mailbox.{same, mail}, Stops.StopHand, declared.mail.{Mail.Mail, Sender.Sender}}
-use Rattle.tn_workers.specs.declared.stops.{Stop.Stop, StopSeat.StopSeat}
+use Rattle.tn_cores.specs.declared.{client.progress.ClientProgress.ClientProgress, messages.Message.Message}
+use Rattle.tn_cores.specs.{declared.messages.Message.TheVariants.Left, queue.Queue.{putter, taker}}
+use Rattle.tn_cores.specs.declared.server.progress.ServerProgress.{ServerProgress}
+use Rattle.tn_session.specs.{workers.{Mailbox.{same, mail}, Stops.StopHand}, declared.workers.mail.Mail.Mail}
+use Rattle.tn_session.specs.declared.workers.{mail.Sender.Sender, stops.{Stop.Stop, StopSeat.StopSeat}}
 use Rattle.tn_session.specs.declared.stops.StopTeller.{StopTeller}
 
 -- nobody was told

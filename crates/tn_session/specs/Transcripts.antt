@@ -2,10 +2,9 @@
 -- `Exchange`, `all_read`, `all_wrote` and `came_by`; what follows ties them to a run.
 use Rattle.std.specs.Prelude.{◌≡◌, ◌⊎◌, ℕ, Bool, IsTrue, IsFalse, Option, Some, None, List, [], ◌∷◌, ◌++◌}
 use Rattle.std.specs.{Prelude.map, Io.KnownBytes.Consumes, List.FoldsTo}
-use Rattle.tn_machines.specs.Pieces.{bytes_in}
-use Rattle.tn_session.specs.Notes.{Note}
-use Rattle.tn_workers.specs.declared.mail.Mail.{Mail}
-use Rattle.tn_streams.specs.Prefixes.{IsPrefixOf}
+use Rattle.tn_cores.specs.Pieces.{bytes_in}
+use Rattle.tn_session.specs.{Notes.Note, declared.workers.mail.Mail.Mail}
+use Rattle.tn_nvt.specs.Prefixes.{IsPrefixOf}
 
 -- A STEP of a session, in the order in which its core took them: the bytes from the network that came in it,
 -- and those that it wrote to the network in it

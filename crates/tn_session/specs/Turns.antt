@@ -4,17 +4,15 @@ use Rattle.std.specs.{List.FoldsTo, Io.KnownBytes.Appends}
 use Rattle.tn_discipline.specs.declared.reads.Entry.{Entry}
 use Rattle.tn_nvt.specs.Spelling.{spells}
 use Rattle.tn_server.specs.Replies.{items_said}
-use Rattle.tn_workers.specs.{Mailbox.with_handled, Stops.StopHand, declared.channels.View.View}
-use Rattle.tn_workers.specs.{EntryChannel.EntryHand, declared.mail.{Mail.Mail, Sender.TheVariants.Back}}
+use Rattle.tn_session.specs.workers.{Mailbox.with_handled, Stops.StopHand, EntryChannel.EntryHand}
+use Rattle.tn_session.specs.declared.workers.{channels.View.View, mail.{Mail.Mail, Sender.TheVariants.Back}}
 use Rattle.tn_session.specs.{Notes.{Noted, NotesAll, writes}, Stops.{IsTold, StandsTold, term_stops}}
 use Rattle.tn_session.specs.Transcripts.{IsStep, total}
-use Rattle.tn_queue.specs.Queue.{putter}
-use Rattle.tn_streams.specs.{Known.KnownWriting, Writing.Tells}
-use Rattle.tn_machines.specs.server.Marks.{Turns, Runs, is_whole, all_whole, no_write_failed}
-use Rattle.tn_machines.specs.server.{Marks.no_writes_failed, Reaching.{LeadsTo, IsTurn}, Run.{Run, puts_of}}
-use Rattle.tn_machines.specs.{server.Welcoming.too_far_ahead, declared.server.messages.ServerMark.ServerMark}
-use Rattle.tn_machines.specs.declared.{server.messages.Put.Put, faults.Ended.Ended, messages.Message.Message}
-use Rattle.tn_machines.specs.declared.{messages.Message.TheVariants.Left, server.terminal.Term.Term}
+use Rattle.tn_cores.specs.{queue.Queue.putter, streams.{Known.KnownWriting, Writing.Tells}}
+use Rattle.tn_cores.specs.server.Marks.{Turns, Runs, is_whole, all_whole, no_write_failed, no_writes_failed}
+use Rattle.tn_cores.specs.server.{Reaching.{LeadsTo, IsTurn}, Run.{Run, puts_of}, Welcoming.too_far_ahead}
+use Rattle.tn_cores.specs.declared.{server.messages.{ServerMark.ServerMark, Put.Put}, faults.Ended.Ended}
+use Rattle.tn_cores.specs.declared.{messages.Message.{Message, TheVariants.Left}, server.terminal.Term.Term}
 
 -- what is said on the network by now
 abbrev pub says : Run → List ℕ

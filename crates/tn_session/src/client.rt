@@ -5,7 +5,8 @@ ghost use Rattle.crossbeam_channel.specs.{Claims.{view, IsSeatAt}, Ends.sends_on
 ghost use Rattle.tn_session.specs.Client.{IsReadyForTwo, StandsBeside, AreTwoSettled, IsClientRun};
 ghost use Rattle.tn_session.specs.{Client.{RunningClient, client_report}, Facts.client_result};
 ghost use Rattle.tn_session.specs.{Session.IsRefusal, Stops.AreNewStops};
-ghost use Rattle.tn_streams.specs.{Known.{known_reader, known_typing, known_writing}, Sending.IsFinished};
+ghost use Rattle.tn_cores.specs.streams.Known.{known_reader, known_typing, known_writing};
+ghost use Rattle.tn_cores.specs.streams.Sending.{IsFinished};
 
 use crate::client_loop::run_core;
 use crate::parties::{ClientPorts, Report};
@@ -13,18 +14,18 @@ use crate::session::MAILS;
 use crate::stops::{Watched, make_stops};
 use crate::threads::{ClientReturned, ClientStarted, ThreadLeft, start_reader};
 use crate::transcript::Transcript;
+use crate::workers::{
+    AllRoles, CutKeys, CutNet, Knows, Mail, MailPass, MailReceiver, MailSeat, MailSender,
+    ReaderPart, Sender, StopPass, StopSeat, Union, View,
+};
 use crossbeam_channel::bounded_with;
 use std::alloc::{AllocError, Global};
 use std::sync::{Arc, Wait};
 use std::thread::Threads;
+use tn_cores::client::{ClientProgress, Core};
+use tn_cores::streams::{Drain, Finish, Source};
+use tn_cores::{Gate, Place, SessionFault};
 use tn_discipline::Limit;
-use tn_machines::client::{ClientProgress, Core};
-use tn_machines::{Gate, Place, SessionFault};
-use tn_streams::{Drain, Finish, Source};
-use tn_workers::{
-    AllRoles, CutKeys, CutNet, Knows, Mail, MailPass, MailReceiver, MailSeat, MailSender,
-    ReaderPart, Sender, StopPass, StopSeat, Union, View,
-};
 
 // The core's ends of the mailbox.
 #[derive(Drop)]

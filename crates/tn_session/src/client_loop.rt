@@ -2,23 +2,22 @@
 
 ghost use Rattle.std.specs.Prelude.{◌≡◌, ◌&&◌, ◌||◌, not, true, IsTrue, Some, [], IfSome};
 ghost use Rattle.crossbeam_channel.specs.{Claims.{view, IsSeatAt}, Ends.{receives_on, sends_on}};
-ghost use Rattle.tn_machines.specs.client.Marks.{is_whole};
-ghost use Rattle.tn_queue.specs.Queue.{putter};
+ghost use Rattle.tn_cores.specs.{client.Marks.is_whole, queue.Queue.putter, streams.Known.known_writing};
+ghost use Rattle.tn_cores.specs.streams.Sending.{StaysOpen, IsFinished};
 ghost use Rattle.tn_session.specs.{Notes.noted_of, CoreTurns.{TurnsTold, CoreHandles, origin_of, told_of}};
 ghost use Rattle.tn_session.specs.Stops.{core_stops, leaves as leaves_of};
-ghost use Rattle.tn_workers.specs.declared.mail.Sender.TheVariants.{Keys};
-ghost use Rattle.tn_streams.specs.{Known.known_writing, Sending.{StaysOpen, IsFinished}};
+ghost use Rattle.tn_session.specs.declared.workers.mail.Sender.TheVariants.{Keys};
 
 use crate::closing::finish_once;
 use crate::stops::Watched;
 use crate::term::{finish_unless, leaves};
 use crate::transcript::{Output, Transcript};
+use crate::workers::{Mail, MailPass, MailReceiver, Sender};
 use std::alloc::Global;
 use std::sync::Wait;
-use tn_machines::client::{ClientMark, ClientProgress, Core, Origin, Told};
-use tn_machines::{Gate, Message};
-use tn_streams::{Drain, Finish, write_all};
-use tn_workers::{Mail, MailPass, MailReceiver, Sender};
+use tn_cores::client::{ClientMark, ClientProgress, Core, Origin, Told};
+use tn_cores::streams::{Drain, Finish, write_all};
+use tn_cores::{Gate, Message};
 
 /// How many threads send mails.
 const SENDERS: u64 = 2;

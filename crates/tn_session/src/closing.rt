@@ -3,7 +3,7 @@
 ghost use Rattle.std.specs.{Prelude.◌≡◌, Io.KnownBytes.Keeps};
 ghost use Rattle.tn_session.specs.Closing.{Closes};
 
-use tn_streams::Finish;
+use tn_cores::streams::Finish;
 
 /// Tells the writer once that no more comes from this end. Returns whether it was told, now or before.
 pub(crate) fn finish_once<W: Finish>(writer: &mut W, closes: bool, closed: bool) -> bool

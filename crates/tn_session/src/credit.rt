@@ -6,19 +6,18 @@
 ghost use Rattle.std.specs.Prelude.{◌≡◌, ◌≤◌, ◌<◌, ◌+◌, true, IsTrue, false, IsFalse, length, IfOk};
 ghost use Rattle.crossbeam_channel.specs.{Claims.{view, IsSeatAt}, Ends.sends_on};
 ghost use Rattle.tn_server.specs.Lines.{waiting};
-ghost use Rattle.tn_session.specs.Credits.{AreNewCredits};
-ghost use Rattle.tn_workers.specs.Credits.{owed_one, piece_one, step_one};
-ghost use Rattle.tn_machines.specs.server.{Reaching.LeadsTo, Run.Run, Welcoming.{HasRoom, IsCrowded}};
+ghost use Rattle.tn_session.specs.{Credits.AreNewCredits, workers.Credits.{owed_one, piece_one, step_one}};
+ghost use Rattle.tn_cores.specs.server.{Reaching.LeadsTo, Run.Run, Welcoming.{HasRoom, IsCrowded}};
 
-use crossbeam_channel::bounded_with;
-use std::alloc::{AllocError, Global};
-use std::sync::Wait;
-use tn_machines::Message;
-use tn_machines::server::Term;
-use tn_workers::{
+use crate::workers::{
     Credit, CreditPass, CreditSeat, CreditSender, CreditTally, CutReader, Freely, Gives, Mail,
     Sender, StepCredits,
 };
+use crossbeam_channel::bounded_with;
+use std::alloc::{AllocError, Global};
+use std::sync::Wait;
+use tn_cores::Message;
+use tn_cores::server::Term;
 
 /// How many credits there are.
 pub(crate) const CREDITS: usize = 1;

@@ -2,17 +2,17 @@
 
 ghost use Rattle.std.specs.Prelude.{◌≡◌, ◌≢◌, List, [], IsTrue, IfSome};
 ghost use Rattle.crossbeam_channel.specs.{Claims.{view, IsSeatAt}, Ends.sends_on};
-ghost use Rattle.tn_session.specs.{Facts.views_of, Joining.AreSettled};
-ghost use Rattle.tn_queue.specs.Queue.{putter};
-ghost use Rattle.tn_workers.specs.{Stops.has_stopped, declared.stops.Stop.Stop as StopT};
+ghost use Rattle.tn_session.specs.{Facts.views_of, Joining.AreSettled, workers.Stops.has_stopped};
+ghost use Rattle.tn_session.specs.declared.workers.stops.Stop.{Stop as StopT};
+ghost use Rattle.tn_cores.specs.queue.Queue.{putter};
 
 use crate::parties::Ports;
 use crate::stops::StopTeller;
 use crate::term::{Ends, Passes};
 use crate::threads::{Returned, ThreadLeft};
 use crate::transcript::Transcript;
-use tn_queue::{CutTaker, JoinHands, Takes};
-use tn_workers::{CutBack, CutDesk, CutNet, Knows, Union};
+use crate::workers::{CutBack, CutDesk, CutNet, Knows, Union};
+use tn_cores::queue::{CutTaker, JoinHands, Takes};
 
 /// Joins the passes, so that their lists are compared, and splits them again.
 pub(crate) fn settle(

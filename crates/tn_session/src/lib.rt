@@ -2,17 +2,17 @@
 //! each in a thread of its own; and a client end, its keys and its connection.
 #![tactic(auto)]
 
-pub use client::client_session;
-pub use parties::{ClientPorts, Maker, Ports, Report, Unwatched};
-pub use session::serve_session;
-pub use tn_machines::client::{Origin, Terms};
-pub use tn_machines::{Ended, Gate, Message, Place, SessionFault, Typed};
-pub use tn_queue::{Hand, InTurn};
-pub use tn_streams::Finish;
-pub use tn_workers::{
+pub use crate::workers::{
     AllRoles, EntryPass, EntryReceiver, EntrySender, Knows, Mail, MailPass, MailReceiver,
     MailSender, Sender, Stop, StopPass, View,
 };
+pub use client::client_session;
+pub use parties::{ClientPorts, Maker, Ports, Report, Unwatched};
+pub use session::serve_session;
+pub use tn_cores::client::{Origin, Terms};
+pub use tn_cores::queue::{Hand, InTurn};
+pub use tn_cores::streams::Finish;
+pub use tn_cores::{Ended, Gate, Message, Place, SessionFault, Typed};
 pub use transcript::{Seal, Transcript};
 
 mod client;
@@ -22,9 +22,11 @@ mod credit;
 mod joining;
 mod making;
 mod parties;
+pub mod roster;
 mod session;
 mod stops;
 mod term;
 mod threads;
 mod transcript;
 mod waiting;
+pub mod workers;

@@ -2,15 +2,15 @@
 
 ghost use Rattle.std.specs.Prelude.{◌≡◌, ◌+◌, [], ◌∷◌, ◌++◌, length, IfOk, IfErr};
 ghost use Rattle.tn_session.specs.{Jobs.IsMade, Makers.{AreAll, GivesJobs, IsMakerFault}};
-ghost use Rattle.tn_workers.specs.Turning.{ids_of, jobs_of};
+ghost use Rattle.tn_session.specs.workers.Turning.{ids_of, jobs_of};
 
 use crate::parties::Maker;
+use crate::workers::Runner;
 use std::alloc::Global;
 use std::collections::VecDeque;
+use tn_cores::SessionFault;
 use tn_jobs::laws::one_job_changes;
 use tn_jobs::{Job, JobId, Table};
-use tn_machines::SessionFault;
-use tn_workers::Runner;
 
 /// How many jobs run in the background at most.
 const MAX_OTHERS: u8 = 15;

@@ -4,10 +4,10 @@ ghost use Rattle.std.specs.Prelude.{◌≡◌, ℕ, Option, None, IfOk, IfSome};
 ghost use Rattle.tn_session.specs.Makers.{MakesJob};
 
 use crate::transcript::Transcript;
+use crate::workers::{EntryPass, MailPass, StopPass};
 use std::alloc::{AllocError, Global};
+use tn_cores::{Ended, Gate, Place};
 use tn_jobs::Job;
-use tn_machines::{Ended, Gate, Place};
-use tn_workers::{EntryPass, MailPass, StopPass};
 
 /// Who makes the jobs of a session: the first is the foreground job, and up to fifteen more run in the
 /// background.

@@ -2,15 +2,15 @@
 
 ghost use Rattle.std.specs.Prelude.{◌≡◌, ◌≢◌, [], ◌∷◌, None, Some, IfOk, IfErr, IfSome, IsErrOf};
 ghost use Rattle.crossbeam_channel.specs.{Claims.{view, IsSeatAt}, Ends.{sends_on, receives_on}};
-ghost use Rattle.tn_workers.specs.{Acts.job_acts, Mailbox.sender, Turning.{IsQueue, ids_of, jobs_of}};
-ghost use Rattle.tn_workers.specs.{Stops.StopsStay, declared.mail.Sender.TheVariants.{Desk, Back}};
-ghost use Rattle.tn_session.specs.{Facts.{job_facts, session_result}, Session.{RunningSession, report_of}};
-ghost use Rattle.tn_session.specs.{Joining.{IsReady, handler}, Notes.{no_notes, noted_of}, Stops.AreNewStops};
-ghost use Rattle.tn_session.specs.{Makers.{AreAll, GivesJobs, IsMakerFault, begins}, Turns.StaysInReach};
-ghost use Rattle.tn_session.specs.Session.{IsBegun, IsOpening, IsRun, IsRefusal, IsOfThreads, RunsOn};
-ghost use Rattle.tn_queue.specs.Queue.{putter, taker};
-ghost use Rattle.tn_streams.specs.{Known.{known_reader, known_writing}, Sending.{StaysOpen, IsFinished}};
-ghost use Rattle.tn_machines.specs.server.Welcoming.{too_far_ahead};
+ghost use Rattle.tn_session.specs.workers.{Acts.job_acts, Mailbox.sender, Turning.{IsQueue, ids_of, jobs_of}};
+ghost use Rattle.tn_session.specs.{workers.Stops.StopsStay, Facts.{job_facts, session_result}};
+ghost use Rattle.tn_session.specs.{declared.workers.mail.Sender.TheVariants.{Desk, Back}, Stops.AreNewStops};
+ghost use Rattle.tn_session.specs.Session.{RunningSession, report_of, IsBegun, IsOpening, IsRun, IsRefusal};
+ghost use Rattle.tn_session.specs.{Session.{IsOfThreads, RunsOn}, Joining.{IsReady, handler}};
+ghost use Rattle.tn_session.specs.{Notes.{no_notes, noted_of}, Turns.StaysInReach};
+ghost use Rattle.tn_session.specs.Makers.{AreAll, GivesJobs, IsMakerFault, begins};
+ghost use Rattle.tn_cores.specs.{queue.Queue.{putter, taker}, streams.Known.{known_reader, known_writing}};
+ghost use Rattle.tn_cores.specs.{streams.Sending.{StaysOpen, IsFinished}, server.Welcoming.too_far_ahead};
 
 use crate::credit::{CREDITS, make_step_credits};
 use crate::joining::settle;
@@ -23,23 +23,23 @@ use crate::threads::{
     start_reader,
 };
 use crate::transcript::Output;
+use crate::workers::{
+    AllRoles, Credit, CreditSeat, CreditTally, CutBack, CutDesk, CutNet, CutReader, EntryPass,
+    EntrySeat, Freely, Mail, MailPass, MailSeat, ReaderPart, Runner, Sender, StepCredits, View,
+};
 use crossbeam_channel::bounded_with;
 use std::alloc::{AllocError, Global};
 use std::collections::VecDeque;
 use std::sync::{Arc, Wait};
 use std::thread::{PromisedHandle, Threads};
+use tn_cores::queue::{CutTaker, Hand, InTurn};
+use tn_cores::server::laws::{all_goes_before_a_hang_up, faults_have_causes, pieces_are_heard};
+use tn_cores::server::{ServerProgress, Term};
+use tn_cores::streams::{Finish, Source};
+use tn_cores::{Gate, Place, SessionFault};
 use tn_discipline::{Entry, Limit, Settings};
 use tn_jobs::{Job, JobId};
-use tn_machines::server::laws::{all_goes_before_a_hang_up, faults_have_causes, pieces_are_heard};
-use tn_machines::server::{ServerProgress, Term};
-use tn_machines::{Gate, Place, SessionFault};
-use tn_queue::{CutTaker, Hand, InTurn};
 use tn_server::Editing;
-use tn_streams::{Finish, Source};
-use tn_workers::{
-    AllRoles, Credit, CreditSeat, CreditTally, CutBack, CutDesk, CutNet, CutReader, EntryPass,
-    EntrySeat, Freely, Mail, MailPass, MailSeat, ReaderPart, Runner, Sender, StepCredits, View,
-};
 
 /// How many mails the mailbox holds.
 pub(crate) const MAILS: usize = 64;

@@ -3,15 +3,15 @@
 
 ghost use Rattle.std.specs.Prelude.{◌≡◌, ◌≢◌, ◌||◌, List, [], IsTrue, IfOk, IfSome};
 ghost use Rattle.crossbeam_channel.specs.{Claims.{view, IsSeatAt}, Ends.sends_on};
-ghost use Rattle.tn_queue.specs.Queue.{putter};
-ghost use Rattle.tn_workers.specs.{Stops.has_stopped, declared.stops.Stop.Stop as StopT};
+ghost use Rattle.tn_cores.specs.queue.Queue.{putter};
+ghost use Rattle.tn_session.specs.{workers.Stops.has_stopped, declared.workers.stops.Stop.Stop as StopT};
 ghost use Rattle.tn_session.specs.Stops.{AreNewStops, IsTold};
 
+use crate::workers::{Stop, StopPass, StopSeat};
 use crossbeam_channel::bounded_with;
 use std::alloc::{AllocError, Global};
 use std::sync::{Arc, Wait};
-use tn_queue::{CutTaker, Hand, InTurn, JoinHands, Puts, QueueSender, Takes};
-use tn_workers::{Stop, StopPass, StopSeat};
+use tn_cores::queue::{CutTaker, Hand, InTurn, JoinHands, Puts, QueueSender, Takes};
 
 /// The seat of the one that tells it.
 #[derive(Drop)]

@@ -7,26 +7,25 @@ ghost use Rattle.tn_discipline.specs.declared.reads.Entry.{Entry as EntryT};
 ghost use Rattle.tn_session.specs.{Closing.Closes, Credits.{GivesCredits, GivesStepCredits}, Notes.noted_of};
 ghost use Rattle.tn_session.specs.Stops.{term_stops, leaves as leaves_of};
 ghost use Rattle.tn_session.specs.Turns.{HandlesAll, StaysInReach, TurnsMessage, left_one};
-ghost use Rattle.tn_queue.specs.Queue.{putter};
-ghost use Rattle.tn_workers.specs.declared.mail.Sender.TheVariants.{Back};
-ghost use Rattle.tn_streams.specs.{Known.known_writing, Sending.{StaysOpen, IsFinished}};
-ghost use Rattle.tn_machines.specs.server.{Marks.is_whole, Run.puts_of};
+ghost use Rattle.tn_session.specs.declared.workers.mail.Sender.TheVariants.{Back};
+ghost use Rattle.tn_cores.specs.{queue.Queue.putter, streams.Known.known_writing, server.Marks.is_whole};
+ghost use Rattle.tn_cores.specs.{streams.Sending.{StaysOpen, IsFinished}, server.Run.puts_of};
 
 use crate::closing::finish_once;
 use crate::credit::{CreditGiver, give_credit, is_piece};
 use crate::stops::Watched;
 use crate::transcript::Output;
-use std::sync::Wait;
-use tn_discipline::Entry;
-use tn_jobs::JobId;
-use tn_machines::server::{MessageOutcome, Put, ServerMark, ServerProgress, Term};
-use tn_machines::{Gate, Message, Place};
-use tn_queue::Puts;
-use tn_streams::Finish;
-use tn_workers::{
+use crate::workers::{
     CreditPass, CreditSender, EntryPass, EntrySender, Mail, MailPass, MailReceiver, MailSender,
     Sender,
 };
+use std::sync::Wait;
+use tn_cores::queue::Puts;
+use tn_cores::server::{MessageOutcome, Put, ServerMark, ServerProgress, Term};
+use tn_cores::streams::Finish;
+use tn_cores::{Gate, Message, Place};
+use tn_discipline::Entry;
+use tn_jobs::JobId;
 
 /// How many threads send mails.
 const SENDERS: u64 = 3;

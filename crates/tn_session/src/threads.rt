@@ -2,14 +2,18 @@
 
 ghost use Rattle.std.specs.Prelude.{◌≡◌, [], false, None, Some, IfSome};
 ghost use Rattle.crossbeam_channel.specs.{Claims.{view, IsSeatAt}, Ends.{sends_on, receives_on}};
-ghost use Rattle.tn_workers.specs.{Acts.job_acts, Credits.IsSeated, Mailbox.sender, Reader.TypingSends};
-ghost use Rattle.tn_workers.specs.{Stepping.AreSteps, Stops.{StopsStay, has_stopped}, Talk.{IsJob, IsTalk}};
-ghost use Rattle.tn_workers.specs.Turning.{Holds, IsQueue, queue_of};
-ghost use Rattle.tn_workers.specs.declared.mail.Sender.TheVariants.{Desk, Back};
-ghost use Rattle.tn_queue.specs.Queue.{taker};
-ghost use Rattle.tn_streams.specs.Known.{known_typing};
+ghost use Rattle.tn_session.specs.workers.{Acts.job_acts, Credits.IsSeated, Mailbox.sender};
+ghost use Rattle.tn_session.specs.workers.{Reader.TypingSends, Stepping.AreSteps, Talk.{IsJob, IsTalk}};
+ghost use Rattle.tn_session.specs.workers.Stops.{StopsStay, has_stopped};
+ghost use Rattle.tn_session.specs.workers.Turning.{Holds, IsQueue, queue_of};
+ghost use Rattle.tn_session.specs.declared.workers.mail.Sender.TheVariants.{Desk, Back};
+ghost use Rattle.tn_cores.specs.{queue.Queue.taker, streams.Known.known_typing};
 
 use crate::waiting::Waiting;
+use crate::workers::{
+    CreditSeat, EntryPass, EntryReceiver, EntrySeat, MailPass, MailSeat, MailSender, ReaderPart,
+    Runner, Sender, StepCredits, StopSeat, run_back, run_desk, run_reader,
+};
 use std::alloc::Global;
 use std::collections::VecDeque;
 use std::marker::PhantomData;
@@ -17,13 +21,9 @@ use std::snapshot::Snapshot;
 use std::sync::{Arc, Wait};
 use std::thread;
 use std::thread::{Promise, PromisedHandle, Threads};
+use tn_cores::Gate;
+use tn_cores::streams::Source;
 use tn_jobs::{Job, JobId};
-use tn_machines::Gate;
-use tn_streams::Source;
-use tn_workers::{
-    CreditSeat, EntryPass, EntryReceiver, EntrySeat, MailPass, MailSeat, MailSender, ReaderPart,
-    Runner, Sender, StepCredits, StopSeat, run_back, run_desk, run_reader,
-};
 
 /// What a thread gives back that may be told to stop: its pass, and the seat where it may have been told.
 #[derive(Drop)]
@@ -46,8 +46,8 @@ pub(crate) struct ReaderSays<Rd> {
 impl<Rd: Source> Promise<Option<ThreadLeft>> for ReaderSays<Rd> {
     ghost use Rattle.std.specs.Prelude.{IfSome};
     ghost use Rattle.crossbeam_channel.specs.{Claims.{view, IsSeatAt}, Ends.sends_on};
-    ghost use Rattle.tn_workers.specs.{Reader.TypingSends, Stops.{StopsStay, has_stopped}};
-    ghost use Rattle.tn_streams.specs.Known.{known_typing};
+    ghost use Rattle.tn_session.specs.workers.{Reader.TypingSends, Stops.{StopsStay, has_stopped}};
+    ghost use Rattle.tn_cores.specs.streams.Known.{known_typing};
 
     ghost kept_by = { λ p r.
         IfSome r (λ left. IsSeatAt (sends_on p.to.value) left.pass ×
@@ -69,7 +69,7 @@ pub(crate) struct DeskSays<J> {
 impl<J: Job> Promise<Option<(MailPass, EntryPass)>> for DeskSays<J> {
     ghost use Rattle.std.specs.Prelude.{IfSome};
     ghost use Rattle.crossbeam_channel.specs.{Claims.{view, IsSeatAt}, Ends.{sends_on, receives_on}};
-    ghost use Rattle.tn_workers.specs.{Acts.job_acts, Talk.{IsJob, IsTalk}};
+    ghost use Rattle.tn_session.specs.workers.{Acts.job_acts, Talk.{IsJob, IsTalk}};
 
     ghost kept_by = { λ p r.
         IfSome r (λ x. IsSeatAt (sends_on p.to.value) x.0 × IsSeatAt (receives_on p.from.value) x.1 ×
@@ -89,8 +89,8 @@ pub(crate) struct BackSays<J> {
 impl<J: Job> Promise<Option<ThreadLeft>> for BackSays<J> {
     ghost use Rattle.std.specs.Prelude.{IfSome};
     ghost use Rattle.crossbeam_channel.specs.{Claims.{view, IsSeatAt}, Ends.sends_on};
-    ghost use Rattle.tn_workers.specs.{Acts.job_acts, Stepping.AreSteps, Stops.{StopsStay, has_stopped}};
-    ghost use Rattle.tn_workers.specs.Turning.{Holds, queue_of};
+    ghost use Rattle.tn_session.specs.workers.{Acts.job_acts, Stepping.AreSteps, Turning.{Holds, queue_of}};
+    ghost use Rattle.tn_session.specs.workers.Stops.{StopsStay, has_stopped};
 
     ghost kept_by = { λ p r.
         IfSome r (λ left. IsSeatAt (sends_on p.to.value) left.pass ×

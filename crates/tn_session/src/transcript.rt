@@ -2,16 +2,16 @@
 
 ghost use Rattle.std.specs.Prelude.{◌≡◌, ◌∷◌, [], List, Some, IfSome, IsTrue};
 ghost use Rattle.crossbeam_channel.specs.{Claims.{view, IsSeatAt}, Ends.receives_on};
-ghost use Rattle.tn_workers.specs.{Mailbox.handed, declared.mail.Mail.Mail as MailT};
+ghost use Rattle.tn_session.specs.{workers.Mailbox.handed, declared.workers.mail.Mail.Mail as MailT};
 ghost use Rattle.tn_session.specs.Notes.{NotesWrite, no_notes, noted_of, takes, writes};
-ghost use Rattle.tn_streams.specs.{Writing.Tells, Sending.StaysOpen};
+ghost use Rattle.tn_cores.specs.streams.{Writing.Tells, Sending.StaysOpen};
 
+use crate::workers::{Handles, Mail, MailPass, MailReceiver};
 use std::alloc::Global;
 use std::mem;
 use std::snapshot::Snapshot;
 use std::sync::Wait;
-use tn_streams::{Drain, write_front};
-use tn_workers::{Handles, Mail, MailPass, MailReceiver};
+use tn_cores::streams::{Drain, write_front};
 
 /// What only a call of this module makes.
 #[derive(Drop)]

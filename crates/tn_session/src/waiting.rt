@@ -3,18 +3,18 @@
 ghost use Rattle.std.specs.Prelude.{◌≡◌, ◌+◌, List, Option, [], ◌++◌, ◌∷◌, IfSome, length};
 ghost use Rattle.crossbeam_channel.specs.{Claims.{view, IsSeatAt}, Ends.{sends_on, receives_on}};
 ghost use Rattle.tn_discipline.specs.declared.reads.Entry.{Entry as EntryT};
-ghost use Rattle.tn_queue.specs.Queue.{taker};
-ghost use Rattle.tn_workers.specs.{Mailbox.{sender, mail as mail_of}, Stops.TakesStop};
-ghost use Rattle.tn_workers.specs.declared.{mail.Mail.Mail as MailT, stops.Stop.Stop as StopT};
+ghost use Rattle.tn_cores.specs.queue.Queue.{taker};
+ghost use Rattle.tn_session.specs.workers.{Mailbox.{sender, mail as mail_of}, Stops.TakesStop};
+ghost use Rattle.tn_session.specs.declared.workers.{mail.Mail.Mail as MailT, stops.Stop.Stop as StopT};
 
-use std::sync::Wait;
-use tn_discipline::Entry;
-use tn_machines::Message;
-use tn_queue::Takes;
-use tn_workers::{
+use crate::workers::{
     Credit, CreditSeat, EntryPass, EntryReceiver, Mail, MailPass, MailSender, Post, Sender, Sends,
     Stop, StopSeat, TakesOne,
 };
+use std::sync::Wait;
+use tn_cores::Message;
+use tn_cores::queue::Takes;
+use tn_discipline::Entry;
 
 /// A thread that waits where a channel is full, and for what it takes.
 #[derive(Clone, Copy)]

@@ -3,5 +3,6 @@
 //! thread, that it ends.
 #![tactic(auto)]
 
+pub mod connections;
 #[cfg(test)]
 mod tests;

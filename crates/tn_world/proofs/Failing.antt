@@ -3,7 +3,7 @@ use Rattle.std.proofs.Common.{◌≡◌, inl, inr, ℕ, Bool, true, false, Optio
 use Rattle.std.proofs.{Common.{subst, append-nil, append_assoc}, lemmas.List.{take-append-drop, Elements.All-append}}
 use Rattle.std.specs.Prelude.{All, option_to_list}
 use Rattle.tn_discipline.specs.{Canon.{Canon, typed_half}, Keys.role_of_key, Steps.gain_next, declared.reads.Entry.Entry}
-use Rattle.tn_nvt.specs.{declared.items.Item.Item, Spelling.{lf, Fits, spells}, Stream.Reading, Feeding.{DecoderState, Advances}}
+use Rattle.tn_nvt.specs.{declared.items.Item.Item, Spelling.{lf, Fits, spells}, Stream.Reading, Feeding.{DecoderState, Advances}, Prefixes.IsPrefixOf}
 use Rattle.tn_nvt.proofs.lemmas.Reading.{delivers}
 use Rattle.tn_server.specs.Events as server_calls
 use Rattle.tn_server.specs.{Faults.{IsOfItem, IsOfPiece}, Steps.{end_after as end_there, says as says_there, end_after_items as end_all_there}}
@@ -21,7 +21,6 @@ use Rattle.tn_world.specs.{Flight.InFlight, Headline.{RunsQuietly, IsQuietEvent,
 use Rattle.tn_world.specs.relation.{Calm.{IsCalmToServer, IsCalmToClient}, Pictures.{Server, server_core, ServerStays}, Relation.{IsRelated, IsBehind}}
 use Rattle.tn_world.specs.Worlds.{World, Types, SendsCommand, key_sent, DeliversToServer, CallsServer, TakesEntry, RunsEvent, ServerRefusesDelivery}
 use Rattle.tn_world.specs.{Worlds.ClientRefusesDelivery, declared.events.Event.Event}
-use Rattle.tn_streams.specs.Prefixes.{IsPrefixOf}
 use Rattle.tn_world.proofs.{Machine.read_all, ClientSteps.{items-come, stops_front}, Cut.{said_behind, cut_at}, Following.holds_does, Tied.seen}
 use Rattle.tn_world.proofs.Happening.{Done, unmoved, types, enters, sends, resizes, proposes, reaches, returns, asks, takes, stops, done_of, does_keeps}
 use Rattle.tn_world.proofs.{Prefixes.{prefix_trans, prefix_after, prefix_same, read-more, agreed, taken-waits}, Soundness.refusal_of}

@@ -2,11 +2,10 @@
 use Rattle.std.proofs.Common.{◌≡◌, ℕ, List, [], ◌∷◌, ◌++◌, take, drop, refl, sym, ap, ◌∙◌, append-nil, append_assoc}
 use Rattle.tn_discipline.specs.{declared.reads.Entry.Entry, Canon.{Canon, typed_entries}, Steps.gain_next}
 use Rattle.tn_client.specs.Calls.{End}
-use Rattle.tn_nvt.specs.declared.items.Item.{Item}
+use Rattle.tn_nvt.specs.{declared.items.Item.Item, Prefixes.IsPrefixOf}
 use Rattle.tn_server.specs.Lines.{role_at}
 use Rattle.tn_world.specs.relation.{Pictures.Server, Relation.Agrees}
 use Rattle.tn_world.proofs.Machine.{read, read_all}
-use Rattle.tn_streams.specs.Prefixes.{IsPrefixOf}
 
 -- prefixes
 pub prefix_trans : (xs ys zs : List Entry) → IsPrefixOf xs ys → IsPrefixOf ys zs → IsPrefixOf xs zs

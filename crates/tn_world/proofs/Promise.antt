@@ -5,7 +5,7 @@ use Rattle.tn_discipline.specs.{declared.reads.Entry.Entry, Canon.Canon, Charact
 use Rattle.tn_world.specs.{Past.HasPast, Opened.{IsOpened, with_new_lists}, declared.{events.Event.Event, faults.Cause.Cause}, relation.Relation.IsRelated}
 use Rattle.tn_world.specs.Headline.{local_entries, local_half, PassesQuietly, IsQuiet, AreQuietEvents, IsBeginning, Follows, NoneFailed, IsSettled}
 use Rattle.tn_world.specs.{Headline.{entries_made, half_made, Headline}, Worlds.{World, RunsEvent, Refuses, Runs, StopsWithin, canon_of}, Flight.InFlight}
-use Rattle.tn_streams.specs.Prefixes.{IsPrefixOf}
+use Rattle.tn_nvt.specs.Prefixes.{IsPrefixOf}
 use Rattle.tn_world.proofs.{Following.holds_passes, Marking.mark_holds, Failing.{both, stage_begins, stage_passes}, Opening.opened_holds, Cut.no_items}
 use Rattle.tn_world.proofs.Tied.{tied-complete, tied-half}
 

@@ -4,7 +4,7 @@ use Rattle.std.proofs.lemmas.{Grind.flat_map-append, List.{take-append-drop, Ele
 use Rattle.std.specs.Prelude.{All}
 use Rattle.tn_discipline.specs.declared.echo.Symbol.{Symbol}
 use Rattle.tn_discipline.specs.declared.echo.Symbol.TheVariants as symbol
-use Rattle.tn_nvt.specs.{Spelling.{spells, Fits}, Feeding.{DecoderState, LeadsTo}, declared.items.Item.Item}
+use Rattle.tn_nvt.specs.{Spelling.{spells, Fits}, Feeding.{DecoderState, LeadsTo}, declared.items.Item.Item, Prefixes.IsPrefixOf}
 use Rattle.tn_server.specs.Events as server_calls
 use Rattle.tn_server.specs.{Faults.{IsOfItem, IsOfPiece}, Replies.{opening, data_of}, declared.faults.ServerFault.ServerFault}
 use Rattle.tn_server.specs.Answering as server_answers
@@ -16,7 +16,6 @@ use Rattle.tn_client.specs.Screen.{item_shown, symbol_shown}
 use Rattle.tn_world.specs.{Past.HasPast, Worlds.ServerRefusesDelivery, declared.{events.Event.{Event, TheVariants.{ToClient, Pull}}, faults.Cause.Cause}}
 use Rattle.tn_world.specs.{Flight.InFlight, Output.{screen, text_of, IsOutput, Queues, IsNoneAt, OutputGrows, OutputGrowsTo, OutputGrowsAll, OutputGrowsBefore}}
 use Rattle.tn_world.specs.Worlds.{World, UnlessStopped, DeliversToServer, DeliversToClient, CallsServer, Pulls, TakesEntry, RunsEvent, Runs, StopsWithin}
-use Rattle.tn_streams.specs.Prefixes.{IsPrefixOf}
 use Rattle.tn_world.proofs.Cut.{start, said_behind, cut_at}
 use Rattle.tn_world.proofs.Happening.{AddsOnly, Done, unmoved, types, enters, sends, resizes, proposes, reaches, returns, asks, takes, stops, done_of, does_keeps}
 use Rattle.tn_world.proofs.Soundness.{sound_does, opposite, Refusal, unchanged, by_server, by_client, refusal_of, asked_fit, feeds_fit, halts_fit}

@@ -2,7 +2,7 @@
 use Rattle.std.proofs.{Common.{◌≡◌, ℕ, Bool, true, false, List, [], ◌∷◌, ◌++◌, take, refl, sym, ap, ◌∙◌, if◌then◌else◌, subst}, lemmas.List.Elements.All-append}
 use Rattle.std.specs.Prelude.{All}
 use Rattle.tn_codes.specs.declared.codes.Command.TheVariants.{Ip}
-use Rattle.tn_nvt.specs.{declared.items.Item.{Item, TheVariants.Cmd}, Feeding.DecoderState, Spelling.{lf, Fits}}
+use Rattle.tn_nvt.specs.{declared.items.Item.{Item, TheVariants.Cmd}, Feeding.DecoderState, Spelling.{lf, Fits}, Prefixes.IsPrefixOf}
 use Rattle.tn_discipline.specs.{Canon.{Canon, typed_entries, typed_half}, Keys.role_of_key, declared.reads.{Entry.Entry, Sig.TheVariants.Int}}
 use Rattle.tn_discipline.specs.declared.keys.Role.TheVariants as role
 use Rattle.tn_linemode.specs.Modes.{edits}
@@ -11,7 +11,6 @@ use Rattle.tn_client.specs.{Steps.{end_after_key, says_key, says_new_line, end_a
 use Rattle.tn_server.specs.Calls as server
 use Rattle.tn_server.specs.Events as server_calls
 use Rattle.tn_server.specs.Steps as server_steps
-use Rattle.tn_streams.specs.Prefixes.{IsPrefixOf}
 use Rattle.tn_world.specs.relation.{Calm.{IsCalmToServer, IsCalmToClient, bits, IsAskable}, Pictures.{Server, server_core, ServerStays, ClientStays}}
 use Rattle.tn_world.specs.relation.Relation.{Agrees, AreOrdinary, IsTied, server_at}
 use Rattle.tn_world.proofs.{Machine.{AreSaid, SaysItems, read_all}, ClientSteps.{key_said, line_said, key_stays, items-come, resized-writes}}

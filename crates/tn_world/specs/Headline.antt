@@ -11,7 +11,7 @@ use Rattle.tn_option.specs.{Options.{Options, state_of}, declared.q_method.{Side
 use Rattle.tn_option.specs.declared.q_method.Side.TheVariants.{Us, Them}
 use Rattle.tn_option.specs.declared.q_method.QState.TheVariants.{No, Yes, WantNoEmpty, WantNoOpposite}
 use Rattle.tn_option.specs.declared.q_method.QState.TheVariants.{WantYesEmpty, WantYesOpposite}
-use Rattle.tn_streams.specs.Prefixes.{IsPrefixOf}
+use Rattle.tn_nvt.specs.Prefixes.{IsPrefixOf}
 use Rattle.tn_world.specs.{Commands.IsTypeable, Opened.IsOpened, Past.HasPast, declared.events.Event.Event}
 use Rattle.tn_world.specs.{Worlds.{World, RunsEvent, Refuses, canon_of}, declared.faults.Cause.Cause}
 use Rattle.tn_world.specs.declared.events.Event.TheVariants.{Send, SetChar, Propose}

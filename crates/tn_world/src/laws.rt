@@ -9,7 +9,7 @@ ghost use Rattle.tn_world.specs.Headline.{local_entries, local_half, IsBeginning
 ghost use Rattle.tn_world.specs.Headline.{PassesQuietly, Follows, NoneFailed, NothingInFlight, entries_made};
 ghost use Rattle.tn_world.specs.{Settling.{IsRound, HasSettled}, Worlds.{World, RunsEvent}};
 ghost use Rattle.tn_world.specs.{declared.events.Event.Event, relation.Relation.IsRelated};
-ghost use Rattle.tn_streams.specs.Prefixes.{IsPrefixOf};
+ghost use Rattle.tn_nvt.specs.Prefixes.{IsPrefixOf};
 
 use tn_linemode::laws::exchanges_end;
 

@@ -4,13 +4,12 @@ use Rattle.std.proofs.Common.{◌≡◌, ℕ, Bool, true, false, Option, Some, N
 use Rattle.tn_client.proofs.lemmas.Histories.{items-gets}
 use Rattle.tn_client.specs.Events as events
 use Rattle.tn_client.specs.{Events.{History, next, typed, entered, got, resized, items, gets}, declared.commands.UserCommand.UserCommand}
-use Rattle.tn_machines.specs.{client.{Commands.{command_of, event_by, event_of}, Counting.after_message, Marks.Turns}, declared.client.messages.Origin.Origin}
-use Rattle.tn_machines.specs.{client.Run.{Run, Acts, ActsUnless, types, sent_after}, declared.client.messages.{ClientMark.ClientMark, Told.Told}}
-use Rattle.tn_machines.specs.declared.{client.{messages.Origin.TheVariants.{Keys, Net}, progress.ClientProgress.ClientProgress}, messages.Message.Message}
-use Rattle.tn_machines.specs.declared.messages.Message.TheVariants.{Piece, HangUp, ReadFailed, Take, Said, Refused, Left, Resized, Asked}
-use Rattle.tn_machines.specs.declared.client.messages.ClientMark.TheVariants as mark
-use Rattle.tn_nvt.specs.declared.items.Item.{Item}
-use Rattle.tn_streams.specs.Prefixes.{IsPrefixOf}
+use Rattle.tn_cores.specs.{client.{Commands.{command_of, event_by, event_of}, Counting.after_message, Marks.Turns}, declared.client.messages.Origin.Origin}
+use Rattle.tn_cores.specs.{client.Run.{Run, Acts, ActsUnless, types, sent_after}, declared.client.messages.{ClientMark.ClientMark, Told.Told}}
+use Rattle.tn_cores.specs.declared.{client.{messages.Origin.TheVariants.{Keys, Net}, progress.ClientProgress.ClientProgress}, messages.Message.Message}
+use Rattle.tn_cores.specs.declared.messages.Message.TheVariants.{Piece, HangUp, ReadFailed, Take, Said, Refused, Left, Resized, Asked}
+use Rattle.tn_cores.specs.declared.client.messages.ClientMark.TheVariants as mark
+use Rattle.tn_nvt.specs.{declared.items.Item.Item, Prefixes.IsPrefixOf}
 
 pub record ClientKeeps (T : History → Type 0) (said : List Item) : Type 0 where
   pub types_on : (h : History) (key : ℕ) → T h → T (next h (typed key))

@@ -2,9 +2,8 @@
 use Rattle.std.proofs.Common.{◌≡◌, ◌⊎◌, inl, inr, ℕ, Bool, true, false, Some, List, [], ◌∷◌, ◌++◌, refl, sym, ap, ◌∙◌, subst, map, append_assoc, append-nil}
 use Rattle.std.specs.List.{FoldsTo}
 use Rattle.tn_session.proofs.lemmas.Transcribing.{prefix_trans}
-use Rattle.tn_session.specs.{Notes.Note, Transcripts.{Exchange, IsExchange, IsStep, exchange_of, total}}
-use Rattle.tn_workers.specs.declared.mail.Mail.{Mail}
-use Rattle.tn_streams.specs.Prefixes.{IsPrefixOf}
+use Rattle.tn_session.specs.{Notes.Note, Transcripts.{Exchange, IsExchange, IsStep, exchange_of, total}, declared.workers.mail.Mail.Mail}
+use Rattle.tn_nvt.specs.Prefixes.{IsPrefixOf}
 
 pub total-append : {M : Type 0} (ss ts : List (M × List ℕ)) → total (ss ++ ts) ≡ total ss ++ total ts
 total-append [] ts = refl

@@ -1,8 +1,7 @@
 -- A thread that reads, where no job says anything of its reader.
 use Rattle.std.proofs.Common.{◌≡◌, ◌≢◌, ℕ, Bool, true, List, [], ◌∷◌, ◌++◌, Option, None, ap, ◌∙◌, ◌⊎◌, ⊎_elim, inl, inr, length}
-use Rattle.tn_machines.specs.declared.messages.Message.{Message, TheVariants.Left}
-use Rattle.tn_workers.specs.{Reader.Closes, Reading.{IsEnding, IsReadCause}}
-use Rattle.tn_streams.specs.{Foretelling.Failures, Known.KnownReader}
+use Rattle.tn_cores.specs.{declared.messages.Message.{Message, TheVariants.Left}, streams.{Foretelling.Failures, Known.KnownReader}}
+use Rattle.tn_session.specs.workers.{Reader.Closes, Reading.{IsEnding, IsReadCause}}
 
 -- after its pieces comes how the reading ended, and then Left, or Left alone
 abbrev pub PlainlyCloses : Bool → List (List ℕ) → Option (List ℕ) → Option Failures → List Message → Type 0

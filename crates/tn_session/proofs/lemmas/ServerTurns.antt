@@ -2,15 +2,14 @@
 use Rattle.std.proofs.Common.{◌≡◌, ℕ, Bool, true, false, List, [], ◌∷◌, ◌++◌, ◌&&◌, Option, Some, None, refl, sym, ap, ◌∙◌, subst, append_assoc, length}
 use Rattle.tn_discipline.specs.declared.reads.Entry.{Entry}
 use Rattle.tn_jobs.specs.declared.verdicts.Verdict.{Verdict}
-use Rattle.tn_nvt.specs.declared.items.Item.{Item}
+use Rattle.tn_nvt.specs.{declared.items.Item.Item, Prefixes.IsPrefixOf}
 use Rattle.tn_server.proofs.lemmas.Histories.{items-gets}
 use Rattle.tn_server.specs.{Course.in_parts, Events.{History, next, got, took, wrote, pulled, echo_set, items, gets}, Lines.waiting, Screen.queue}
-use Rattle.tn_machines.proofs.lemmas.server.Hearing.{move_keeps}
-use Rattle.tn_machines.specs.{server.{Marks.{Turns, put_or_not}, Run.{echo_by, echoed, turn_echo, is_end, show}}, declared.server.messages.ServerMark.ServerMark}
-use Rattle.tn_machines.specs.server.Run.{Run, Acts, ActsUnless, flushed_history, flush, feed, ask, ask_if, answer, move, in_foreground, after_said, halt_if}
-use Rattle.tn_machines.specs.declared.messages.Message.{Message, TheVariants.{Piece, HangUp, ReadFailed, Take, Said, Refused, Left, Resized, Asked}}
-use Rattle.tn_machines.specs.declared.server.messages.ServerMark.TheVariants as mark
-use Rattle.tn_streams.specs.Prefixes.{IsPrefixOf}
+use Rattle.tn_cores.proofs.lemmas.server.Hearing.{move_keeps}
+use Rattle.tn_cores.specs.{server.{Marks.{Turns, put_or_not}, Run.{in_foreground, after_said, halt_if}}, declared.server.messages.ServerMark.ServerMark}
+use Rattle.tn_cores.specs.server.Run.{echo_by, echoed, turn_echo, is_end, show, Run, Acts, ActsUnless, flushed_history, flush, feed, ask, ask_if, answer, move}
+use Rattle.tn_cores.specs.declared.messages.Message.{Message, TheVariants.{Piece, HangUp, ReadFailed, Take, Said, Refused, Left, Resized, Asked}}
+use Rattle.tn_cores.specs.declared.server.messages.ServerMark.TheVariants as mark
 
 -- kept by each event of a terminal, where the items that come begin these
 pub record ServerKeeps (T : History → Type 0) (said : List Item) : Type 0 where

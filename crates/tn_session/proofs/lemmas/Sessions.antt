@@ -3,14 +3,14 @@ use Rattle.std.proofs.Common.{◌≡◌, inl, ℕ, false, Option, Some, None, Li
 use Rattle.std.specs.List.{FoldsTo}
 use Rattle.tn_client.specs.Events as client
 use Rattle.tn_client.specs.Replies as client_says
-use Rattle.tn_machines.specs.{client.Bringing.{brought, brought_from}, declared.{client.messages.Told.Told, messages.Message.Message}, Pieces.bytes_in}
-use Rattle.tn_machines.specs.server.Hearing.{heard}
-use Rattle.tn_machines.specs.client.Marks as core
-use Rattle.tn_machines.specs.client.Run as core_run
-use Rattle.tn_machines.specs.declared.client.messages.ClientMark as core_mark
-use Rattle.tn_machines.specs.declared.client.messages.Origin.TheVariants as origin
+use Rattle.tn_cores.specs.{client.Bringing.{brought, brought_from}, declared.{client.messages.Told.Told, messages.Message.Message}, Pieces.bytes_in}
+use Rattle.tn_cores.specs.server.Hearing.{heard}
+use Rattle.tn_cores.specs.client.Marks as core
+use Rattle.tn_cores.specs.client.Run as core_run
+use Rattle.tn_cores.specs.declared.client.messages.ClientMark as core_mark
+use Rattle.tn_cores.specs.declared.client.messages.Origin.TheVariants as origin
 use Rattle.tn_nvt.proofs.lemmas.Reading.{spells-append}
-use Rattle.tn_nvt.specs.{Spelling.spells, declared.items.Item.Item}
+use Rattle.tn_nvt.specs.{Spelling.spells, declared.items.Item.Item, Prefixes.IsPrefixOf}
 use Rattle.tn_server.specs.Events as server
 use Rattle.tn_server.specs.Replies as server_says
 use Rattle.tn_session.proofs.lemmas.{ClientTurns.client_turns, Noting.{IsUpTo, exchanged, whole_by}, ServerTurns.server_turns}
@@ -18,14 +18,12 @@ use Rattle.tn_session.proofs.lemmas.Transcribing.{prefix_self, on_to, all_grow, 
 use Rattle.tn_session.specs.Client as of_client
 use Rattle.tn_session.specs.Session as of_server
 use Rattle.tn_session.specs.CoreTurns as cores
-use Rattle.tn_session.specs.{CoreTurns.{all_told, told_of}, Notes.{Note, Noted, no_notes, notes}, Turns.messages_of}
+use Rattle.tn_session.specs.{CoreTurns.{all_told, told_of}, Notes.{Note, Noted, no_notes, notes}, Turns.messages_of, declared.workers.mail.Mail.Mail}
 use Rattle.tn_session.specs.Transcripts.{Exchange, Point, ReadsPrefix, Transcribes, IsExchange, IsStep, all_read, all_wrote, exchange_of, total}
 use Rattle.tn_session.specs.Turns as terms
-use Rattle.tn_workers.specs.declared.mail.Mail.{Mail}
-use Rattle.tn_streams.specs.Prefixes.{IsPrefixOf}
-use Rattle.tn_machines.specs.server.Marks as term
-use Rattle.tn_machines.specs.server.Run as term_run
-use Rattle.tn_machines.specs.declared.server.messages.ServerMark as term_mark
+use Rattle.tn_cores.specs.server.Marks as term
+use Rattle.tn_cores.specs.server.Run as term_run
+use Rattle.tn_cores.specs.declared.server.messages.ServerMark as term_mark
 
 -- what is spelled grows with its items
 spells_grow : (xs ys : List Item) → IsPrefixOf xs ys → IsPrefixOf (spells xs) (spells ys)

@@ -3,7 +3,7 @@ use Rattle.std.proofs.Common.{◌≡◌, ◌⊎◌, inl, inr, ℕ, List, [], ◌
 use Rattle.std.proofs.lemmas.List.{append_cancel_left}
 use Rattle.std.specs.List.{FoldsTo}
 use Rattle.tn_session.specs.Transcripts.{Exchange, Point, IsExchange, all_read, all_wrote}
-use Rattle.tn_streams.specs.Prefixes.{IsPrefixOf}
+use Rattle.tn_nvt.specs.Prefixes.{IsPrefixOf}
 
 pub prefix_trans : {A : Type 0} (xs ys zs : List A) → IsPrefixOf xs ys → IsPrefixOf ys zs → IsPrefixOf xs zs
 prefix_trans {A} xs ys zs p q = (p.0 ++ q.0, sym (append_assoc xs p.0 q.0) ∙ ap (λ (l : List A). l ++ q.0) p.1 ∙ q.1)

@@ -3,9 +3,9 @@
 use std::alloc::Global;
 use std::process::Abort;
 use std::test::Fail;
+use tn_cores::client::{ClientMark, Core, Origin, Told};
+use tn_cores::{Ended, Message, SessionFault};
 use tn_discipline::{Limit, Text};
-use tn_machines::client::{ClientMark, Core, Origin, Told};
-use tn_machines::{Ended, Message, SessionFault};
 
 fn piece(alloc: Global, from: Origin, bytes: &[u8]) -> Result<Told, Fail> {
     let message = Message::Piece(Text::from(Vec::from_slice(alloc, bytes)?));

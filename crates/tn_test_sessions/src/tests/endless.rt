@@ -5,11 +5,11 @@ use super::sessions::reaction;
 use std::alloc::{AllocError, Global};
 use std::io;
 use std::test::Fail;
+use tn_cores::streams::{Source, nothing_to_say};
 use tn_discipline::{Entry, Settings};
 use tn_jobs::{After, Job, Reaction};
 use tn_server::Editing;
 use tn_session::{Ended, Maker, Unwatched};
-use tn_streams::{Source, nothing_to_say};
 
 /// Gives keys for ever.
 #[derive(Drop)]

@@ -6,7 +6,7 @@ use std::test::Fail;
 use tn_discipline::{Entry, Limit, Settings, Text};
 use tn_jobs::Table;
 use tn_server::Editing;
-use tn_two_sessions::{Joined, LoopEvent};
+use tn_theorems::sessions::{Joined, LoopEvent};
 
 fn text_of(alloc: Global, bytes: &[u8]) -> Result<Text, AllocError> {
     let mut text = Vec::new(alloc);

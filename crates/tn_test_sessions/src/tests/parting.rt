@@ -6,10 +6,10 @@ use super::runs::serve;
 use super::sessions::Jobs;
 use std::io;
 use std::test::Fail;
+use tn_cores::streams::Source;
 use tn_discipline::Settings;
 use tn_server::Editing;
 use tn_session::{Ended, Unwatched};
-use tn_streams::Source;
 
 /// How many opening words a session writes.
 const OPENING: usize = 15;

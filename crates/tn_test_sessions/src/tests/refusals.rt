@@ -2,7 +2,7 @@
 
 ghost use Rattle.std.specs.{Prelude.{◌≡◌, ◌≤◌, Some, None, length}, Io.WritesAtMost};
 ghost use Rattle.std.specs.Io.KnownBytes.{WriteAppends};
-ghost use Rattle.tn_streams.specs.Counting.{told_by};
+ghost use Rattle.tn_cores.specs.streams.Counting.{told_by};
 
 use super::runs::serve;
 use super::sessions::{Jobs, ended};
@@ -11,10 +11,10 @@ use std::io::{self, ErrorKind};
 use std::process::Abort;
 use std::sync::Wait;
 use std::thread::Threads;
+use tn_cores::streams::{Drain, Source, Tally, nothing_to_say};
 use tn_discipline::Settings;
 use tn_server::{Editing, ServerFault};
 use tn_session::{Ended, Finish, Report, SessionFault, Unwatched};
-use tn_streams::{Drain, Source, Tally, nothing_to_say};
 
 /// Gives some bytes at once, then fails so many times, and then ends; it foretells how many of its calls will
 /// fail.

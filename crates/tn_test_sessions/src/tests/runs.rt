@@ -3,10 +3,10 @@
 use std::alloc::Global;
 use std::sync::{Arc, Wait};
 use std::thread::Threads;
+use tn_cores::streams::{Drain, Source};
 use tn_discipline::{Limit, Settings};
 use tn_server::Editing;
 use tn_session::{Finish, Gate, Maker, Report, SessionFault, client_session, serve_session};
-use tn_streams::{Drain, Source};
 
 /// Runs a server's session, and returns its report.
 pub(super) fn serve<R, Rd, W, M, G>(

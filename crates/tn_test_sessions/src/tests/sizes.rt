@@ -12,8 +12,8 @@ use std::sync::atomic::{AtomicBool, Ordering};
 use std::sync::{Arc, Wait};
 use std::test::Fail;
 use std::thread::Threads;
+use tn_cores::streams::{Control, Source, WindowSize, nothing_to_say};
 use tn_session::{Ended, Gate, Place};
-use tn_streams::{Control, Source, WindowSize, nothing_to_say};
 
 /// What the two readers of a client tell each other.
 #[derive(Drop)]

@@ -3,10 +3,10 @@
 use std::alloc::Global;
 use std::process::Abort;
 use std::test::Fail;
+use tn_cores::server::{Put, Term};
+use tn_cores::{Ended, Message, SessionFault};
 use tn_discipline::{Entry, Limit, Settings, Text};
 use tn_jobs::{After, JobId, Table};
-use tn_machines::server::{Put, Term};
-use tn_machines::{Ended, Message, SessionFault};
 use tn_server::Editing;
 
 /// The opening words, the text `a` with a new line, and GA. The client has not let the server echo.

@@ -11,7 +11,7 @@ use Rattle.tn_codes.specs.declared.codes.Command.TheVariants as command
 use Rattle.tn_discipline.specs.{Canon.{Canon, typed_entries}, Characters.standard_characters, declared.{termios.Settings.Settings, reads.Entry.Entry}}
 use Rattle.tn_discipline.specs.HalfLine.{HalfLine}
 use Rattle.tn_linemode.specs.Modes.{Modes, edits}
-use Rattle.tn_nvt.specs.{Spelling.lf, declared.items.Item.{Item, TheVariants.Cmd}, Feeding.failed}
+use Rattle.tn_nvt.specs.{Spelling.lf, declared.items.Item.{Item, TheVariants.Cmd}, Feeding.failed, Prefixes.IsPrefixOf}
 use Rattle.tn_server.specs.Events as server
 use Rattle.tn_server.specs.{Calls.{End as ServerEnd, LeadsTo}, Lines.{entries, taken_count}, Steps.{end_after as server_after, says as server_said}}
 use Rattle.tn_server.specs.{Terms.Terms, declared.wishes.Editing.Editing}
@@ -25,7 +25,6 @@ use Rattle.tn_world.proofs.{Tied.{server-as, tied-begins, tied-complete}, Interr
 use Rattle.tn_world.proofs.Machine.{SaysItems}
 use Rattle.tn_world.proofs.ClientSteps as client_steps
 use Rattle.tn_world.proofs.ServerSteps as server_steps
-use Rattle.tn_streams.specs.Prefixes.{IsPrefixOf}
 use Rattle.tn_world.specs.{Commands.{IsTypeable, key_for, interrupt_key}, relation.{Pictures.{server_core, ServerStays}, Relation.IsTied}}
 
 -- TWO ENDS that one history leads to

@@ -3,7 +3,7 @@ use Rattle.std.specs.Prelude.{◌≡◌, ℕ, Bool, IsTrue, IsFalse, All, List, 
 use Rattle.tn_discipline.specs.{Characters.Characters, Canon.{Canon, typed_entries, typed_half}}
 use Rattle.tn_discipline.specs.{Keys.literal_role, declared.reads.Entry.Entry}
 use Rattle.tn_discipline.specs.declared.keys.Role.TheVariants as role
-use Rattle.tn_nvt.specs.{declared.items.Item.Item, Spelling.Fits}
+use Rattle.tn_nvt.specs.{declared.items.Item.Item, Spelling.Fits, Prefixes.IsPrefixOf}
 use Rattle.tn_server.specs.{Terms.allows_local, Steps.end_after_items}
 use Rattle.tn_client.specs.Calls as client
 use Rattle.tn_server.specs.Calls as server
@@ -12,7 +12,6 @@ use Rattle.tn_linemode.specs.Modes.{edits}
 use Rattle.tn_world.specs.{Headline.local_entries, Past.HasPast, Flight.InFlight, Worlds.World}
 use Rattle.tn_world.specs.relation.Calm.{IsCalmToServer, IsCalmToClient, bits, IsAskable}
 use Rattle.tn_world.specs.relation.Pictures.{Server, server_core, ServerStays, ClientStays}
-use Rattle.tn_streams.specs.Prefixes.{IsPrefixOf}
 
 -- a server with these
 abbrev pub server_at : Bool → Bool → List ℕ → List Entry → Server

@@ -1,5 +1,5 @@
 use Rattle.std.proofs.Common.{refl}
-use Rattle.tn_c_parts.specs.declared.codes.Code.TheVariants.{Done}
+use Rattle.tn_c.specs.declared.parts.codes.Code.TheVariants.{Done}
 use Rattle.tn_c.proofs.Calling.{decoder_called}
 use Rattle.tn_c.proofs.decoder.tn_decoder_take_run.Goals as goal
 

@@ -1,6 +1,6 @@
 use Rattle.std.proofs.Common.{refl, subst}
 use Rattle.tn_discipline.specs.declared.termios.Flags.{Flags}
-use Rattle.tn_c_parts.specs.{declared.codes.Code.TheVariants.Done, LineCalls.SetFlagsCall}
+use Rattle.tn_c.specs.{declared.parts.codes.Code.TheVariants.Done, parts.LineCalls.SetFlagsCall}
 use Rattle.tn_c.proofs.Calling.{line_called}
 use Rattle.tn_c.proofs.line.tn_line_set_flags.Goals as goal
 

@@ -1,5 +1,5 @@
 use Rattle.std.proofs.{Common.{◌≡◌, arith}, lemmas.Grind.common_steps}
-use Rattle.tn_c_parts.specs.Codes.{code_number}
+use Rattle.tn_c.specs.parts.Codes.{code_number}
 use Rattle.tn_c.proofs.line.tn_line_start.Goals as goal
 
 pub returns : goal.returns

@@ -1,5 +1,5 @@
 use Rattle.std.proofs.Common.{refl}
-use Rattle.tn_c_parts.specs.declared.codes.Code.TheVariants.{Done}
+use Rattle.tn_c.specs.declared.parts.codes.Code.TheVariants.{Done}
 use Rattle.tn_c.proofs.Calling.{server_called}
 use Rattle.tn_c.proofs.server.tn_server_size.Goals as goal
 

@@ -1,7 +1,7 @@
 use Rattle.std.proofs.Common.{true, Ok, take}
 use Rattle.tn_cli.proofs.Decoding.{decoded_none, decoded_more, decodes_some, on_err}
-use Rattle.tn_streams.proofs.lemmas.Telling.{made_none, made_more, read_stays, accounts_none, accounts_both}
-use Rattle.tn_streams.specs.Telling.{CountsRead}
+use Rattle.tn_cores.proofs.lemmas.streams.Telling.{made_none, made_more, read_stays, accounts_none, accounts_both}
+use Rattle.tn_cores.specs.streams.Telling.{CountsRead}
 use Rattle.tn_cli.proofs.decode.print_pieces.Goals as goal
 
 pub loop-read-init : goal.loop-read-init

@@ -1,6 +1,6 @@
 use Rattle.std.proofs.Common.{true}
 use Rattle.tn_cli.specs.{Decode.Decoded, Streams.max_writes}
-use Rattle.tn_streams.specs.Telling.{AccountsFor, HasMade}
+use Rattle.tn_cores.specs.streams.Telling.{AccountsFor, HasMade}
 use Rattle.tn_cli.proofs.decode.print_pieces.Given as goal
 
 -- what was read so far is printed

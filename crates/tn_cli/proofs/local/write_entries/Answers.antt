@@ -2,7 +2,7 @@ use Rattle.std.proofs.{Common.{◌≡◌, ◌+◌, ◌-◌, length, drop, subst,
 use Rattle.std.specs.Io.KnownBytes.{Appends}
 use Rattle.tn_cli.specs.Streams.{AppendsPrefix, max_writes}
 use Rattle.tn_cli.proofs.Entries.{given_none, given_more, given_all, given_front, made_both, failed_after}
-use Rattle.tn_streams.proofs.lemmas.Telling.{made_none}
+use Rattle.tn_cores.proofs.lemmas.streams.Telling.{made_none}
 use Rattle.tn_cli.proofs.local.write_entries.Goals as goal
 
 pub loop-typed-init : goal.loop-typed-init

@@ -1,5 +1,5 @@
 use Rattle.std.proofs.Common.{◌≡◌, ◌≤◌, ◌-◌, [], length, take, vec_len, vec_capacity}
-use Rattle.tn_streams.specs.Telling.{HasMade}
+use Rattle.tn_cores.specs.streams.Telling.{HasMade}
 use Rattle.tn_cli.specs.{Streams.max_writes, Typing.max_printed}
 use Rattle.tn_cli.proofs.Entries.{HasGiven}
 use Rattle.tn_cli.proofs.local.write_entries.Given as goal

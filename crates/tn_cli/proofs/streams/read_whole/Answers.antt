@@ -1,7 +1,7 @@
 use Rattle.std.proofs.Common.{◌≡◌, Ok, Err, length, take, arith}
 use Rattle.tn_cli.proofs.Inputs.{kept_none, kept_more, kept_again}
-use Rattle.tn_streams.proofs.lemmas.Telling.{made_none, made_more, failed_at, passed, read_stays, read_again, read_fails}
-use Rattle.tn_streams.specs.Telling.{CountsRead}
+use Rattle.tn_cores.proofs.lemmas.streams.Telling.{made_none, made_more, failed_at, passed, read_stays, read_again, read_fails}
+use Rattle.tn_cores.specs.streams.Telling.{CountsRead}
 use Rattle.tn_cli.proofs.streams.read_whole.Goals as goal
 
 pub loop-read-init : goal.loop-read-init

@@ -1,7 +1,7 @@
 use Rattle.std.proofs.Common.{◌≤◌}
 use Rattle.tn_cli.proofs.Inputs.{HasKept}
 use Rattle.tn_cli.specs.Streams.{max_input}
-use Rattle.tn_streams.specs.Telling.{HasMade}
+use Rattle.tn_cores.specs.streams.Telling.{HasMade}
 use Rattle.tn_cli.proofs.streams.read_whole.Given as goal
 
 abbrev pub invariant-loop-read : goal.invariant-loop-read

@@ -1,7 +1,7 @@
 use Rattle.std.proofs.Common.{Ok, arith, length-drop}
 use Rattle.tn_cli.proofs.Writing.{wrote_more, rest_is}
-use Rattle.tn_streams.proofs.lemmas.Telling.{made_more, write_stays}
-use Rattle.tn_streams.specs.Telling.{CountsWrite}
+use Rattle.tn_cores.proofs.lemmas.streams.Telling.{made_more, write_stays}
+use Rattle.tn_cores.specs.streams.Telling.{CountsWrite}
 use Rattle.tn_cli.proofs.streams.write_within.Goals as goal
 
 pub loop-write-preserved : goal.loop-write-preserved

@@ -1,6 +1,6 @@
 use Rattle.std.proofs.Common.{◌≤◌, length, take}
 use Rattle.std.specs.Io.KnownBytes.{Appends}
-use Rattle.tn_streams.specs.Telling.{HasMade}
+use Rattle.tn_cores.specs.streams.Telling.{HasMade}
 use Rattle.tn_cli.proofs.streams.write_within.Given as goal
 
 abbrev pub invariant-loop-write : goal.invariant-loop-write

@@ -1,7 +1,7 @@
 use Rattle.std.proofs.Common.{◌≡◌, Ok}
 use Rattle.crossbeam_channel.specs.Claims.{view}
-use Rattle.tn_sockets.proofs.lemmas.Sent.{is_sent}
-use Rattle.tn_sockets.specs.{Logs.logged, declared.sending.Sent.TheVariants.Whole}
+use Rattle.tn_net.proofs.lemmas.Sent.{is_sent}
+use Rattle.tn_net.specs.{Logs.logged, declared.sending.Sent.TheVariants.Whole}
 use Rattle.tn_connect.proofs.connecting.talk_and_send.Goals as goal
 
 pub returns-clause-sent : goal.returns-clause-sent

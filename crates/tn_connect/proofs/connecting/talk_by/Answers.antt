@@ -1,8 +1,8 @@
 use Rattle.crossbeam_channel.specs.Claims.{view}
 use Rattle.tn_connect.proofs.Put.{runs}
 use Rattle.tn_connect.specs.Clients.{window_of}
-use Rattle.tn_sockets.specs.Queue.{put_bytes}
-use Rattle.tn_streams.specs.Known.{known_typing}
+use Rattle.tn_net.specs.Queue.{put_bytes}
+use Rattle.tn_cores.specs.streams.Known.{known_typing}
 use Rattle.tn_connect.proofs.connecting.talk_by.Goals as goal
 
 pub returns : goal.returns

@@ -1,7 +1,7 @@
 use Rattle.std.proofs.Common.{Bool, IfOk, false, ap, subst, ◌∙◌}
 use Rattle.crossbeam_channel.specs.Claims.{view}
 use Rattle.tn_connect.specs.{Clients.{RunsWriting, foreseen, text_by, window_of}, Texts.with_text, declared.settings.KeySource.TheVariants.Reader}
-use Rattle.tn_sockets.specs.Queue.{put_bytes}
+use Rattle.tn_net.specs.Queue.{put_bytes}
 use Rattle.tn_connect.proofs.connecting.talk_from.Goals as goal
 
 pub returns-in-Reader : goal.returns-in-Reader

@@ -1,7 +1,7 @@
 use Rattle.std.proofs.Common.{◌≡◌, ℕ, List, Option, IfOk, option_map, subst, sym, ◌∙◌}
 use Rattle.tn_connect.proofs.Keys.{at_terminal, at_no_terminal}
 use Rattle.tn_connect.specs.Talks.{HoldsTalk}
-use Rattle.tn_sockets.specs.{PlainKeys.keys_left, Prompting.closed, declared.escaping.Escaping.Escaping}
+use Rattle.tn_net.specs.{PlainKeys.keys_left, Prompting.closed, declared.escaping.Escaping.Escaping}
 use Rattle.tn_connect.proofs.talks.talk_over.Goals as goal
 
 pub returns-then-is_terminal-clause-talked : goal.returns-then-is_terminal-clause-talked

@@ -2,7 +2,7 @@ use Rattle.std.proofs.{Common.{arith, refl, sym, ap, ◌≡◌, ◌∙◌, ◌<�
 use Rattle.std.specs.Prelude.{option_to_list}
 use Rattle.tn_connect.proofs.{Texts.one_more, text_keys.keys_of.Goals.{in-Some, in-None}}
 use Rattle.tn_connect.specs.Texts.{keys_of_text}
-use Rattle.tn_sockets.proofs.Plain.{written}
+use Rattle.tn_net.proofs.Plain.{written}
 use Rattle.tn_connect.proofs.text_keys.keys_of.Goals as goal
 
 pub loop-place-init : goal.loop-place-init

@@ -1,9 +1,9 @@
 use Rattle.std.proofs.Common.{Bool, IfOk, List, ℕ, inl, inr, refl, subst}
 use Rattle.tn_connect.specs.{Clients.{ConnectsBy, RunsClient, connection_of, foreseen, window_of}, declared.settings.KeySource.KeySource}
-use Rattle.tn_network.specs.{Asked.ReachesBy, Dialing.suits, declared.dialing.Dialing.Dialing}
+use Rattle.tn_net.specs.{network.{Asked.ReachesBy, Dialing.suits}, declared.network.dialing.Dialing.Dialing}
 use Rattle.tn_program.proofs.{Origins.foreseen_as, ServicePorts.any_port}
 use Rattle.tn_session.specs.Facts.{Window}
-use Rattle.tn_streams.specs.Known.{KnownTyping}
+use Rattle.tn_cores.specs.streams.Known.{KnownTyping}
 use Rattle.tn_program.proofs.program.run_connect.Goals as goal
 
 pub returns-in_default : goal.returns-in_default

@@ -1,7 +1,7 @@
 use Rattle.std.proofs.Common.{inl, IfOk, List, ℕ, inr, refl, subst}
 use Rattle.tn_connect.specs.{Clients.ConnectsBy, Talks.{RunsTalk, talked_over}, declared.settings.KeySource.KeySource}
 use Rattle.tn_lines.specs.declared.line_ends.LineEnd.{LineEnd}
-use Rattle.tn_network.specs.{Asked.ReachesBy, Dialing.suits}
+use Rattle.tn_net.specs.network.{Asked.ReachesBy, Dialing.suits}
 use Rattle.tn_program.specs.Settings.{origin_as}
 use Rattle.tn_program.proofs.ServicePorts.{any_port}
 use Rattle.tn_program.proofs.program.run_plain.Goals as goal

@@ -1,5 +1,5 @@
 use Rattle.std.proofs.Common.{ap, map, subst, ◌∙◌, List}
-use Rattle.tn_network.specs.Asked.{Listens, Place, at_place}
+use Rattle.tn_net.specs.network.Asked.{Listens, Place, at_place}
 use Rattle.tn_serve.specs.{Causes.{FailsBy, place_at}, declared.served.Served.Served}
 use Rattle.tn_program.proofs.Asked.{always, answers, counted_alone, counted_joined, joins, unless}
 use Rattle.tn_program.proofs.serving.serve_noted.Goals as goal

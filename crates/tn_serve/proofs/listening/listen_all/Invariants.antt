@@ -1,5 +1,5 @@
 use Rattle.std.proofs.Common.{map, take, vec_items}
-use Rattle.tn_network.specs.Asked.{GiveEach, at_place}
+use Rattle.tn_net.specs.network.Asked.{GiveEach, at_place}
 use Rattle.tn_serve.specs.Causes.{place_at}
 use Rattle.tn_serve.proofs.listening.listen_all.Given as goal
 

@@ -1,6 +1,6 @@
 use Rattle.std.proofs.Common.{Err, IfOk, List, Ok, subst, vec_items}
 use Rattle.std.specs.declared.net.tcp.TcpListener.{TcpListener}
-use Rattle.tn_network.specs.Asked.{Accepts}
+use Rattle.tn_net.specs.network.Asked.{Accepts}
 use Rattle.tn_serve.specs.declared.served.Served.{Served}
 use Rattle.tn_serve.proofs.Listeners.{fails_by}
 use Rattle.tn_serve.proofs.serving.serve.Goals as goal

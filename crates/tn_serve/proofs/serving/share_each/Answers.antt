@@ -1,5 +1,5 @@
 use Rattle.std.proofs.Common.{subst, sym, take, vec_items, ◌+◌}
-use Rattle.tn_network.specs.Asked.{GiveEach}
+use Rattle.tn_net.specs.network.Asked.{GiveEach}
 use Rattle.tn_serve.proofs.Listeners.{give_next}
 use Rattle.tn_serve.proofs.serving.share_each.Goals as goal
 

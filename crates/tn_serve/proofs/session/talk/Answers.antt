@@ -3,7 +3,7 @@ use Rattle.tn_discipline.specs.{Characters.standard_characters, Keys.standard_fl
 use Rattle.tn_discipline.specs.declared.termios.Settings.{Settings}
 use Rattle.tn_serve.specs.{Servers.{RunsWriting, attended}, declared.settings.SessionOptions.SessionOptions}
 use Rattle.tn_session.specs.{Facts.{JobFacts, SessionResult, job_facts, session_result}, Makers.begins, Session.RunningSession}
-use Rattle.tn_sockets.specs.Logs.{logged}
+use Rattle.tn_net.specs.Logs.{logged}
 use Rattle.tn_serve.proofs.session.talk.Goals as goal
 
 standard_is : (s : Settings) → s.flags ≡ standard_flags → s.chars ≡ standard_characters

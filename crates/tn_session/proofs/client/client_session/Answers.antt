@@ -1,6 +1,6 @@
 use Rattle.std.proofs.{Common.{IfOk, subst}, lemmas.Result.IfOk-weaker}
 use Rattle.tn_session.specs.{Client.RunningClient, Facts.{Window, client_result}}
-use Rattle.tn_streams.specs.{Known.{known_reader, known_typing, known_writing}, Sending.IsFinished}
+use Rattle.tn_cores.specs.streams.{Known.{known_reader, known_typing, known_writing}, Sending.IsFinished}
 use Rattle.tn_session.proofs.client.client_session.Goals as goal
 
 pub returns-clause-ran : goal.returns-clause-ran

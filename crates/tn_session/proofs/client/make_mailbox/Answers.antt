@@ -1,6 +1,6 @@
 use Rattle.crossbeam_channel.specs.Claims.{view}
 use Rattle.tn_session.proofs.{ClientWhole.ready_two, Mailbox.{starts, cut}}
-use Rattle.tn_workers.specs.declared.mail.Sender.TheVariants.{Net, Keys}
+use Rattle.tn_session.specs.declared.workers.mail.Sender.TheVariants.{Net, Keys}
 use Rattle.tn_session.proofs.client.make_mailbox.Goals as goal
 
 pub bounded_with-requires-clause-rule : goal.bounded_with-requires-clause-rule

@@ -1,10 +1,9 @@
 use Rattle.std.proofs.Common.{false, None, ap, subst, sym, ◌∙◌}
 use Rattle.crossbeam_channel.specs.Claims.{view}
-use Rattle.tn_session.proofs.{ClientWhole.client_ran, Stopped.{told_words, seat_at}}
-use Rattle.tn_session.specs.{CoreTurns.CoreHandles, Client.client_report, Facts.client_result, Notes.noted_of}
-use Rattle.tn_workers.proofs.lemmas.Readers.{sends_as}
-use Rattle.tn_workers.specs.{declared.mail.Sender.TheVariants.{Net, Keys}, Stops.has_stopped}
-use Rattle.tn_streams.specs.Known.{known_typing, known_writing}
+use Rattle.tn_session.proofs.{ClientWhole.client_ran, Stopped.{told_words, seat_at}, lemmas.workers.Readers.sends_as}
+use Rattle.tn_session.specs.{CoreTurns.CoreHandles, Client.client_report, Facts.client_result, Notes.noted_of, workers.Stops.has_stopped}
+use Rattle.tn_session.specs.declared.workers.mail.Sender.TheVariants.{Net, Keys}
+use Rattle.tn_cores.specs.streams.Known.{known_typing, known_writing}
 use Rattle.tn_session.proofs.client.run_beside.Goals as goal
 
 pub returns-clause-ran : goal.returns-clause-ran

@@ -1,6 +1,6 @@
 use Rattle.crossbeam_channel.specs.Claims.{view}
 use Rattle.tn_session.proofs.{ClientWhole.settles_two, Mailbox.{joins, totals, cut}}
-use Rattle.tn_workers.specs.declared.mail.Sender.TheVariants.{Net, Keys}
+use Rattle.tn_session.specs.declared.workers.mail.Sender.TheVariants.{Net, Keys}
 use Rattle.tn_session.proofs.client.settle.Goals as goal
 
 pub absorb-requires-clause-rule : goal.absorb-requires-clause-rule

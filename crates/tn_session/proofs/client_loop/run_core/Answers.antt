@@ -1,11 +1,11 @@
 use Rattle.std.proofs.Common.{◌∙◌, ◌||◌, ◌&&◌, not, ap, refl, sym, [], ◌∷◌, ◌++◌, Option, List, map, subst, arith}
 use Rattle.crossbeam_channel.specs.Claims.{view}
-use Rattle.tn_machines.specs.{declared.client.{messages.{ClientMark.ClientMark, Told.Told}, progress.ClientProgress.ClientProgress}, client.Marks.Runs}
+use Rattle.tn_cores.specs.{declared.client.{messages.{ClientMark.ClientMark, Told.Told}, progress.ClientProgress.ClientProgress}, client.Marks.Runs}
+use Rattle.tn_cores.specs.streams.Known.{known_writer, known_writing}
 use Rattle.tn_session.proofs.{CoreGoing.{told_first, told_next, told_kept, core_told}, Finishing.{open_none, stands_next, stands_last, stays_done}}
 use Rattle.tn_session.proofs.{Going.{false_true, lefts_of-push, left_small, notes_next, notes_kept}, Mailbox.handled_more, Stopped.{left_next, stands_first}}
 use Rattle.tn_session.specs.{CoreTurns.{TurnsTold, all_told, told_of}, Notes.{Noted, NotesAll, no_notes, noted_of}, Stops.{StandsTold, core_stops}}
-use Rattle.tn_workers.specs.declared.mail.{Mail.Mail, Sender.TheVariants.Keys}
-use Rattle.tn_streams.specs.Known.{known_writer, known_writing}
+use Rattle.tn_session.specs.declared.workers.mail.{Mail.Mail, Sender.TheVariants.Keys}
 use Rattle.tn_session.proofs.client_loop.run_core.Goals as goal
 
 pub take-requires-clause-role : goal.take-requires-clause-role

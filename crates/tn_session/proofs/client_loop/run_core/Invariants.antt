@@ -1,10 +1,8 @@
 use Rattle.std.proofs.Common.{◌≡◌, ◌≤◌, ◌||◌, List, [], map}
 use Rattle.crossbeam_channel.specs.{Claims.{view, IsSeatAt}, Ends.{sends_on, receives_on}}
-use Rattle.tn_machines.specs.client.{Marks.Runs, Reaching.LeadsTo, Run.Run}
+use Rattle.tn_cores.specs.{client.{Marks.Runs, Reaching.LeadsTo, Run.Run}, streams.Known.known_writing}
 use Rattle.tn_session.specs.{CoreTurns.{ToldAll, all_told}, Notes.{NotesAll, no_notes, noted_of}, Stops.{IsTold, StandsTold, has_left, core_stops}}
-use Rattle.tn_session.specs.Turns.{lefts_of}
-use Rattle.tn_workers.specs.{Mailbox.with_handled, declared.mail.{Mail.Mail, Sender.TheVariants.Keys}}
-use Rattle.tn_streams.specs.Known.{known_writing}
+use Rattle.tn_session.specs.{Turns.lefts_of, workers.Mailbox.with_handled, declared.workers.mail.{Mail.Mail, Sender.TheVariants.Keys}}
 use Rattle.tn_session.proofs.Finishing.{StandsAt}
 use Rattle.tn_session.proofs.client_loop.run_core.Given as goal
 

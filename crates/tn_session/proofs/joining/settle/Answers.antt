@@ -1,7 +1,7 @@
 use Rattle.crossbeam_channel.specs.Claims.{view}
 use Rattle.tn_session.proofs.{Mailbox.{joins, totals, cut}, Whole.settles}
-use Rattle.tn_queue.proofs.lemmas.Queue as channel
-use Rattle.tn_workers.specs.declared.mail.Sender.TheVariants.{Net, Desk, Back}
+use Rattle.tn_cores.proofs.lemmas.queue.Queue as channel
+use Rattle.tn_session.specs.declared.workers.mail.Sender.TheVariants.{Net, Desk, Back}
 use Rattle.tn_session.proofs.joining.settle.Goals as goal
 
 pub absorb-requires-clause-rule : goal.absorb-requires-clause-rule

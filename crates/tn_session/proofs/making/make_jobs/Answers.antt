@@ -1,6 +1,6 @@
 use Rattle.std.proofs.Common.{ℕ, ◌+◌, length, ap, ◌∙◌}
 use Rattle.tn_session.proofs.Makers.{came, gave_first, gave_more, one_came, made_more}
-use Rattle.tn_workers.specs.Turning.{ids_of}
+use Rattle.tn_session.specs.workers.Turning.{ids_of}
 use Rattle.tn_session.proofs.making.make_jobs.Goals as goal
 
 pub loop-other-init : goal.loop-other-init

@@ -1,7 +1,6 @@
 use Rattle.std.proofs.Common.{◌≡◌, ◌+◌, ◌∷◌, length}
 use Rattle.std.specs.List.{FoldsTo}
-use Rattle.tn_session.specs.{Jobs.IsMade, Makers.HasMade}
-use Rattle.tn_workers.specs.Turning.{ids_of, jobs_of}
+use Rattle.tn_session.specs.{Jobs.IsMade, Makers.HasMade, workers.Turning.{ids_of, jobs_of}}
 use Rattle.tn_session.proofs.making.make_jobs.Given as goal
 
 abbrev pub invariant-loop-other : goal.invariant-loop-other

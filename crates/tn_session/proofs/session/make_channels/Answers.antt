@@ -1,7 +1,7 @@
 use Rattle.crossbeam_channel.specs.Claims.{view}
 use Rattle.tn_session.proofs.{Mailbox.{starts, cut}, Credits.cuts, Whole.{ready_views, ready_hands}}
-use Rattle.tn_queue.proofs.lemmas.Queue as channel
-use Rattle.tn_workers.specs.declared.mail.Sender.TheVariants.{Net, Desk, Back}
+use Rattle.tn_cores.proofs.lemmas.queue.Queue as channel
+use Rattle.tn_session.specs.declared.workers.mail.Sender.TheVariants.{Net, Desk, Back}
 use Rattle.tn_session.proofs.session.make_channels.Goals as goal
 
 pub bounded_with-requires-clause-rule : goal.bounded_with-requires-clause-rule

@@ -1,6 +1,6 @@
 use Rattle.std.proofs.Common.{Bool, true, false, refl, subst}
 use Rattle.tn_session.proofs.Going.{never_true, notes_as}
-use Rattle.tn_streams.specs.Writing.{Tells}
+use Rattle.tn_cores.specs.streams.Writing.{Tells}
 use Rattle.tn_session.proofs.session.open.Goals as goal
 
 pub returns-then-write_out-clause-opened : goal.returns-then-write_out-clause-opened

@@ -1,8 +1,7 @@
 use Rattle.std.proofs.Common.{Bool, IfOk, subst}
 use Rattle.tn_jobs.specs.declared.held_jobs.JobId.{JobId}
-use Rattle.tn_workers.specs.Acts.{job_acts}
-use Rattle.tn_session.specs.{Facts.session_result, Session.RunsOn, Notes.noted_of}
-use Rattle.tn_streams.specs.Known.{known_reader, known_writing}
+use Rattle.tn_session.specs.{workers.Acts.job_acts, Facts.session_result, Session.RunsOn, Notes.noted_of}
+use Rattle.tn_cores.specs.streams.Known.{known_reader, known_writing}
 use Rattle.tn_session.proofs.session.run.Goals as goal
 
 pub returns-clause-ran : goal.returns-clause-ran

@@ -1,11 +1,9 @@
 use Rattle.std.proofs.Common.{false, Some, ap, subst, sym, ◌∙◌}
 use Rattle.crossbeam_channel.specs.Claims.{view}
-use Rattle.tn_session.proofs.{Whole.scheduled, Stopped.{told_words, seat_at}}
-use Rattle.tn_workers.proofs.lemmas.Readers.{sends_as}
-use Rattle.tn_workers.specs.{declared.mail.Sender.TheVariants.Net, Acts.job_acts, Stops.has_stopped}
-use Rattle.tn_session.specs.{Facts.session_result, Session.report_of, Turns.HandlesAll, declared.parties.Report.Report, Notes.noted_of}
-use Rattle.tn_streams.specs.Known.{known_typing, known_writer}
-use Rattle.tn_machines.specs.declared.server.progress.ServerProgress.{ServerProgress}
+use Rattle.tn_session.proofs.{Whole.scheduled, Stopped.{told_words, seat_at}, lemmas.workers.Readers.sends_as}
+use Rattle.tn_session.specs.{declared.workers.mail.Sender.TheVariants.Net, workers.{Acts.job_acts, Stops.has_stopped}, Facts.session_result, Session.report_of}
+use Rattle.tn_session.specs.{Turns.HandlesAll, declared.parties.Report.Report, Notes.noted_of}
+use Rattle.tn_cores.specs.{streams.Known.{known_typing, known_writer}, declared.server.progress.ServerProgress.ServerProgress}
 use Rattle.tn_session.proofs.session.run_beside.Goals as goal
 
 pub returns-clause-ran : goal.returns-clause-ran

@@ -1,9 +1,9 @@
 use Rattle.std.proofs.{Common.{◌≡◌, refl, sym, ap, ◌∙◌}, lemmas.Result.IfOk-weaker}
 use Rattle.tn_discipline.specs.Canon.{Canon}
-use Rattle.tn_machines.proofs.lemmas.server.Giving.{puts_are_front, taken_are_front}
-use Rattle.tn_machines.specs.{server.{Giving.entries_put, Marks.run_after_opening, Run.start}, declared.faults.Ended.TheVariants.{HangUp, Fault}}
-use Rattle.tn_machines.specs.declared.faults.SessionFault.{SessionFault}
-use Rattle.tn_machines.specs.declared.faults.SessionFault.TheVariants as fault
+use Rattle.tn_cores.proofs.lemmas.server.Giving.{puts_are_front, taken_are_front}
+use Rattle.tn_cores.specs.{server.{Giving.entries_put, Marks.run_after_opening, Run.start}, declared.faults.Ended.TheVariants.{HangUp, Fault}}
+use Rattle.tn_cores.specs.declared.faults.SessionFault.{SessionFault}
+use Rattle.tn_cores.specs.declared.faults.SessionFault.TheVariants as fault
 use Rattle.tn_session.specs.declared.parties.Report.{Report}
 use Rattle.tn_session.proofs.{Ending.{may_come, all_pieces, came_by_net, heard_of_reader, took_all, takes_entries, read_cause, write_cause}, Reach.never_begun}
 use Rattle.tn_session.proofs.{Makers.{all_fresh, some_are, no_first}, lemmas.Sessions.{server_said, server_reads, as_read}}

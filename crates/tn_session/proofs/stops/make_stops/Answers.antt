@@ -1,5 +1,5 @@
 use Rattle.crossbeam_channel.specs.Claims.{view}
-use Rattle.tn_queue.proofs.lemmas.Queue as channel
+use Rattle.tn_cores.proofs.lemmas.queue.Queue as channel
 use Rattle.tn_session.proofs.stops.make_stops.Goals as goal
 
 pub bounded_with-requires-clause-rule : goal.bounded_with-requires-clause-rule

@@ -1,6 +1,6 @@
 use Rattle.std.proofs.Common.{ap}
 use Rattle.crossbeam_channel.specs.Claims.{view}
-use Rattle.tn_queue.proofs.lemmas.Queue.{puts, leaves}
+use Rattle.tn_cores.proofs.lemmas.queue.Queue.{puts, leaves}
 use Rattle.tn_session.proofs.term.put_entry.Goals as goal
 
 pub send_as-requires-clause-rule : goal.send_as-requires-clause-rule

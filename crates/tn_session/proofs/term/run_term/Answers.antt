@@ -1,14 +1,12 @@
 use Rattle.std.proofs.Common.{false, not, ◌&&◌, ap, refl, sym, ◌∙◌, subst, [], ◌∷◌, ◌++◌, Option, List, arith, append-nil, length}
 use Rattle.crossbeam_channel.specs.Claims.{view}
-use Rattle.tn_queue.specs.Queue.{putter}
-use Rattle.tn_machines.specs.{declared.{messages.Message.Message, server.messages.ServerMark.ServerMark}, server.{Marks.Runs, Run.puts_of}}
-use Rattle.tn_machines.specs.declared.server.progress.ServerProgress.{ServerProgress}
-use Rattle.tn_workers.specs.{declared.mail.{Mail.Mail, Sender.TheVariants.Back}, Credits.pieces_among}
+use Rattle.tn_cores.specs.{queue.Queue.putter, declared.{messages.Message.Message, server.messages.ServerMark.ServerMark}, server.{Marks.Runs, Run.puts_of}}
+use Rattle.tn_cores.specs.{declared.server.progress.ServerProgress.ServerProgress, streams.Known.known_writer}
+use Rattle.tn_session.specs.{declared.workers.mail.{Mail.Mail, Sender.TheVariants.Back}, workers.Credits.pieces_among, Stops.{StandsTold, term_stops}}
+use Rattle.tn_session.specs.{Turns.messages_of, Notes.noted_of}
 use Rattle.tn_session.proofs.{Mailbox.handled_more, Credits.{among-push, counts_on, steps-push}, Finishing.{open_none, stands_next, stands_last}}
 use Rattle.tn_session.proofs.Going.{false_true, going_first, going_next, going_kept, lefts_of-push, left_small, notes_next, notes_kept, puts_two, term_told}
 use Rattle.tn_session.proofs.{Reach.{reach_start, reach_next}, Stopped.{left_next, stands_first}}
-use Rattle.tn_session.specs.{Stops.{StandsTold, term_stops}, Turns.messages_of, Notes.noted_of}
-use Rattle.tn_streams.specs.Known.{known_writer}
 use Rattle.tn_session.proofs.term.run_term.Goals as goal
 
 pub take-requires-clause-role : goal.take-requires-clause-role

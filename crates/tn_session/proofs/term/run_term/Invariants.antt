@@ -1,11 +1,10 @@
 use Rattle.std.proofs.Common.{◌≡◌, ◌≤◌, ◌+◌, List, [], Option, ◌++◌, length, map}
 use Rattle.crossbeam_channel.specs.{Claims.{view, IsSeatAt}, Ends.{sends_on, receives_on}}
 use Rattle.tn_discipline.specs.declared.reads.Entry.{Entry}
-use Rattle.tn_workers.specs.{Credits.{owed_one, pieces_among, steps_among}, Mailbox.with_handled, declared.mail.{Mail.Mail, Sender.TheVariants.Back}}
-use Rattle.tn_session.specs.{Notes.{NotesAll, noted_of}, Stops.{IsTold, StandsTold, has_left, term_stops}, Turns.{GoesOn, StaysInReach, lefts_of, messages_of}}
-use Rattle.tn_queue.specs.Queue.{putter}
-use Rattle.tn_streams.specs.Known.{known_writing}
-use Rattle.tn_machines.specs.server.{Marks.Runs, Reaching.LeadsTo, Run.Run}
+use Rattle.tn_session.specs.{workers.{Credits.{owed_one, pieces_among, steps_among}, Mailbox.with_handled}, declared.workers.mail.Mail.Mail}
+use Rattle.tn_session.specs.{declared.workers.mail.Sender.TheVariants.Back, Notes.{NotesAll, noted_of}, Stops.{IsTold, StandsTold, has_left, term_stops}}
+use Rattle.tn_session.specs.Turns.{GoesOn, StaysInReach, lefts_of, messages_of}
+use Rattle.tn_cores.specs.{queue.Queue.putter, streams.Known.known_writing, server.{Marks.Runs, Reaching.LeadsTo, Run.Run}}
 use Rattle.tn_session.proofs.Finishing.{StandsAt}
 use Rattle.tn_session.proofs.term.run_term.Given as goal
 

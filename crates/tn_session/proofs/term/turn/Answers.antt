@@ -1,6 +1,6 @@
 use Rattle.std.proofs.{Common.{◌++◌, sym, ◌∙◌}, lemmas.Option.IfSome_then}
 use Rattle.crossbeam_channel.specs.Claims.{view}
-use Rattle.tn_machines.specs.server.Run.{puts_of}
+use Rattle.tn_cores.specs.server.Run.{puts_of}
 use Rattle.tn_session.proofs.Going.{turned_on, turned_off, puts_two}
 use Rattle.tn_session.proofs.term.turn.Goals as goal
 

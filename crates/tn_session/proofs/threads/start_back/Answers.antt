@@ -1,6 +1,6 @@
 use Rattle.std.proofs.Common.{IfSome, Some, subst, sym}
 use Rattle.crossbeam_channel.specs.{Claims.{view, IsSeatAt}, Ends.sends_on}
-use Rattle.tn_workers.specs.{Acts.job_acts, Stepping.AreSteps, Stops.{StopsStay, has_stopped}, Turning.{Holds, queue_of}}
+use Rattle.tn_session.specs.workers.{Acts.job_acts, Stepping.AreSteps, Stops.{StopsStay, has_stopped}, Turning.{Holds, queue_of}}
 use Rattle.tn_session.proofs.threads.start_back.Goals as goal
 
 pub spawn_with-requires-clause-keeps : goal.spawn_with-requires-clause-keeps

@@ -1,7 +1,7 @@
 use Rattle.std.proofs.Common.{IfSome, subst, sym}
 use Rattle.crossbeam_channel.specs.{Claims.{view, IsSeatAt}, Ends.sends_on}
-use Rattle.tn_workers.specs.{Reader.TypingSends, Stops.{StopsStay, has_stopped}}
-use Rattle.tn_streams.specs.Known.{known_typing}
+use Rattle.tn_session.specs.workers.{Reader.TypingSends, Stops.{StopsStay, has_stopped}}
+use Rattle.tn_cores.specs.streams.Known.{known_typing}
 use Rattle.tn_session.proofs.threads.start_reader.Goals as goal
 
 pub spawn_with-requires-clause-keeps : goal.spawn_with-requires-clause-keeps

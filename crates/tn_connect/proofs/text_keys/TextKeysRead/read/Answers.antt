@@ -2,7 +2,7 @@ use Rattle.std.proofs.Common.{rules, ◌≡◌, refl, sym, ap, ℕ, Bool, true, 
 use Rattle.std.specs.Io.KnownBytes.{Consumes, IsAtEnd}
 use Rattle.tn_connect.proofs.Texts.{no_text}
 use Rattle.tn_connect.specs.Texts.{keys_of_text, with_text}
-use Rattle.tn_sockets.proofs.Plain.{at_end, keys_consumed}
+use Rattle.tn_net.proofs.Plain.{at_end, keys_consumed}
 use Rattle.tn_connect.proofs.text_keys.TextKeysRead.read.Goals as goal
 
 pub returns-then-came-eq0-clause-bytes : goal.returns-then-came-eq0-clause-bytes

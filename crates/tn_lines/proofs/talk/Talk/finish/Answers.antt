@@ -1,6 +1,6 @@
 use Rattle.std.proofs.Common.{refl}
 use Rattle.tn_lines.proofs.Going.{kept_more}
-use Rattle.tn_streams.proofs.lemmas.Writing.{keeps_same}
+use Rattle.tn_cores.proofs.lemmas.streams.Writing.{keeps_same}
 use Rattle.tn_lines.proofs.talk.Talk.finish.Goals as goal
 
 pub returns-then-is_to_finish-clause-goes_on : goal.returns-then-is_to_finish-clause-goes_on

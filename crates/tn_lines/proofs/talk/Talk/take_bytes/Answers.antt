@@ -1,6 +1,6 @@
 use Rattle.std.proofs.Common.{refl}
 use Rattle.tn_lines.proofs.{Going.{kept_more, bytes_more}, Writing.reads_zero}
-use Rattle.tn_streams.proofs.lemmas.Writing.{keeps_same}
+use Rattle.tn_cores.proofs.lemmas.streams.Writing.{keeps_same}
 use Rattle.tn_lines.proofs.talk.Talk.take_bytes.Goals as goal
 
 pub returns-in-Ok-eq0-clause-goes_on : goal.returns-in-Ok-eq0-clause-goes_on

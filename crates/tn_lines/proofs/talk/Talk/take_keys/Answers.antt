@@ -1,6 +1,6 @@
 use Rattle.std.proofs.{Common.{refl, arith, ◌≤◌, length}, lemmas.Result.on_ok_weaker}
 use Rattle.tn_lines.proofs.{Going.{kept_more, keys_more}, Writing.reads_zero}
-use Rattle.tn_streams.proofs.lemmas.Writing.{keeps_same}
+use Rattle.tn_cores.proofs.lemmas.streams.Writing.{keeps_same}
 use Rattle.tn_lines.proofs.talk.Talk.take_keys.Goals as goal
 
 pub returns-in-Ok-eq0 : goal.returns-in-Ok-eq0

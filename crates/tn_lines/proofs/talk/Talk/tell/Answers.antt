@@ -1,6 +1,6 @@
 use Rattle.std.proofs.Common.{refl}
 use Rattle.tn_lines.proofs.{Going.{kept_more, told_more}, Writing.appends_zero}
-use Rattle.tn_streams.proofs.lemmas.Writing.{keeps_same}
+use Rattle.tn_cores.proofs.lemmas.streams.Writing.{keeps_same}
 use Rattle.tn_lines.proofs.talk.Talk.tell.Goals as goal
 
 pub returns-in-Ok-eq0-clause-goes_on : goal.returns-in-Ok-eq0-clause-goes_on

@@ -1,5 +1,5 @@
 use Rattle.std.proofs.Common.{vec_items}
-use Rattle.tn_network.specs.Asked.{AcceptsAll, AcceptsAtOne}
+use Rattle.tn_net.specs.network.Asked.{AcceptsAll, AcceptsAtOne}
 use Rattle.tn_serve.proofs.acceptor.Acceptor.accept_all.Given as goal
 
 abbrev pub invariant-loop-number : goal.invariant-loop-number

@@ -1,5 +1,5 @@
 use Rattle.std.proofs.Common.{ap, inr, subst, sym, vec_items, ◌∙◌}
-use Rattle.tn_roster.specs.Held.{Held}
+use Rattle.tn_session.specs.roster.Held.{Held}
 use Rattle.tn_serve.proofs.{Hearing.none_counted, Holding.{entered, no_place}}
 use Rattle.tn_serve.specs.{Counted.{HasEnded, facts_of, server_of}, Places.AreHeld}
 use Rattle.tn_serve.proofs.serving.Open.admit.Goals as goal

@@ -1,5 +1,5 @@
 use Rattle.std.proofs.{Common.{ℕ, subst, sym, vec_items}, lemmas.Result.IfOk-weaker}
-use Rattle.tn_network.specs.Asked.{Accepts, AcceptsAll, AcceptsAtOne}
+use Rattle.tn_net.specs.network.Asked.{Accepts, AcceptsAll, AcceptsAtOne}
 use Rattle.tn_serve.proofs.Ending.{served_until}
 use Rattle.tn_serve.specs.{Counted.{CountsSessions, HasEnded, facts_of, server_of}, Turns.HearsAll, declared.served.Served.Served}
 use Rattle.tn_serve.proofs.serving.Open.serve_listeners.Goals as goal

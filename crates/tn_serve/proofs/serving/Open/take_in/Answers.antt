@@ -1,5 +1,5 @@
 use Rattle.std.proofs.Common.{arith, ap, inl, inr, length, ◌+◌, subst, sym, vec_items, [], ◌∷◌, ◌++◌, ◌∙◌}
-use Rattle.tn_roster.specs.Held.{Held}
+use Rattle.tn_session.specs.roster.Held.{Held}
 use Rattle.tn_serve.proofs.{Counting.none_more, Hearing.{not_asked, one_counted, one_started}, Holding.{apart, runs}}
 use Rattle.tn_serve.specs.{Counted.{HasEnded, facts_of, server_of}, Places.AreHeldBeside, Turns.{HearsOfNone, IsOneMore, live_of, with_one}}
 use Rattle.tn_serve.proofs.serving.Open.take_in.Goals as goal

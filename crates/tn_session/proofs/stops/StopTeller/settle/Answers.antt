@@ -1,8 +1,8 @@
 use Rattle.std.proofs.Common.{◌≡◌, true, subst}
 use Rattle.crossbeam_channel.specs.Claims.{view}
-use Rattle.tn_queue.proofs.lemmas.Queue as channel
+use Rattle.tn_cores.proofs.lemmas.queue.Queue as channel
 use Rattle.tn_session.proofs.Stopped.{told_first, same_words}
-use Rattle.tn_workers.specs.Stops.{has_stopped}
+use Rattle.tn_session.specs.workers.Stops.{has_stopped}
 use Rattle.tn_session.proofs.stops.StopTeller.settle.Goals as goal
 
 pub absorb-requires-clause-rule : goal.absorb-requires-clause-rule

@@ -1,6 +1,6 @@
 use Rattle.std.proofs.Common.{[], ap}
 use Rattle.crossbeam_channel.specs.Claims.{view}
-use Rattle.tn_queue.proofs.lemmas.Queue as channel
+use Rattle.tn_cores.proofs.lemmas.queue.Queue as channel
 use Rattle.tn_session.proofs.Stopped.{not_told, told_now}
 use Rattle.tn_session.proofs.stops.StopTeller.tell.Goals as goal
 

@@ -1,8 +1,8 @@
 use Rattle.std.proofs.Common.{subst}
 use Rattle.crossbeam_channel.specs.Claims.{view}
 use Rattle.tn_session.proofs.Stopped.{unseated}
-use Rattle.tn_workers.specs.{Reader.TypingSends, Stops.StopsStay}
-use Rattle.tn_streams.specs.Known.{known_typing}
+use Rattle.tn_session.specs.workers.{Reader.TypingSends, Stops.StopsStay}
+use Rattle.tn_cores.specs.streams.Known.{known_typing}
 use Rattle.tn_session.proofs.threads.Started.join.Goals as goal
 
 pub returns-clause-net : goal.returns-clause-net

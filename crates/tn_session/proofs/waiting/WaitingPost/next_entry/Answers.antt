@@ -1,6 +1,6 @@
 use Rattle.std.proofs.Common.{ap}
 use Rattle.crossbeam_channel.specs.Claims.{view}
-use Rattle.tn_queue.proofs.lemmas.Queue.{takes, leaves}
+use Rattle.tn_cores.proofs.lemmas.queue.Queue.{takes, leaves}
 use Rattle.tn_session.proofs.waiting.WaitingPost.next_entry.Goals as goal
 
 pub recv_as-requires-clause-rule : goal.recv_as-requires-clause-rule

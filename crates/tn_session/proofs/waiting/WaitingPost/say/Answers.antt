@@ -1,5 +1,5 @@
 use Rattle.crossbeam_channel.specs.Claims.{view}
-use Rattle.tn_workers.specs.Mailbox.{mail as mail_of}
+use Rattle.tn_session.specs.workers.Mailbox.{mail as mail_of}
 use Rattle.tn_session.proofs.Mailbox.{sends, sender_share}
 use Rattle.tn_session.proofs.waiting.WaitingPost.say.Goals as goal
 

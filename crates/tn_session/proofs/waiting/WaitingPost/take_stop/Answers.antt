@@ -1,6 +1,6 @@
 use Rattle.std.proofs.Common.{ap}
 use Rattle.crossbeam_channel.specs.Claims.{view}
-use Rattle.tn_queue.proofs.lemmas.Queue as channel
+use Rattle.tn_cores.proofs.lemmas.queue.Queue as channel
 use Rattle.tn_session.proofs.waiting.WaitingPost.take_stop.Goals as goal
 
 pub try_recv_as-requires-clause-rule : goal.try_recv_as-requires-clause-rule

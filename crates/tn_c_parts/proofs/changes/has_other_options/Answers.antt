@@ -1,6 +1,0 @@
-use Rattle.std.proofs.Common.{refl}
-use Rattle.tn_c_parts.proofs.Changing.{differs}
-use Rattle.tn_c_parts.proofs.changes.has_other_options.Goals as goal
-
-pub returns : goal.returns
-returns c = differs c.args.new.now.options c.args.old.now.options _ c.ne.result refl c.ne.ensures

@@ -1,5 +1,0 @@
-use Rattle.tn_c_parts.proofs.FindingRoom.{some_fit}
-use Rattle.tn_c_parts.proofs.laws.some_find_room.Goals as goal
-
-pub returns : goal.returns
-returns c = some_fit c.pieces_find_room.ensures.room

@@ -1,5 +1,0 @@
-use Rattle.std.proofs.Common.{rules, refl}
-use Rattle.tn_c_parts.proofs.line.HeldLine.start.Goals as goal
-
-pub returns : goal.returns
-returns c = record { line = c.in_ok-new.ensures; settings = search rules; entry = refl; echo = refl }

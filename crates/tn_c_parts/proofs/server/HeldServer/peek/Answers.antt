@@ -1,5 +1,0 @@
-use Rattle.std.proofs.Common.{◌∙◌}
-use Rattle.tn_c_parts.proofs.server.HeldServer.peek.Goals as goal
-
-pub returns : goal.returns
-returns c = record { place = c.as_ptr.ensures; counts = c.len.ensures ∙ c.args.self.now.pending.ok.0 }

@@ -1,8 +1,0 @@
-use Rattle.tn_nvt.specs.declared.items.Item.TheVariants.{Byte}
-use Rattle.tn_c_parts.proofs.Refusing.{spelled}
-use Rattle.tn_c_parts.proofs.spelling.spell_byte.Goals as goal
-
-pub returns-in-Ok : goal.returns-in-Ok
-returns-in-Ok c =
-    spelled (Byte c.args.byte) c.new-out.result.items c.put_byte.new.out.items c.as_slice.result.now _ c.new-out.ensures.items c.in-Ok.ensures.ok
-    c.as_slice.ensures.value c.give.ensures

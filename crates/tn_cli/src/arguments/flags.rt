@@ -1,0 +1,14 @@
+//! Which options take no value.
+
+use crate::arguments::choices::{CONNECT_CHOICES, Choice};
+
+/// Whether an option of `tn connect` that has this name takes no value.
+pub fn is_connect_flag(name: &str) -> bool {
+    for choice in CONNECT_CHOICES {
+        match choice {
+            Choice::Flag(flag, _) | Choice::Letter(flag, _, _) if *flag == name => return true,
+            _ => {},
+        }
+    }
+    name == "help"
+}

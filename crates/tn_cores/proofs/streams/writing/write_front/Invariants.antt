@@ -1,0 +1,12 @@
+use Rattle.std.proofs.Common.{◌≡◌, ◌≤◌, length, take, []}
+use Rattle.std.specs.Io.KnownBytes.{Appends}
+use Rattle.tn_cores.specs.streams.{Sending.StaysOpen, Telling.HasMade}
+use Rattle.tn_cores.proofs.streams.writing.write_front.Given as goal
+
+abbrev pub invariant-loop-write : goal.invariant-loop-write
+invariant-loop-write g l =
+    let contents = g.W.Drain.contents in
+    (l.at ≤ length l.bytes) × Appends (contents l.fn.writer) (contents l.writer) (take l.at l.bytes)
+    × HasMade l._write (g.W.Drain.told l.fn.writer) (g.W.Drain.told l.writer)
+    × StaysOpen (g.W.Drain.sending l.fn.writer) (g.W.Drain.sending l.writer)
+    × (l.bytes ≡ [] → g.W.Drain.sending l.writer ≡ g.W.Drain.sending l.fn.writer)

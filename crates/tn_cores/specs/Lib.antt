@@ -1,0 +1,7 @@
+pub mod Counting
+pub mod Pieces
+pub mod Ending
+pub mod server
+pub mod client
+pub mod queue
+pub mod streams

@@ -1,0 +1,171 @@
+//! Readers and writers that may tell how many of their calls failed, or will fail.
+//!
+//! ```
+//! let answer = reader.read_some(&mut buf); // of any reader of the standard library
+//! let tally = Tally::new().after_read(&answer);
+//! tally.failed(); // 1 where the call failed, and no signal interrupted it
+//! ```
+//!
+//! ```text
+//! Read ----> Source ----> the threads of a session that read
+//! Write ---> Drain -----> the threads of a session that write
+//!               |
+//!               +-------> in contracts: what they gave or hold, and how many calls failed or will
+//! ```
+//!
+//! Every reader and writer of the standard library is one that tells nothing. It opens nothing, holds nothing
+//! back, and calls nothing again: `is_interrupted` says when to.
+
+ghost use Rattle.std.specs.Prelude.{◌≡◌, ◌≢◌, ℕ, List, [], None, Some, Option, true, IsTrue, false, IsFalse};
+ghost use Rattle.std.specs.{IoError.error_kind, Io.{ReadsAtMost, WritesAtMost}};
+ghost use Rattle.std.specs.Io.KnownBytes.{ReadConsumes, WriteAppends, Keeps};
+ghost use Rattle.tn_cores.specs.streams.Foretelling.{Failures, ForetellsCall};
+ghost use Rattle.tn_cores.specs.streams.Sending.{Sending, written_on, finished_on};
+ghost use Rattle.tn_cores.specs.streams.Beside.{IsOneOf, TellsNext, no_words};
+ghost use Rattle.tn_cores.specs.declared.streams.control.Control.{Control as ControlT};
+ghost use Rattle.tn_cores.specs.declared.streams.window.WindowSize.{WindowSize as WindowSizeT};
+ghost use Rattle.tn_cores.specs.streams.Telling.{Calls, TellsCall, CountsRead, CountsWrite};
+
+pub use control::Control;
+use std::io::{Error, ErrorKind, Read, Result, Write};
+pub use tally::Tally;
+pub use window::WindowSize;
+pub use writing::{write_all, write_front};
+
+mod control;
+mod tally;
+mod window;
+mod writing;
+
+/// A reader that may tell how many of its calls failed, and foretell how many will: one that is given away
+/// can't be asked afterwards. Where its bytes are typed in a window, it tells the window's size too, and the
+/// control functions that its user asks for between them. Whoever reads it may say its last words for it.
+pub trait Source {
+    // The bytes that reads will give from here on, where they are known.
+    ghost remaining: { Self → Option (List ℕ) } = { λ _. None };
+
+    // What it tells of its calls.
+    ghost told: { Self → Option Calls } = { λ _. None };
+
+    // What it foretells of the calls from here on.
+    ghost foretold: { Self → Option Failures } = { λ _. None };
+
+    // The sizes that it will tell from here on, where they are known. Most readers have no window.
+    ghost sizes: { Self → Option (List WindowSizeT) } = { λ _. Some [] };
+
+    // The control functions that it will tell from here on, where they are known. Most readers have no user.
+    ghost controls: { Self → Option (List ControlT) } = { λ _. Some [] };
+
+    // What its last words may be, of which each is known beforehand. Most readers have none.
+    ghost words: { Self → List (List ℕ) } = { λ _. no_words };
+
+    /// The size of the window, if it is another than the one that was told last.
+    fn resized(&mut self) -> Option<WindowSize>
+        ensures tells { TellsNext (sizes self.old) result (sizes self.new) }
+        ensures bytes { remaining self.new ≡ remaining self.old }
+        ensures told { told self.new ≡ told self.old }
+        ensures foretold { foretold self.new ≡ foretold self.old }
+        ensures controls { controls self.new ≡ controls self.old }
+        ensures words { words self.new ≡ words self.old }
+    {
+        None
+    }
+
+    /// The control function that is asked for right behind the bytes that were given, if there is one that
+    /// was not told.
+    fn control(&mut self) -> Option<Control>
+        ensures tells { TellsNext (controls self.old) result (controls self.new) }
+        ensures bytes { remaining self.new ≡ remaining self.old }
+        ensures told { told self.new ≡ told self.old }
+        ensures foretold { foretold self.new ≡ foretold self.old }
+        ensures sizes { sizes self.new ≡ sizes self.old }
+        ensures words { words self.new ≡ words self.old }
+    {
+        None
+    }
+
+    /// What is to be said to its peer once it has come to its end: a line, or nothing.
+    fn last_words(&self) -> &'static [u8]
+        ensures one { IsOneOf (words self.now) result.now };
+
+    /// Reads some bytes, none only at the end or where there is no room.
+    fn read_some(&mut self, buf: &mut [u8]) -> Result<usize>
+        ensures bound { ReadsAtMost result buf.new }
+        ensures bytes { ReadConsumes (remaining self.old) (remaining self.new) result buf.new }
+        ensures tells { TellsCall (CountsRead result) (told self.old) (told self.new) }
+        ensures foretells { ForetellsCall result (foretold self.old) (foretold self.new) }
+        ensures sizes { sizes self.new ≡ sizes self.old }
+        ensures controls { controls self.new ≡ controls self.old }
+        ensures words { words self.new ≡ words self.old };
+}
+
+/// A writer that may tell how many of its calls failed.
+pub trait Drain {
+    // The bytes that the writer holds, where they are known.
+    ghost contents: { Self → Option (List ℕ) } = { λ _. None };
+
+    // What it tells of its calls.
+    ghost told: { Self → Option Calls } = { λ _. None };
+
+    // Whether more may come, where that is told.
+    ghost sending: { Self → Option Sending } = { λ _. None };
+
+    /// Writes the first of the bytes.
+    fn write_some(&mut self, buf: &[u8]) -> Result<usize>
+        ensures bound { WritesAtMost result buf.now }
+        ensures bytes { WriteAppends (contents self.old) (contents self.new) result buf.now }
+        ensures tells { TellsCall (CountsWrite buf.now result) (told self.old) (told self.new) }
+        ensures goes { sending self.new ≡ written_on (sending self.old) };
+}
+
+/// A writer that is told when no more comes from this end. Nothing is said of what that does, but that no
+/// call of the writer is counted for it, and that a write after it may be told from one before.
+pub trait Finish: Drain {
+    fn finish(&mut self)
+        ensures contents { Keeps (Self.contents self.old) (Self.contents self.new) }
+        ensures told { Self.told self.new ≡ Self.told self.old }
+        ensures finishes { Self.sending self.new ≡ finished_on (Self.sending self.old) };
+}
+
+/// A list of what was written, which keeps it.
+impl Finish for Vec<u8> {
+    fn finish(&mut self) {}
+}
+
+impl<R: Read> Source for R {
+    ghost remaining = { R.Read.remaining };
+
+    fn last_words(&self) -> &'static [u8] {
+        nothing_to_say()
+    }
+
+    fn read_some(&mut self, buf: &mut [u8]) -> Result<usize> {
+        self.read(buf)
+    }
+}
+
+impl<W: Write> Drain for W {
+    ghost contents = { W.Write.contents };
+
+    fn write_some(&mut self, buf: &[u8]) -> Result<usize> {
+        self.write(buf)
+    }
+}
+
+/// What a reader says that has no last words.
+pub fn nothing_to_say() -> &'static [u8]
+    ensures { IsOneOf no_words result.now }
+{
+    b""
+}
+
+/// Whether a signal interrupted the call, so that it is to be made again.
+pub fn is_interrupted(error: &Error) -> bool
+    ensures again { IsTrue result → error_kind error.now ≡ ErrorKind.Interrupted }
+    ensures failed { IsFalse result → error_kind error.now ≢ ErrorKind.Interrupted }
+{
+    match error.kind() {
+        ErrorKind::Interrupted => true,
+        _ => false,
+    }
+}

@@ -1,4 +1,0 @@
-pub mod Alone
-pub mod Cutting
-pub mod Joining
-pub mod lemmas

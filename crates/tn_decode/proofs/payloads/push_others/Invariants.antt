@@ -1,7 +1,0 @@
-use Rattle.std.proofs.Common.{◌≡◌, ◌++◌, take, flat_map}
-use Rattle.std.specs.Prelude.{codes}
-use Rattle.tn_decode.specs.Texts.{triple_text}
-use Rattle.tn_decode.proofs.payloads.push_others.Given as goal
-
-abbrev pub invariant-loop-triple : goal.invariant-loop-triple
-invariant-loop-triple l = l.out.items ≡ l.initial.out.items ++ flat_map (λ other. codes ", " ++ triple_text other) (take l.triple-index l.triples)

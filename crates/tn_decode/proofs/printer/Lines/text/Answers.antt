@@ -1,4 +1,0 @@
-use Rattle.tn_decode.proofs.printer.Lines.text.Goals as goal
-
-pub returns : goal.returns
-returns c = rw (← c.self.view_is) c.as_slice.ensures.value

@@ -1,5 +1,0 @@
-//! The two programs at once: a server's connection, and a client's.
-//! It has no handle, and holds no code: what it says is said of what the programs' contracts tell.
-#![tactic(auto)]
-
-pub mod laws;

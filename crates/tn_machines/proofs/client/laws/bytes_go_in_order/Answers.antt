@@ -1,5 +1,0 @@
-use Rattle.tn_machines.proofs.lemmas.client.Bringing.{in_order}
-use Rattle.tn_machines.proofs.client.laws.bytes_go_in_order.Goals as goal
-
-pub returns : goal.returns
-returns c = in_order

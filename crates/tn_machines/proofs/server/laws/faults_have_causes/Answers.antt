@@ -1,5 +1,0 @@
-use Rattle.tn_machines.proofs.of_terminal.Ending.{fault_cause}
-use Rattle.tn_machines.proofs.server.laws.faults_have_causes.Goals as goal
-
-pub returns : goal.returns
-returns c = λ opens canon editing jobs marked new fault. fault_cause opens canon editing jobs marked new fault

@@ -1,5 +1,0 @@
-use Rattle.tn_machines.proofs.lemmas.server.Hearing.{hears}
-use Rattle.tn_machines.proofs.server.laws.pieces_are_heard.Goals as goal
-
-pub returns : goal.returns
-returns c = hears

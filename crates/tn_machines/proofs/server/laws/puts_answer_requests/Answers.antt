@@ -1,5 +1,0 @@
-use Rattle.tn_machines.proofs.of_terminal.Requesting.{puts_answer}
-use Rattle.tn_machines.proofs.server.laws.puts_answer_requests.Goals as goal
-
-pub returns : goal.returns
-returns c = puts_answer

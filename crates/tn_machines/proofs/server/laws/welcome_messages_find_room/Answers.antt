@@ -1,5 +1,0 @@
-use Rattle.tn_machines.proofs.lemmas.server.Welcoming.{stays_in_reach}
-use Rattle.tn_machines.proofs.server.laws.welcome_messages_find_room.Goals as goal
-
-pub returns : goal.returns
-returns c = stays_in_reach

@@ -1,5 +1,0 @@
-pub mod Counting
-pub mod Pieces
-pub mod Ending
-pub mod server
-pub mod client

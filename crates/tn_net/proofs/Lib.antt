@@ -1,0 +1,13 @@
+pub mod Queued
+pub mod Writing
+pub mod Passing
+pub mod lemmas
+pub mod Digits
+pub mod Giving
+pub mod LastWords
+pub mod Sorting
+pub mod Meaning
+pub mod Hearing
+pub mod Plain
+pub mod of_printing
+pub mod of_network

@@ -1,0 +1,15 @@
+pub mod Queue
+pub mod Screens
+pub mod Passing
+pub mod LastWords
+pub mod Logs
+pub mod Ends
+pub mod Sizes
+pub mod Mapping
+pub mod Prompting
+pub mod Typing
+pub mod PlainKeys
+pub mod Kept
+pub mod Presence
+pub mod printing
+pub mod network

@@ -1,5 +1,0 @@
-use Rattle.tn_progress.proofs.laws.a_client_comes_to_rest.Goals as goal
-use Rattle.tn_progress.proofs.ClientMeasure.{comes_to_rest}
-
-pub returns : goal.returns
-returns c = comes_to_rest

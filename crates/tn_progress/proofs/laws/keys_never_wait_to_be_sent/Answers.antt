@@ -1,5 +1,0 @@
-use Rattle.tn_progress.proofs.laws.keys_never_wait_to_be_sent.Goals as goal
-use Rattle.tn_progress.proofs.ClientQueue.{never_waits_to_send}
-
-pub returns : goal.returns
-returns c = never_waits_to_send

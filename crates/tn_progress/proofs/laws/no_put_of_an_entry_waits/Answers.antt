@@ -1,5 +1,0 @@
-use Rattle.tn_progress.proofs.laws.no_put_of_an_entry_waits.Goals as goal
-use Rattle.tn_progress.proofs.Progress.{puts_never_wait}
-
-pub returns : goal.returns
-returns c = puts_never_wait

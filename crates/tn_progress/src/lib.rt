@@ -1,4 +1,0 @@
-//! That a session does not get stuck: its threads and channels as a system of steps, and laws of it.
-#![tactic(auto)]
-
-pub mod laws;

@@ -1,0 +1,7 @@
+use Rattle.std.specs.Io.KnownBytes.{Keeps}
+use Rattle.tn_serve.proofs.services.dialing.hear.Given as goal
+
+abbrev pub invariant-loop : goal.invariant-loop
+invariant-loop g l =
+    (goal.iterator-loop g).can_next l.iterator' × (goal.iterator-loop g).is_finite l.iterator'
+    × Keeps (g.S.Read.remaining l.fn.stream) (g.S.Read.remaining l.stream)

@@ -1,5 +1,0 @@
-use Rattle.std.proofs.Common.{refl}
-use Rattle.tn_services.proofs.answerers.Answerers.new.Goals as goal
-
-pub returns-clause-ticks : goal.returns-clause-ticks
-returns-clause-ticks c = refl

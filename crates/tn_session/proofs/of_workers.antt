@@ -1,0 +1,5 @@
+pub mod Counting
+pub mod Reading
+pub mod Stopping
+pub mod Talk
+pub mod Telling

@@ -1,0 +1,7 @@
+-- What a pass of the channel of entries knows; `None` is the end of the entries.
+use Rattle.std.specs.Prelude.{Option}
+use Rattle.tn_discipline.specs.declared.reads.Entry.{Entry}
+use Rattle.tn_cores.specs.declared.queue.Hand.{Hand}
+
+abbrev pub EntryHand : Type 0
+EntryHand = Hand (Option Entry)

@@ -1,5 +1,0 @@
-use Rattle.tn_sockets.proofs.LastWords.{one_of}
-use Rattle.tn_sockets.proofs.attended.AttendedSource.last_words.Goals as goal
-
-pub returns-clause-one : goal.returns-clause-one
-returns-clause-one g c = one_of c.args.self.now.why _ c.words_of.ensures

@@ -1,5 +1,0 @@
-use Rattle.std.proofs.Common.{inl, refl}
-use Rattle.tn_streams.proofs.nothing_to_say.Goals as goal
-
-pub returns : goal.returns
-returns c = inl refl

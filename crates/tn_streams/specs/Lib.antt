@@ -1,9 +1,0 @@
-pub mod Telling
-pub mod Counting
-pub mod Foretelling
-pub mod Prefixes
-pub mod Known
-pub mod Beside
-pub mod Sending
-pub mod Seats
-pub mod Writing

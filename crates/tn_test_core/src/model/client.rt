@@ -1,0 +1,368 @@
+//! A client end, from all that came, all keys and all sizes.
+
+use crate::models::canonical::{half, role_of};
+use crate::models::characters::{Table, asked, told};
+use crate::models::options::{Options, meaning};
+use crate::models::streams::{Stream, say_byte, say_sub};
+use std::alloc::Global;
+use tn_codes::Verb;
+use tn_discipline::{Flags, Role, Settings, Sig};
+use tn_nvt::Item;
+
+#[derive(Drop)]
+pub(crate) struct Client {
+    alloc: Global,
+    stream: Stream,
+    options: Options,
+    pub(crate) table: Table,
+    pub(crate) mode: u8,
+    size: (u16, u16),
+    mask: Vec<u8>,
+    roles: Vec<Role>,
+    /// The keys of the half line that the server edits, were its ISIG set.
+    trapping: Vec<Role>,
+    /// The same, were it clear.
+    plain: Vec<Role>,
+    lengths: Vec<usize>,
+    pub(crate) sent: Vec<u8>,
+    pub(crate) shown: Vec<u8>,
+}
+
+impl Client {
+    pub(crate) fn new(alloc: Global, size: (u16, u16)) -> Client {
+        Client {
+            alloc,
+            stream: Stream::new(alloc),
+            options: Options::new([false, true, true, true], [true, true, false, false]),
+            table: Table::standard(),
+            mode: 0,
+            size,
+            mask: Vec::new(alloc),
+            roles: Vec::new(alloc),
+            trapping: Vec::new(alloc),
+            plain: Vec::new(alloc),
+            lengths: Vec::new(alloc),
+            sent: Vec::new(alloc),
+            shown: Vec::new(alloc),
+        }
+    }
+
+    pub(crate) fn feed(&mut self, piece: &[u8]) {
+        let (items, before) = self.stream.feed(piece);
+        for item in items.iter().skip(before) {
+            self.got(item);
+        }
+    }
+
+    fn got(&mut self, item: &Item) {
+        match item {
+            Item::Byte(byte) => self.show(&[*byte]),
+            Item::Newline => self.show(b"\r\n"),
+            Item::Neg(verb, option) => self.heard(*verb, *option),
+            Item::Sub(34, params) if self.options.is_on(true, 34) => self.told_by(
+                params.as_slice(),
+            ),
+            Item::Sub(..) | Item::Cmd(_) => {},
+        }
+    }
+
+    fn show(&mut self, bytes: &[u8]) {
+        let _refused = self.shown.extend_from_slice(bytes);
+    }
+
+    fn edits(&self) -> bool {
+        self.mode & 1 != 0
+    }
+
+    fn heard(&mut self, verb: Verb, option: u8) {
+        let (ours, on) = meaning(verb);
+        let had_size = self.options.is_on(true, 31);
+        if ours && option == 34 && !on {
+            self.leave(0);
+            self.mask.clear();
+        }
+        self.options.hear(ours, on, option, &mut self.sent);
+        if !had_size && self.options.is_on(true, 31) {
+            self.say_size();
+        }
+    }
+
+    // The mode becomes this one. Where EDIT ends, what is held is sent; where it begins, the half line
+    // goes on from the keys that the server edited, all of which were sent.
+    fn leave(&mut self, mode: u8) {
+        match (self.edits(), mode & 1 == 1) {
+            (true, false) => self.end_editing(),
+            (false, true) => self.begin_editing(mode & 2 != 0),
+            _ => {},
+        }
+        self.mode = mode;
+    }
+
+    fn end_editing(&mut self) {
+        self.send_line(&[]);
+        self.trapping = self.copied(&self.roles);
+        self.plain = self.copied(&self.roles);
+        self.roles.clear();
+        self.lengths.clear();
+    }
+
+    fn begin_editing(&mut self, is_trapping: bool) {
+        self.roles = if is_trapping {
+            self.copied(&self.trapping)
+        } else {
+            self.copied(&self.plain)
+        };
+        self.count_half();
+    }
+
+    // The half line has had its length.
+    fn count_half(&mut self) {
+        let length = self.half().len();
+        let _refused = self.lengths.push(length);
+    }
+
+    fn copied(&self, roles: &[Role]) -> Vec<Role> {
+        roles.to_vec(self.alloc).unwrap_or(Vec::new(self.alloc))
+    }
+
+    /// How long the half line is that the server edits, were its ISIG set, and were it clear.
+    pub(crate) fn counts(&self) -> (usize, usize) {
+        if self.edits() {
+            return (0, 0);
+        }
+        (
+            half(self.alloc, 254, &self.trapping).len(),
+            half(self.alloc, 254, &self.plain).len(),
+        )
+    }
+
+    fn say_size(&mut self) {
+        let (width, height) = self.size;
+        let [wide, narrow] = width.to_be_bytes();
+        let [high, low] = height.to_be_bytes();
+        say_sub(31, &[wide, narrow, high, low], &mut self.sent);
+    }
+
+    pub(crate) fn resize(&mut self, width: u16, height: u16) {
+        let is_new = self.size != (width, height);
+        self.size = (width, height);
+        if is_new && self.options.is_on(true, 31) {
+            self.say_size();
+        }
+    }
+}
+
+// What LINEMODE says (RFC 1184).
+impl Client {
+    fn told_by(&mut self, params: &[u8]) {
+        match params {
+            [1, mask] => self.mode_came(*mask),
+            [253, 2, octets @ ..] if octets.len() <= 32 => self.masked(octets, 251),
+            [254, 2] => self.masked(&[], 252),
+            [3, list @ ..] if list.len() % 3 == 0 => self.listed(list),
+            _ => {},
+        }
+    }
+
+    fn mode_came(&mut self, mask: u8) {
+        if mask & 4 == 0 && mask & 3 != self.mode {
+            self.leave(mask & 3);
+            say_sub(34, &[1, mask & 3 | 4], &mut self.sent);
+        }
+    }
+
+    // A forward mask, or none any more, and the verb of the answer.
+    fn masked(&mut self, octets: &[u8], verb: u8) {
+        self.mask.clear();
+        let _refused = self.mask.extend_from_slice(octets);
+        say_sub(34, &[verb, 2], &mut self.sent);
+    }
+
+    fn listed(&mut self, list: &[u8]) {
+        let mut answers = Vec::new(self.alloc);
+        let _refused = answers.push(3);
+        for triple in list.chunks(3) {
+            self.answer(triple, &mut answers);
+        }
+        if answers.len() > 1 {
+            say_sub(34, &answers, &mut self.sent);
+        }
+    }
+
+    // An acknowledgement is not answered.
+    fn answer(&mut self, triple: &[u8], answers: &mut Vec<u8>) {
+        let [func, modifier, value] = triple else {
+            return;
+        };
+        let answer = self.offered(*func, *modifier & 3, *value);
+        if let Some(answer) = answer
+            && *modifier & 128 == 0
+        {
+            let _refused = answers.extend_from_slice(&answer);
+        }
+    }
+
+    // A triple, and the answer to it where it is no acknowledgement.
+    fn offered(&mut self, func: u8, level: u8, value: u8) -> Option<[u8; 3]> {
+        let Some(present) = self.table.get(func) else {
+            return (func != 0 && level != 0).then_some([func, 0, 0]);
+        };
+        let plain = asked(func, level, value);
+        if plain == Some(10) || plain == Some(13) {
+            return None;
+        }
+        self.table.put_alone(func, plain);
+        let [func, modifier, value] = told(func, plain);
+        (plain != present).then_some([func, modifier | 128, value])
+    }
+}
+
+// The keys (POSIX.1-2017, XBD 11; RFC 1184, section 2).
+impl Client {
+    // The server's terminal as the client knows it.
+    fn flags(&self) -> Flags {
+        let mut flags = Settings::standard().flags;
+        flags.isig = self.mode & 2 != 0;
+        flags
+    }
+
+    // Keeps a key that the server edits.
+    fn keep(&mut self, key: u8) {
+        let mut flags = Settings::standard().flags;
+        let trapping = role_of(&flags, &self.table, key);
+        flags.isig = false;
+        let plain = role_of(&flags, &self.table, key);
+        let _refused = self.trapping.push(trapping);
+        let _refused = self.plain.push(plain);
+    }
+
+    pub(crate) fn key(&mut self, key: u8) {
+        let role = role_of(&self.flags(), &self.table, key);
+        if self.edits() {
+            self.edit(role);
+        } else {
+            self.pass(role, key);
+            self.keep(key);
+        }
+    }
+
+    fn edit(&mut self, role: Role) {
+        let forwards = self.forwards(role);
+        self.send_edited(role);
+        self.echo(role);
+        let _refused = self.roles.push(role);
+        if forwards {
+            self.send_line(&[]);
+            self.lengths.clear();
+        }
+        self.count_half();
+    }
+
+    // An ordinary byte of the forward mask, for which the line has room.
+    fn forwards(&self, role: Role) -> bool {
+        let Role::Ordinary(byte) = role else {
+            return false;
+        };
+        let octet = self.mask.get(usize::from(byte / 8)).copied().unwrap_or(0);
+        octet & (128 >> (byte % 8)) != 0 && self.half().len() < 254
+    }
+
+    /// How much of the half line was sent: the least length that it has had since editing began, or since a
+    /// byte sent all of it.
+    pub(crate) fn ahead(&self) -> usize {
+        self.lengths.iter().copied().min().unwrap_or(0)
+    }
+
+    /// What is held: the rest of the half line.
+    pub(crate) fn held(&self) -> Vec<u8> {
+        let half = self.half();
+        let held = half.get(self.ahead()..).unwrap_or(&[]);
+        held.to_vec(self.alloc).unwrap_or(Vec::new(self.alloc))
+    }
+
+    fn pass(&mut self, role: Role, key: u8) {
+        self.send_key(role, key);
+        self.show_key(key);
+    }
+
+    fn send_key(&mut self, role: Role, key: u8) {
+        match role {
+            Role::Signal(sig) => self.send_signal(sig),
+            _ => self.send_byte(key),
+        }
+    }
+
+    fn show_key(&mut self, key: u8) {
+        match key {
+            _ if self.options.is_on(false, 1) => {},
+            10 | 13 => self.show(b"\r\n"),
+            _ => self.show(&[key]),
+        }
+    }
+
+    fn send_signal(&mut self, sig: Sig) {
+        let command = match sig {
+            Sig::Int => 244,
+            Sig::Quit => 238,
+            Sig::Tstp => 237,
+        };
+        self.send_command(command);
+    }
+
+    fn send_byte(&mut self, byte: u8) {
+        say_byte(byte, &mut self.sent);
+        if byte == 13 {
+            let _refused = self.sent.push(0);
+        }
+    }
+
+    fn send_edited(&mut self, role: Role) {
+        match role {
+            Role::Signal(sig) => self.send_signal(sig),
+            Role::Nl => self.send_line(&[13, 10]),
+            Role::Eol(byte) | Role::Eol2(byte) => self.send_line(&[byte]),
+            Role::Eof => self.send_line(&[255, 236]),
+            Role::Erase if self.held().is_empty() && self.ahead() > 0 => self.send_command(247),
+            Role::Kill if self.ahead() > 0 => self.send_command(248),
+            _ => {},
+        }
+    }
+
+    fn send_command(&mut self, command: u8) {
+        let _refused = self.sent.extend_from_slice(&[255, command]);
+    }
+
+    fn send_line(&mut self, closing: &[u8]) {
+        for byte in &self.held() {
+            self.send_byte(*byte);
+        }
+        let _refused = self.sent.extend_from_slice(closing);
+    }
+
+    // The echo of a key that is about to join the roles, where the server has none.
+    fn echo(&mut self, role: Role) {
+        if self.options.is_on(false, 1) {
+            return;
+        }
+        let counted = self.half().len();
+        for byte in echo_of(role, counted).iter().flatten() {
+            let _refused = self.shown.push(*byte);
+        }
+    }
+
+    /// The half line: what is kept of the keys after the last that closed a line.
+    pub(crate) fn half(&self) -> Vec<u8> {
+        half(self.alloc, 254, &self.roles)
+    }
+}
+
+// The echo of a key behind so many bytes of the half line.
+fn echo_of(role: Role, counted: usize) -> [Option<u8>; 3] {
+    match role {
+        Role::Ordinary(_) if counted >= 254 => [Some(7), None, None],
+        Role::Ordinary(byte) | Role::Eol(byte) | Role::Eol2(byte) => [Some(byte), None, None],
+        Role::Nl | Role::Kill => [Some(13), Some(10), None],
+        Role::Erase if counted > 0 => [Some(8), Some(32), Some(8)],
+        _ => [None; 3],
+    }
+}

@@ -1,0 +1,292 @@
+//! The engine of the Q method (RFC 1143).
+
+use super::play_all;
+use crate::models::options::{Cause, cell, meaning};
+use crate::models::page::{Page, Stage, Words, byte_of};
+use std::alloc::Global;
+use std::process::Abort;
+use tn_codes::Verb;
+use tn_option::{Agree, AskFault, ECHO, Engine, LINEMODE, NAWS, QState, Side};
+
+const ALL: Agree = Agree {
+    us: [true; 4],
+    them: [true; 4],
+};
+
+#[derive(Drop)]
+struct Options {
+    engine: Engine,
+}
+
+impl Stage for Options {
+    fn open(_alloc: Global) -> Option<Options> {
+        Some(Options {
+            engine: Engine::new(ALL),
+        })
+    }
+
+    fn step(&mut self, words: Words<'_>, page: &mut Page) -> bool {
+        let option = byte_of(words.second);
+        match words.verb {
+            "wish-on" => page.say(&self.engine.ask(side_of(words), option, true)),
+            "wish-off" => page.say(&self.engine.ask(side_of(words), option, false)),
+            "state" => page.say(&self.engine.q_state(side_of(words), option)),
+            "on" => page.say(&self.engine.is_on(side_of(words), option)),
+            "agree" => self.agree_to_some(),
+            _ => page.say(&self.engine.got(verb_of(words), option)),
+        }
+        false
+    }
+}
+
+impl Options {
+    // Our ECHO, and the other end's LINEMODE.
+    fn agree_to_some(&mut self) {
+        self.engine = Engine::new(Agree {
+            us: [true, false, false, false],
+            them: [false, false, false, true],
+        });
+    }
+}
+
+fn side_of(words: Words<'_>) -> Side {
+    match words.first {
+        "us" => Side::Us,
+        _ => Side::Them,
+    }
+}
+
+fn verb_of(words: Words<'_>) -> Verb {
+    match words.first {
+        "will" => Verb::Will,
+        "wont" => Verb::Wont,
+        "do" => Verb::DoIt,
+        _ => Verb::DontIt,
+    }
+}
+
+const AT_ONE_END: &[(&str, &str)] = &[
+    // A wish queues behind another.
+    (
+        "wish-on them 34; wish-on them 34; wish-off them 34; wish-off them 34; got will 34; \
+         state them 34; wish-off them 3; wish-on us 99",
+        "Ok(Some((DoIt, 34))); Err(AlreadyAsked); Ok(None); Err(AlreadyQueued); Some((DontIt, 34)); \
+         WantNoEmpty; Err(AlreadySo); Err(UnknownOption)",
+    ),
+    // Other options are refused each time.
+    (
+        "agree; got do 1; on us 1; got will 1; on them 1; got do 34; got will 31; got will 99; got do 99; \
+         got wont 99; got dont 99; got will 99; state them 99",
+        "Some((Will, 1)); true; Some((DontIt, 1)); false; Some((Wont, 34)); Some((DontIt, 31)); \
+         Some((DontIt, 99)); Some((Wont, 99)); None; None; Some((DontIt, 99)); No",
+    ),
+];
+
+#[test]
+fn an_engine_answers_wishes_and_words(rt: HostRuntime) {
+    play_all::<Options>(&rt, rt.alloc(), AT_ONE_END);
+}
+
+// The end that performs LINEMODE, the other, and the words on their way to each.
+#[derive(Drop)]
+struct TwoEnds {
+    performer: Engine,
+    other: Engine,
+    to_performer: Vec<Verb>,
+    to_other: Vec<Verb>,
+}
+
+impl Stage for TwoEnds {
+    fn open(alloc: Global) -> Option<TwoEnds> {
+        Some(TwoEnds {
+            performer: Engine::new(ALL),
+            other: Engine::new(ALL),
+            to_performer: Vec::new(alloc),
+            to_other: Vec::new(alloc),
+        })
+    }
+
+    fn step(&mut self, words: Words<'_>, page: &mut Page) -> bool {
+        let on = words.first == "on";
+        match words.verb {
+            "refusing" => self.refuse(),
+            "performer" => {
+                let asked = self.performer.ask(Side::Us, LINEMODE, on);
+                say(asked.unwrap_or(None), &mut self.to_other, page);
+            },
+            "other" => {
+                let asked = self.other.ask(Side::Them, LINEMODE, on);
+                say(asked.unwrap_or(None), &mut self.to_performer, page);
+            },
+            "deliver" => self.deliver(page),
+            _ => {
+                page.say(&self.performer.q_state(Side::Us, LINEMODE));
+                page.say(&self.other.q_state(Side::Them, LINEMODE));
+            },
+        }
+        false
+    }
+}
+
+fn say(word: Option<(Verb, u8)>, to: &mut Vec<Verb>, page: &mut Page) {
+    if let Some((verb, _)) = word {
+        page.say(&verb);
+        let _refused = to.push(verb);
+    }
+}
+
+impl TwoEnds {
+    // The other end agrees to nothing.
+    fn refuse(&mut self) {
+        let none = [false; 4];
+        self.other = Engine::new(Agree {
+            us: none,
+            them: none,
+        });
+    }
+
+    // What is on its way arrives, at the other end first.
+    fn deliver(&mut self, page: &mut Page) {
+        for verb in &self.to_other {
+            say(
+                self.other.got(*verb, LINEMODE),
+                &mut self.to_performer,
+                page,
+            );
+        }
+        self.to_other.clear();
+        for verb in &self.to_performer {
+            say(
+                self.performer.got(*verb, LINEMODE),
+                &mut self.to_other,
+                page,
+            );
+        }
+        self.to_performer.clear();
+    }
+}
+
+const AT_TWO_ENDS: &[(&str, &str)] = &[
+    // Wishes that cross agree.
+    (
+        "performer on; other on; deliver; states",
+        "Will; DoIt; Yes; Yes",
+    ),
+    // A far end refuses.
+    (
+        "refusing; performer on; deliver; states",
+        "Will; DontIt; No; No",
+    ),
+    // A wish is taken back before its answer.
+    (
+        "performer on; performer off; deliver; deliver; states",
+        "Will; DoIt; Wont; DontIt; No; No",
+    ),
+    // A far end wishes behind its refusal.
+    (
+        "refusing; performer on; deliver; other on; deliver; deliver; states",
+        "Will; DontIt; DoIt; Will; Yes; Yes",
+    ),
+];
+
+#[test]
+fn two_ends_agree_once_all_words_came(rt: HostRuntime) {
+    play_all::<TwoEnds>(&rt, rt.alloc(), AT_TWO_ENDS);
+}
+
+const STATES: [QState; 6] = [
+    QState::No,
+    QState::Yes,
+    QState::WantNoEmpty,
+    QState::WantNoOpposite,
+    QState::WantYesEmpty,
+    QState::WantYesOpposite,
+];
+
+// The words that are an on word and an off word of a side.
+fn words_of(side: Side) -> (Verb, Verb) {
+    match side {
+        Side::Us => (Verb::DoIt, Verb::DontIt),
+        Side::Them => (Verb::Will, Verb::Wont),
+    }
+}
+
+// An end at which LINEMODE has come to a state.
+fn engine_at(side: Side, state: QState) -> Engine {
+    let mut engine = Engine::new(ALL);
+    if matches!(
+        state,
+        QState::Yes | QState::WantNoEmpty | QState::WantNoOpposite
+    ) {
+        let _said = engine.got(words_of(side).0, LINEMODE);
+    }
+    let wishes: &[bool] = match state {
+        QState::No | QState::Yes => &[],
+        QState::WantNoEmpty => &[false],
+        QState::WantNoOpposite => &[false, true],
+        QState::WantYesEmpty => &[true],
+        QState::WantYesOpposite => &[true, false],
+    };
+    for on in wishes {
+        let _asked = engine.ask(side, LINEMODE, *on);
+    }
+    engine
+}
+
+// The same change at an engine, and whether an on word or an off word is sent.
+fn changed(engine: &mut Engine, side: Side, cause: Cause) -> Result<Option<bool>, AskFault> {
+    let (on, off) = words_of(side);
+    let said = match cause {
+        Cause::OnWord => engine.got(on, LINEMODE),
+        Cause::OffWord => engine.got(off, LINEMODE),
+        Cause::OnWish => engine.ask(side, LINEMODE, true)?,
+        Cause::OffWish => engine.ask(side, LINEMODE, false)?,
+    };
+    Ok(said.map(|(verb, _)| meaning(verb).1))
+}
+
+// A wish that changes nothing is refused for its cause.
+fn refusal(state: QState, on: bool) -> Option<AskFault> {
+    match (state, on) {
+        (QState::No, false) | (QState::Yes, true) => Some(AskFault::AlreadySo),
+        (QState::WantNoEmpty, false) | (QState::WantYesEmpty, true) => Some(AskFault::AlreadyAsked),
+        (QState::WantNoOpposite, true) | (QState::WantYesOpposite, false) => {
+            Some(AskFault::AlreadyQueued)
+        },
+        _ => None,
+    }
+}
+
+fn wanted(state: QState, cause: Cause) -> Result<Option<bool>, AskFault> {
+    let refused = match cause {
+        Cause::OnWish => refusal(state, true),
+        Cause::OffWish => refusal(state, false),
+        _ => None,
+    };
+    match refused {
+        Some(fault) => Err(fault),
+        None => Ok(cell(true, state, cause).1),
+    }
+}
+
+fn is_the_cell(rt: &impl Abort, side: Side, state: QState, cause: Cause) {
+    let mut engine = engine_at(side, state);
+    assert!(rt; engine.q_state(side, LINEMODE) == state);
+    let answer = changed(&mut engine, side, cause);
+    assert!(rt; answer == wanted(state, cause), "at {state:?}");
+    let next = cell(true, state, cause).0;
+    assert!(rt; engine.q_state(side, LINEMODE) == next, "at {state:?}");
+    assert!(rt; engine.q_state(side, NAWS) == QState::No);
+    assert!(rt; !engine.is_on(Side::Us, ECHO));
+}
+
+#[test]
+fn each_change_is_a_cell_of_rfc_1143(rt: HostRuntime) {
+    for side in [Side::Us, Side::Them] {
+        for state in STATES {
+            for cause in [Cause::OnWord, Cause::OffWord, Cause::OnWish, Cause::OffWish] {
+                is_the_cell(&rt, side, state, cause);
+            }
+        }
+    }
+}

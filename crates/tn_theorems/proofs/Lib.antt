@@ -1,0 +1,3 @@
+pub mod of_programs
+pub mod of_progress
+pub mod of_sessions

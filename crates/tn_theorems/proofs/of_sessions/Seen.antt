@@ -1,0 +1,119 @@
+-- The headline over two transcripts that a socket carries.
+use Rattle.std.proofs.Common.{◌≡◌, ℕ, All, Option, Some, None, List, [], ◌∷◌, ◌++◌, sym, ap, ◌∙◌, subst, map, append-nil}
+use Rattle.std.specs.Io.KnownBytes.{Consumes}
+use Rattle.tn_client.specs.Events as client
+use Rattle.tn_client.specs.Replies as client_says
+use Rattle.tn_client.proofs.lemmas.Fitting.{sent-fits}
+use Rattle.tn_cores.specs.{client.Bringing.{Input, inputs}, declared.faults.Ended.TheVariants.HangUp}
+use Rattle.tn_discipline.specs.{Canon.{Canon, typed_entries}, Characters.standard_characters, declared.reads.Entry.Entry}
+use Rattle.tn_theorems.proofs.of_sessions.{Closing.inputs_sent, Hearing.heard_all, Transcripts.holds, Tying.{AreTied, ties}, Whole.goes_on_to_end}
+use Rattle.tn_theorems.proofs.of_sessions.Keys.{given_first, more_entries, one_list, keys_of-append, HaveKeys, typed_as, typeable, first_of_all, only_keys}
+use Rattle.tn_theorems.proofs.of_sessions.{Keys.none_told, Joint.{Both, LinesAreLocal, client_said}}
+use Rattle.tn_theorems.specs.sessions.Transcripts.{Served, Connected, IsCarried, RanToTheEnd, Headline, HasKey, keys_of, keys_at}
+use Rattle.tn_server.specs.Events as server
+use Rattle.tn_server.specs.Lines.{entries}
+use Rattle.tn_session.proofs.lemmas.{Plain.plainly, Transcribing.prefix_trans}
+use Rattle.tn_session.specs.{Facts.JobFacts, Transcripts.all_wrote, declared.parties.Report.Report, workers.{Mailbox.mail, Reading.{pieces_in, told_messages}}}
+use Rattle.tn_session.specs.declared.workers.mail.Sender.TheVariants as who
+use Rattle.tn_nvt.specs.Prefixes.{IsPrefixOf}
+use Rattle.tn_cores.proofs.lemmas.server.Hearing.{hears}
+use Rattle.tn_world.proofs.lemmas.Histories as histories
+use Rattle.tn_world.proofs.lemmas.Histories.{TiedHistories, keys_typed}
+
+module _ {J : Type 0} (facts : JobFacts J) (canon : Canon) (s : Served facts canon) (c : Connected canon.limit)
+    (standard : canon.settings.chars ≡ standard_characters) (typed_there : All (λ input. HasKey canon.settings input) c.ran.inputs)
+    (carried : IsCarried s.ran.transcript c.ran.transcript) where
+  abbrev last : Both
+  last = record { server = s.ran.schedule.run; client = c.ran.run }
+
+  -- what was typed while replies went to the network is all that was typed
+  same_inputs : inputs c.ran.run.sent ≡ inputs c.ran.run.history
+  same_inputs =
+      let typed = c.ran.typed in
+      let sent = one_list c.ran.from_keys (map (mail who.Keys) (told_messages typed.0 ++ typed.2)) (sym c.ran.keys_is ∙ typed.5) in
+      inputs_sent c.width c.height canon.limit c.ran.marked c.ran.run c.ran.handled _ typed.0 typed.1 _ typed.2 c.ran.runs c.ran.messages
+      (c.ran.woven who.Keys ∙ sent) (plainly _ c.keys.reader (pieces_in typed.0) typed.1 typed.2 typed.4)
+
+  -- it is the first of what was read
+  first_read : c.ran.inputs ≡ inputs c.ran.run.history ++ c.ran.in_order.untyped
+  first_read = c.ran.inputs_are ∙ c.ran.in_order.typed
+
+  have_keys : HaveKeys canon.settings standard (inputs c.ran.run.sent)
+  have_keys =
+      let Here : List Input → Type 0 = λ xs. All (λ input. HasKey canon.settings input) xs in
+      let first = first_of_all (λ input. HasKey canon.settings input) (inputs c.ran.run.history) c.ran.in_order.untyped (subst Here first_read typed_there) in
+      subst Here (sym same_inputs) first
+
+  -- where both runs led, the lines are local
+  lines : LinesAreLocal canon last
+  lines =
+      let schedule = s.ran.schedule in
+      let Tied : server.History → client.History → Type 0 = λ h k. AreTied canon h k in
+      let tied = ties canon s.editing c.width c.height standard in
+      let at = holds canon s.editing c.width c.height schedule.wrote_opening s.ran.jobs Tied tied
+      (None ∷ map (λ m. Some m) schedule.marked) c.ran.marked last schedule.written c.ran.written s.ran.transcript c.ran.transcript s.ran.noted.transcribed
+      c.ran.transcribed carried in
+      let both : TiedHistories canon last.server.history last.client.sent = at.tied (typeable canon.settings standard c.ran.run.sent have_keys) in
+      record {
+        prefix = histories.prefix canon last.server.history last.client.sent both;
+        complete = λ all. histories.complete canon last.server.history last.client.sent both
+            (heard_all last.server.stream (server.items last.server.history) (client_says.items_said last.client.sent)
+            (hears schedule.wrote_opening canon s.editing s.ran.jobs schedule.marked last.server schedule.runs).read (sent-fits last.client.sent) all);
+      }
+
+  abbrev typed_first : List ℕ
+  typed_first = keys_of canon.settings (inputs c.ran.run.history)
+
+  local : typed_entries canon (keys_typed canon.settings c.ran.run.sent) ≡ typed_entries canon typed_first
+  local = ap (λ (ks : List ℕ). typed_entries canon ks) (typed_as canon.settings standard c.ran.run.sent have_keys
+      ∙ ap (λ (xs : List Input). keys_of canon.settings xs) same_inputs)
+
+  keys_first : keys_at canon c ≡ typed_first ++ keys_of canon.settings c.ran.in_order.untyped
+  keys_first = ap (λ (xs : List Input). keys_of canon.settings xs) first_read ∙ keys_of-append canon.settings (inputs c.ran.run.history) c.ran.in_order.untyped
+
+  taken_first : IsPrefixOf s.ran.entries_taken (typed_entries canon (keys_at canon c))
+  taken_first =
+      let h = entries s.ran.schedule.run.history in
+      let ks = typed_entries canon typed_first in
+      let front : IsPrefixOf s.ran.entries_taken h = (s.ran.in_order.0, ap (λ (l : List Entry). l ++ s.ran.in_order.0) s.ran.entries_are ∙ s.ran.in_order.1) in
+      let mid : IsPrefixOf h ks = subst (λ (l : List Entry). IsPrefixOf h l) local lines.prefix in
+      prefix_trans s.ran.entries_taken h (typed_entries canon (keys_at canon c)) front
+      (prefix_trans h ks (typed_entries canon (keys_at canon c)) mid
+      (more_entries canon typed_first (keys_of canon.settings c.ran.in_order.untyped) (keys_at canon c) keys_first))
+
+  -- all that a client wrote is all that it says, where it ended without a fault
+  all_said : c.result.report.ended ≡ HangUp → all_wrote c.ran.transcript ≡ client_said last
+  all_said ended =
+      let on = goes_on_to_end c.width c.height canon.limit c.ran.marked c.ran.run c.ran.runs (sym (ap (λ (r : Report). r.ended) c.ran.report_is) ∙ ended) in
+      c.ran.was_written ∙ sym (c.ran.sends ∙ ap (λ (l : List ℕ). c.ran.written ++ l) (c.ran.sent_whole on) ∙ append-nil c.ran.written)
+
+  all_typed : c.result.report.ended ≡ HangUp → typed_first ≡ keys_at canon c
+  all_typed ended =
+      let on = goes_on_to_end c.width c.height canon.limit c.ran.marked c.ran.run c.ran.runs (sym (ap (λ (r : Report). r.ended) c.ran.report_is) ∙ ended) in
+      sym (keys_first ∙ ap (λ (xs : List Input). typed_first ++ keys_of canon.settings xs) (c.ran.in_order.all on).0 ∙ append-nil typed_first)
+
+  -- without commands the keys are those that were read
+  keys_alone : c.keys.controls ≡ Some [] → keys_at canon c ≡ c.ran.keys_read
+  keys_alone none = only_keys canon.settings c.ran.inputs (c.ran.asked_among ∙ none_told c.keys.controls _ none c.ran.were_asked) ∙ c.ran.keys_among
+
+  taken_of : (given : List ℕ) → c.keys.reader.bytes ≡ Some given → c.keys.controls ≡ Some [] → IsPrefixOf s.ran.entries_taken (typed_entries canon given)
+  taken_of given known none =
+      let read = c.ran.keys_were_read in
+      let more = given_first given read.0 c.ran.keys_read [] c.ran.keys_read (sym (append-nil c.ran.keys_read))
+      (subst (λ (o : Option (List ℕ)). Consumes o read.0 c.ran.keys_read) known read.1) in
+      prefix_trans s.ran.entries_taken (typed_entries canon c.ran.keys_read) (typed_entries canon given)
+      (subst (λ (ks : List ℕ). IsPrefixOf s.ran.entries_taken (typed_entries canon ks)) (keys_alone none) taken_first)
+      (more_entries canon c.ran.keys_read more.0 given more.1)
+
+  taken_all : RanToTheEnd s c → s.ran.entries_taken ≡ typed_entries canon (keys_at canon c)
+  taken_all ran =
+      s.ran.entries_are ∙ s.ran.all_taken ran.server
+      ∙ lines.complete (s.ran.heard_whole ran.server ∙ ran.whole ∙ all_said ran.client)
+      ∙ local ∙ ap (λ (ks : List ℕ). typed_entries canon ks) (all_typed ran.client)
+
+pub headline : {J : Type 0} (facts : JobFacts J) → Headline facts
+headline facts canon s c standard typed_there carried = record {
+  prefix = taken_first facts canon s c standard typed_there carried;
+  all = taken_all facts canon s c standard typed_there carried;
+  of_given = taken_of facts canon s c standard typed_there carried;
+}

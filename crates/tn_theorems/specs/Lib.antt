@@ -1,0 +1,3 @@
+pub mod programs
+pub mod progress
+pub mod sessions

@@ -1,0 +1,32 @@
+-- Two sessions that meet every premise of `Headline`, and have an entry: a line is typed at the client and
+-- taken at the server.
+use Rattle.std.specs.Prelude.{◌≡◌, All, [], ◌∷◌}
+use Rattle.tn_discipline.specs.{Canon.Canon, Characters.standard_characters, Keys.standard_flags}
+use Rattle.tn_discipline.specs.{Limits.standard_limit, declared.reads.Entry.TheVariants.Text}
+use Rattle.tn_theorems.specs.sessions.Transcripts.{Served, Connected, IsCarried, RanToTheEnd, HasKey}
+use Rattle.tn_server.specs.declared.wishes.Editing.{Editing}
+use Rattle.tn_session.specs.Facts.{JobFacts, job_facts}
+
+-- a new terminal
+abbrev pub canon : Canon
+canon =
+    record {
+      settings = record { flags = standard_flags; chars = standard_characters };
+      limit = standard_limit;
+    }
+
+-- jobs of which nothing is known
+abbrev pub any_jobs : JobFacts (Unit {0})
+any_jobs = job_facts (λ job. Unit {0}) (λ old entry reaction new. Unit {0}) (λ old reaction new. Unit {0})
+    (λ job entry. Unit {0})
+
+-- Two sessions, of which a socket carries the line: it is typed, and taken, and both run to the end.
+pub record SessionsCarryALine (editing : Editing) : Type 0 where
+  pub server : Served any_jobs canon
+  pub client : Connected canon.limit
+  pub edited : server.editing ≡ editing
+  pub with_keys : All (λ input. HasKey canon.settings input) client.ran.inputs
+  pub carried : IsCarried server.ran.transcript client.ran.transcript
+  pub ran : RanToTheEnd server client
+  pub typed_keys : client.ran.keys_read ≡ 97 ∷ 13 ∷ []
+  pub taken : server.ran.entries_taken ≡ Text (97 ∷ 10 ∷ []) ∷ []

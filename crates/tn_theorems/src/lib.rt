@@ -1,0 +1,5 @@
+#![tactic(auto)]
+
+pub mod programs;
+pub mod progress;
+pub mod sessions;

@@ -1,6 +1,0 @@
-pub mod Counting
-pub mod Reading
-pub mod Stopping
-pub mod Talk
-pub mod Telling
-pub mod lemmas

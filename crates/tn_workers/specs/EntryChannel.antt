@@ -1,7 +1,0 @@
--- What a pass of the channel of entries knows; `None` is the end of the entries.
-use Rattle.std.specs.Prelude.{Option}
-use Rattle.tn_discipline.specs.declared.reads.Entry.{Entry}
-use Rattle.tn_queue.specs.declared.Hand.{Hand}
-
-abbrev pub EntryHand : Type 0
-EntryHand = Hand (Option Entry)
