@@ -28,8 +28,8 @@ text { fill: #e6edf3 }
 class Picture:
     """An SVG picture, drawn from back to front."""
 
-    def __init__(self, title):
-        self.title, self.parts, self.width, self.height = title, [], 0, 0
+    def __init__(self, title, says=""):
+        self.title, self.says, self.parts, self.width, self.height = title, says, [], 0, 0
 
     def text(self, x, y, text, kind="", anchor="middle"):
         self.parts.append(f'<text x="{x:g}" y="{y:g}" class="{kind}" text-anchor="{anchor}">{html.escape(text)}</text>')
@@ -44,7 +44,8 @@ class Picture:
         head = (f'<svg xmlns="http://www.w3.org/2000/svg" viewBox="0 0 {self.width:g} {self.height:g}" '
                 f'width="{self.width:g}" height="{self.height:g}" role="img">')
         page = f'<rect width="{self.width:g}" height="{self.height:g}" class="page"/>'
-        return "\n".join([head, f"<title>{html.escape(self.title)}</title>", f"<style>{STYLE}</style>", page, *self.parts, "</svg>", ""])
+        names = f"<title>{html.escape(self.title)}</title><desc>{html.escape(self.says or self.title)}</desc>"
+        return "\n".join([head, names, f"<style>{STYLE}</style>", page, *self.parts, "</svg>", ""])
 
 
 class Option:
@@ -149,9 +150,11 @@ class Ladder:
                 self.picture.text(at, start + 20 + place * 13, word, "small", anchor)
 
 
-def ladder_picture(title, events):
-    """Draws events: who does what, as `user` or `job`, or what arrives where, as `to-client` or `to-server`, and when."""
-    picture = Picture(title)
+def ladder_picture(title, events, has_states=True):
+    """Draws events: who does what, as `user` or `job`, or what arrives at which end, as `to-client` or `to-server`, and when; with states,
+    what came of each option too."""
+    arrows = {"to-client": "to the client", "to-server": "to the server"}
+    picture = Picture(title, "; ".join(f"{arrows.get(kind, kind)}: {', '.join(texts)}" for kind, texts, *_ in events))
     ladder = Ladder(picture)
     for kind, texts, *time in events:
         if kind in ("user", "job"):
@@ -162,7 +165,7 @@ def ladder_picture(title, events):
     for mark in ladder.marks:
         mark()
     y = ladder.y + 26
-    for line in option_states(events):
+    for line in option_states(events) if has_states else ():
         picture.text((LEFT + RIGHT) / 2, y, line, "small")
         y += 14
     picture.width, picture.height = LEFT + RIGHT, y
