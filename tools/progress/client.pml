@@ -1,5 +1,5 @@
-/* A client's session over a connection: of crates/tn_session `client`, `client_loop` and `closing`, tn_workers `reader`, tn_machines, of
-   tn_sockets `Console`, `Keys`, `Incoming`, `Link`, `Outgoing`, `Sending`, `Throttle` and `Screen`, and tn_connect. */
+/* A client's session over a connection: of crates/tn_session `client`, `client_loop` and `closing`, its `workers` `reader`, tn_cores, of
+   tn_net `Console`, `Keys`, `Incoming`, `Link`, `Outgoing`, `Sending`, `Throttle` and `Screen`, and tn_connect. */
 
 #ifndef MARK
 #define MARK 1		/* with more writes waiting no more keys are read: WRITES_MARK, 128 */

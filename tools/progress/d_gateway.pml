@@ -1,4 +1,4 @@
-/* (d) The gateway: a server's session whose two jobs are joined to a line service by bounded streams (of crates/tn_services
+/* (d) The gateway: a server's session whose two jobs are joined to a line service by bounded streams (of crates/tn_serve
    `sending`, `showing` and `dialing`). The service echoes, does nothing, floods, closes, or only ends what it says: any of
    these that no NO_.. excludes. */
 #define HOOKED

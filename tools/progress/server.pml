@@ -1,5 +1,5 @@
-/* A server's session: of crates/tn_session `session`, `term`, `credit` and `closing`, of tn_workers `reader`, `desk`, `back` and
-   `credit`, tn_machines, of tn_sockets `Attended` with its `Standing`, and of tn_serve `linger`. */
+/* A server's session: of crates/tn_session `session`, `term`, `credit` and `closing`, of its `workers` `reader`, `desk`, `back` and
+   `credit`, tn_cores, of tn_net `Attended` with its `Standing`, and of tn_serve `linger`. */
 
 #ifndef L
 #define L 1		/* how many entries may wait for one more piece to be welcome: MAX_BEFORE_PIECE, 511 */

@@ -8,7 +8,8 @@
 //! tn_server_free(&server);
 //! ```
 //!
-//! No call waits, and none keeps a pointer that it was lent. `include/tn.h` says what C must keep to.
+//! `parts` has the calls over references; what is here makes them of pointers. No call waits, and none keeps a pointer
+//! that it was lent. `include/tn.h` says what C must keep to.
 #![tactic(auto)]
 
 ghost use Rattle.std.specs.Prelude.{◌≡◌};
@@ -19,6 +20,7 @@ mod decoder;
 mod handle;
 mod held;
 mod line;
+mod parts;
 mod server;
 mod spelling;
 mod unboxed;
@@ -30,5 +32,3 @@ pub extern "C" fn tn_version() -> u32
 {
     10_200
 }
-
-pub mod parts;

@@ -5,8 +5,8 @@
 //! ```
 //!
 //! `run_decode` writes as it reads, and so filters a pipe that never ends; the others read all of their
-//! input first. `tn_serve` serves, `tn_connect` connects, and `tn_program` is the program that runs what
-//! its words ask for.
+//! input first. `arguments` reads the command line, and `hosts` the user's own file of hosts. `tn_serve` serves,
+//! `tn_connect` connects, and `tn_program` runs what a command line asks for.
 #![tactic(auto)]
 
 pub use crate::arguments::{

@@ -1,6 +1,7 @@
-//! What a session over a connection needs besides its threads: both sides of the connection, the terminal
-//! and its window, what is typed there and what an escape character makes of it, a screen, a trace of what
-//! passes, and how a job hangs up.
+//! What a session over a connection needs besides its threads: both sides of the connection (`Connection`), the
+//! terminal (`Console`), what is typed there and what an escape character makes of it, a screen, a trace of what
+//! passes, and how a job hangs up. `network` asks the network for listeners and connections; `printing` prints
+//! the items of a stream.
 //!
 //! ```
 //! let (reader, writer) = Connection::split(stream)?;

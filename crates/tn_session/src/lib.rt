@@ -1,5 +1,8 @@
 //! Running sessions, and the channels between their threads: a server end, its jobs and its connection,
-//! each in a thread of its own; and a client end, its keys and its connection.
+//! each in a thread of its own (`serve_session`); and a client end, its keys and its connection
+//! (`client_session`).
+//!
+//! `workers` has what the threads do apart from waiting; `roster` numbers the sessions that run at once.
 #![tactic(auto)]
 
 pub use crate::workers::{
@@ -8,6 +11,7 @@ pub use crate::workers::{
 };
 pub use client::client_session;
 pub use parties::{ClientPorts, Maker, Ports, Report, Unwatched};
+pub use roster::{Roster, RosterFault};
 pub use session::serve_session;
 pub use tn_cores::client::{Origin, Terms};
 pub use tn_cores::queue::{Hand, InTurn};

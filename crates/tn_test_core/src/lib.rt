@@ -1,6 +1,6 @@
-//! Tests of each layer below both ends, from codes to jobs, and of each end by itself: scripts with what
-//! comes of them, under a sentence as their name, and each part beside the reference model of its definition.
-//! Nothing here is part of the program, and nothing of it is proved but that it is safe and ends.
+//! Tests of each part and of each end, scripts and random input compared with the `models`, and tests of both ends
+//! together and of the program's runs (`worlds`). Nothing here is part of the program. Of the tests it is proved that
+//! they are safe and end.
 #![tactic(auto)]
 
 #[cfg(test)]
@@ -8,4 +8,5 @@ mod model;
 pub mod models;
 #[cfg(test)]
 mod tests;
-pub mod worlds;
+#[cfg(test)]
+mod worlds;

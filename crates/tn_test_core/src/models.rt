@@ -1,5 +1,5 @@
-//! The definitions again, as plain programs that compute each result from the whole past. Beside them stand
-//! the page that a test's script prints, and pseudorandom numbers. The tests compare the product with
+//! The definitions again, as plain programs that compute each result from the whole past; the page that a test's
+//! script prints, and pseudorandom numbers. The tests compare the product with
 //! them. They are slow, keep everything, and lose what they have no memory for. Only their safety and
 //! termination are proved, so nothing may rest on them.
 

@@ -2,5 +2,4 @@
 //! as their name, and random worlds beside one local terminal. Nothing here is part of the program, and
 //! nothing of it is proved but that it is safe and ends.
 
-#[cfg(test)]
 mod tests;

@@ -2,5 +2,4 @@
 //! a sentence as their name. Nothing here is part of the program, and nothing of it is proved but that it is
 //! safe.
 
-#[cfg(test)]
 mod tests;

@@ -1,8 +1,9 @@
-//! Tests of running sessions over memory, some with gates that hold their threads, and of both in one loop.
-//! Nothing here is part of the program, and nothing of it is proved but that it is safe and, where it has no
-//! thread, that it ends.
+//! Tests of running sessions in memory, some with gates that hold their threads, of both cores in one loop, and of
+//! sessions over connections of this machine (`connections`). Nothing here is part of the program. Of the tests it is
+//! proved that they are safe.
 #![tactic(auto)]
 
-pub mod connections;
+#[cfg(test)]
+mod connections;
 #[cfg(test)]
 mod tests;
