@@ -1,6 +1,5 @@
 -- Keys and items that are typed, some and then more.
-use Rattle.std.proofs.Common.{◌≡◌, ℕ, Some, None, List, [], ◌∷◌, ◌++◌, map, refl, sym, ap, ◌∙◌, append-nil, append_assoc}
-use Rattle.std.proofs.lemmas.List.Elements.{filter_map-append}
+use Rattle.std.proofs.{Common.{◌≡◌, ℕ, List, [], ◌∷◌, ◌++◌, map, refl, sym, ap, ◌∙◌, append-nil, append_assoc}, lemmas.List.Elements.filter_map-append}
 use Rattle.tn_nvt.proofs.lemmas.Folding.{taken_all}
 use Rattle.tn_nvt.specs.{declared.items.Item.{Item, TheVariants.Byte}, Sinks.{FeedsTo, all_of, calls_of}, Feeding.DecoderState}
 use Rattle.tn_nvt.specs.Feeding as nvt
@@ -16,12 +15,6 @@ types_both old mid new xs ys first then before given had = rw (← append_assoc 
 pub keys_of_bytes : (bytes : List ℕ) → keys_of (map Byte bytes) ≡ bytes
 keys_of_bytes [] = refl
 keys_of_bytes (b ∷ bs) = ap (λ (xs : List ℕ). b ∷ xs) (keys_of_bytes bs)
-
-pub keys_of_key : (item : Item) (key : ℕ) → key_of item ≡ Some key → keys_of (item ∷ []) ≡ key ∷ []
-keys_of_key item key is = rw is refl
-
-pub keys_of_none : (item : Item) → key_of item ≡ None → keys_of (item ∷ []) ≡ []
-keys_of_none item is = rw is refl
 
 -- items that were gathered, and more
 gathers_nothing : (old : Gathered) → GathersItems old [] old

@@ -1,6 +1,6 @@
 -- Each byte from each stand of a watch completes the segments that the definition has.
-use Rattle.std.proofs.Common.{◌≡◌, ◌≢◌, ℕ, ◌+◌, ◌<◌, ◌≤◌, ◌⊎◌, inl, inr, List, [], ◌∷◌, ◌++◌, length, refl, sym, ◌∙◌, ap, subst, arith, append_assoc}
-use Rattle.std.proofs.{Common.append-nil, lemmas.Bool.{ne_eqb, Decides.eqb_tells}}
+use Rattle.std.proofs.Common.{◌≡◌, ◌≢◌, ℕ, ◌+◌, ◌<◌, ◌≤◌, ◌⊎◌, inl, inr, List, [], ◌∷◌, ◌++◌, length, refl, sym, ◌∙◌, ap, arith, append_assoc, append-nil}
+use Rattle.std.proofs.lemmas.Bool.{ne_eqb, Decides.eqb_tells}
 use Rattle.std.specs.Prelude.{min, flat_map}
 use Rattle.tn_codes.specs.{Codes.{command_code, verb_code}, declared.codes.{Command.Command, Verb.Verb}}
 use Rattle.tn_codes.specs.declared.codes.Command.TheVariants as command
@@ -229,13 +229,6 @@ watches_byte old new byte dropped leads escapes subs stream had =
       subnegotiations = subs ∙ counts_both _ _ _ _ had.subnegotiations r.subnegotiations
           ∙ ap counted (sym (total_both dropped_subnegotiation had.segments r.segments));
     }
-
-pub watches_none : (here : Watch) → WatchesOn here [] here
-watches_none here stream had = subst (λ (xs : List ℕ). Watches xs here) (sym (append-nil stream)) had
-
-pub watches_both : (old mid new : Watch) (xs ys : List ℕ) → WatchesOn old xs mid → WatchesOn mid ys new → WatchesOn old (xs ++ ys) new
-watches_both old mid new xs ys first then stream had = subst (λ (zs : List ℕ). Watches zs new) (append_assoc stream xs ys)
-    (then (stream ++ xs) (first stream had))
 
 -- THE END
 

@@ -6,7 +6,6 @@ pub mod Breaking
 pub mod Refusing
 pub mod Ending
 pub mod Hanging
-pub mod Agreeing
 pub mod Handling
 pub mod Turning
 pub mod Requesting

@@ -6,7 +6,6 @@ pub mod Ending
 pub mod Reaching
 pub mod Giving
 pub mod Hearing
-pub mod Agreeing
 pub mod Welcoming
 pub mod Requests
 pub mod Echoing

@@ -3,7 +3,7 @@ use Rattle.std.proofs.Common.{◌≡◌, ◌≤◌, ℕ, Bool, List, [], ◌∷�
 use Rattle.std.proofs.Common.{take-append-drop}
 use Rattle.std.specs.Io.KnownBytes.{Appends, Consumes, Keeps}
 use Rattle.tn_lines.specs.{Edges.{HasShown, at_screen}, Said.{LeadsTo, said_of}, Logs.bytes_in, declared.{line_ends.LineEnd.LineEnd, talk.Talk.Talk}}
-use Rattle.tn_lines.specs.Talking.{Begins, Streams, streams, Leads, LeadsBy, GoesOn, TypesKeys, ShowsBytes}
+use Rattle.tn_lines.specs.Talking.{Begins, Streams, streams, Leads, LeadsBy, TypesKeys, ShowsBytes}
 use Rattle.tn_lines.proofs.{FirstBytes.{rises_more, rises_none}, Writing.{consumes_more, consumes_kept, consumes_none}}
 use Rattle.tn_cores.proofs.lemmas.streams.Writing.{appends_more, appends_kept, appends_none}
 
@@ -143,9 +143,6 @@ kept_more e at first keys keys_after service service_after told told_after scree
       opening = same_opening ∙ had.opening;
     })
 
-pub nothing_done : (old : Streams) (talk : Talk) → GoesOn old talk old talk
-nothing_done old talk e at first had = had
-
 pub begun : (e : LineEnd) (at : Bool) (first : Streams) (talk : Talk) → Begins e at talk → Leads e at first first talk
 begun e at first talk b = named e at first first talk [] [] b.typed b.heard
     (record {
@@ -164,9 +161,6 @@ begun e at first talk b = named e at first first talk [] [] b.typed b.heard
       terminal = b.terminal;
       opening = b.opening;
     })
-
-pub goes_both : (a b c : Streams) (old mid new : Talk) → GoesOn a old b mid → GoesOn b mid c new → GoesOn a old c new
-goes_both a b c old mid new one two e at first had = two e at first (one e at first had)
 
 -- what stands by it was asked what can be done
 pub waited : (e : LineEnd) (at : Bool) (first : Streams) (keys service told screen : Option (List ℕ)) (was now : Option ℕ) (talk : Talk) → now ≡ was

@@ -24,18 +24,6 @@ pub kept_as : (old new : Option (List ℕ)) (was now : Escaping) (asked telling 
     → same ≡ kept → GivesInputs old new was now asked same given telling left → GivesInputs old new was now asked kept given telling left
 kept_as old new was now asked telling kept same left given is gives = subst (λ (l : List SessionInput). GivesInputs old new was now asked l given telling left) is gives
 
--- what was read is given then
-pub given_then : (old new : Option (List ℕ)) (was now : Escaping) (asked middle telling : Option Control) (kept mid left : List SessionInput) (given : List ℕ)
-    → GivesInputs old new was now asked kept [] middle mid → handed_on given telling ++ left ≡ handed_on [] middle ++ mid
-    → GivesInputs old new was now asked kept given telling left
-given_then old new was now asked middle telling kept mid left given read gives = record {
-  bytes = read.bytes;
-  typed = read.typed;
-  count = read.count;
-  taken = read.taken;
-  inputs = gives ∙ read.inputs;
-  keyboard = read.keyboard;
-  prompt = read.prompt;
 }
 
 -- the same, where the reader and the escape character stay as they are

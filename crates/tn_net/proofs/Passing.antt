@@ -18,12 +18,6 @@ consumes_none None b kept = tt
 consumes_none (Some x) None kept = absurd kept
 consumes_none (Some x) (Some y) kept = sym kept
 
-pub consumes_after : (a b d : Option (List ℕ)) (bytes : List ℕ) → Keeps a b → Consumes b d bytes → Consumes a d bytes
-consumes_after None b d bytes one two = tt
-consumes_after (Some x) None d bytes one two = absurd one
-consumes_after (Some x) (Some y) None bytes one two = absurd two
-consumes_after (Some x) (Some y) (Some z) bytes one two = sym one ∙ two
-
 pub hands_on : {E : Type 0} (a b : Option (List ℕ)) (r : Result ℕ E) (buf : List ℕ) → ReadConsumes a b r buf → HandsOn a b r buf
 hands_on a b (Ok n) buf h = h.0
 hands_on a b (Err e) buf h = h

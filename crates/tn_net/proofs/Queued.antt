@@ -3,16 +3,13 @@ use Rattle.std.proofs.Common.{◌≡◌, ℕ, ◌≤◌, arith, length, take, Re
 use Rattle.std.proofs.Common.{option_map, refl, sym, ap, ◌∙◌, subst, append_assoc, append-nil}
 use Rattle.std.specs.{Global.Vec, Option.is_some, Io.KnownBytes.{Appends, Keeps}, Vec.vec_items}
 use Rattle.tn_cores.specs.queue.Queue.{more, put_more, taken_more}
-use Rattle.tn_cores.proofs.lemmas.streams.Writing.{appends_more, appends_kept, appends_none, take_all}
-use Rattle.tn_net.specs.{Passing.Begins, Queue.WritesAllTaken}
-use Rattle.tn_net.specs.Queue.{WritesToTheEnd, Piece, Pieces, PieceHand, behind_end, bytes_of, count_behind, has_end, put_bytes, TakesOn, WritesTaken}
+use Rattle.tn_cores.proofs.lemmas.streams.Writing.{appends_more, appends_kept, take_all}
+use Rattle.tn_net.specs.{Passing.Begins, Queue.WritesTaken}
+use Rattle.tn_net.specs.Queue.{WritesAllTaken, WritesToTheEnd, Piece, Pieces, PieceHand, behind_end, bytes_of, count_behind, has_end, put_bytes, TakesOn}
 
 pub there : {A : Type 0} (o : Option A) → (o ≡ None → ⊥) → (l : A) × (o ≡ Some l)
 there None known = absurd (known refl)
 there (Some l) known = (l, refl)
-
-pub some_there : {A : Type 0} (o : Option A) (l : A) → o ≡ Some l → o ≡ None → ⊥
-some_there o l e n = absurd (cc)
 
 same_some : {A : Type 0} (a b : A) → Some a ≡ Some b → a ≡ b
 same_some a b e = cc
@@ -117,9 +114,6 @@ pub keeps_same : (a : Option (List ℕ)) → Keeps a a
 keeps_same None = tt
 keeps_same (Some x) = refl
 
-pub keeps_equal : (a b : Option (List ℕ)) → b ≡ a → Keeps a b
-keeps_equal a b e = subst (λ (o : Option (List ℕ)). Keeps a o) (sym e) (keeps_same a)
-
 -- WHAT WAS TAKEN
 
 pub takes_none : (v : PieceHand) → TakesOn v [] v
@@ -132,9 +126,6 @@ pub takes_two : (u v w : PieceHand) (ps qs : Pieces) → TakesOn u ps v → Take
 takes_two u v w ps qs one two l mine = two (l ++ ps) (one l mine) ∙ ap Some (append_assoc l ps qs)
 
 -- AND SENT
-
-pub all_none : (v : PieceHand) (a : Option (List ℕ)) → WritesAllTaken v v a a
-all_none v a = ([], takes_none v, appends_none a)
 
 pub all_more : (u v w : PieceHand) (x : Vec ℕ) (bytes : List ℕ) (a b b' d : Option (List ℕ)) → WritesAllTaken u v a b → w ≡ taken_more v (Some x) → b' ≡ b
     → bytes ≡ vec_items x → Appends b' d bytes → WritesAllTaken u w a d

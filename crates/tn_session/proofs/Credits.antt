@@ -1,6 +1,5 @@
 -- The rule of the credits, and how many are given.
-use Rattle.std.proofs.Common.{◌≡◌, ◌≤◌, ◌||◌, Bool, true, false, Result, Ok, Err, MatchResult, ℕ, ◌+◌, List, [], ◌∷◌, ◌++◌, refl, ap, ◌∙◌, arith, length}
-use Rattle.std.proofs.Common.{length-append}
+use Rattle.std.proofs.Common.{◌≡◌, ◌≤◌, ◌||◌, Bool, true, false, ℕ, ◌+◌, List, [], ◌∷◌, ◌++◌, refl, ap, ◌∙◌, arith, length, length-append}
 use Rattle.crossbeam_channel.specs.Fifo.{Pushes, Pops, Forks, Learns}
 use Rattle.tn_session.specs.workers.Credits.{AnyTally, none_taken, one_given, one_taken, owed_one, piece_one, pieces_among, step_one, steps_among}
 use Rattle.tn_session.specs.declared.workers.{credit.{Credit.Credit, CreditTally.CreditTally}, mail.Mail.Mail}
@@ -23,12 +22,6 @@ cuts pass v items views kept at = tt
 
 pub taken_one : (v w : CreditTally) (x : Credit) → w ≡ one_taken v x → length w.taken ≡ length v.taken + 1
 taken_one v w x e = ap (λ (t : CreditTally). length t.taken) e ∙ length-append v.taken (x ∷ [])
-
--- one at most was given, whatever was answered
-pub given_one : {U E : Type 0} (r : Result U E) (v w : CreditTally) (x : Credit) (P : E → Type 0) → MatchResult r (λ _. w ≡ one_given v x) (λ e. P e × (w ≡ v))
-    → length w.given ≤ length v.given + 1
-given_one (Ok u) v w x P e = let n = ap (λ (t : CreditTally). length t.given) e ∙ length-append v.given (x ∷ []) in omega (arith, n)
-given_one (Err f) v w x P e = let n = ap (λ (t : CreditTally). length t.given) e.1 in omega (arith, n)
 
 or_one : (a b : Bool) → owed_one (a || b) ≤ owed_one a + owed_one b
 or_one true b = grind arith

@@ -11,9 +11,6 @@ StandsAt true done first now = IsFinished first now × (done ≡ true)
 pub open_none : (a : Option Sending) → StaysOpen a a
 open_none a e = e
 
-pub open_both : (a b c : Option Sending) → StaysOpen a b → StaysOpen b c → StaysOpen a c
-open_both a b c one two e = two (one e)
-
 pub open_finished : (a b c : Option Sending) → StaysOpen a b → IsFinished b c → IsFinished a c
 open_finished a b c one two e = two (one e)
 

@@ -42,10 +42,6 @@ notes_so_many x y n bytes t u h e = record {
   noted = e;
 }
 
--- where it went well, the front is all of it
-pub whole_front : (w : Bool) (x y : Option (List ℕ)) (bytes : List ℕ) (t u : Noted) (h : NotesWrite w x y bytes t u) → w ≡ true → h.front ≡ bytes
-whole_front w x y bytes t u h well = sym (append-nil h.front) ∙ ap (λ (l : List ℕ). h.front ++ l) (sym (h.all well)) ∙ sym h.whole
-
 pub notes_as : (w v : Bool) (x y : Option (List ℕ)) (bytes others : List ℕ) (t u : Noted) → w ≡ v → bytes ≡ others → NotesWrite w x y bytes t u
     → NotesWrite v x y others t u
 notes_as w v x y bytes others t u f e h =

@@ -3,13 +3,8 @@ use Rattle.std.proofs.Common.{◌≡◌, ℕ, ◌+◌, ◌≤◌, Option, Some, 
 use Rattle.std.proofs.lemmas.Fn.{FoldsTo-push}
 use Rattle.std.specs.List.{FoldsTo}
 use Rattle.tn_session.specs.{workers.Turning.{EachFresh, ids_of, jobs_of}, declared.workers.back.Runner.Runner}
-use Rattle.tn_session.specs.Makers.{AreFresh, HasMade, MayBeDone, MayGoOn, MakesJob, AreAll, IsMakerFault}
-use Rattle.tn_cores.specs.declared.faults.SessionFault.{SessionFault}
+use Rattle.tn_session.specs.Makers.{AreFresh, HasMade, MayBeDone, MayGoOn, MakesJob, AreAll}
 use Rattle.tn_cores.specs.declared.faults.SessionFault.TheVariants as fault
-
-pub none_came : (J E : Type 0) (old new : Option ℕ) → MakesJob {J = J} {E = E} old new (Ok None) → MayBeDone old
-none_came J E None new m = tt
-none_came J E (Some n) new m = m
 
 pub one_refused : (J E : Type 0) (old new : Option ℕ) (e : E) → MakesJob {J = J} {E = E} old new (Err e) → MayGoOn old
 one_refused J E None new e m = tt
@@ -21,11 +16,6 @@ one_came J E old new o job e m = by old (subst (λ (x : Option J). MakesJob {J =
     by : (a : Option ℕ) → MakesJob {J = J} {E = E} a new (Ok (Some job)) → HasMade 1 a new
     by None h = h
     by (Some n) h = h
-
--- one was made, so one was to come
-pub one_was : (made : ℕ) (old new : Option ℕ) → HasMade (made + 1) old new → MayGoOn old
-one_was made None new h = tt
-one_was made (Some n) new h = λ e. let s = h.1 in omega (arith, s, e)
 
 pub made_more : (made : ℕ) (a b c : Option ℕ) → HasMade made a b → HasMade 1 b c → HasMade (made + 1) a c
 made_more made None b c one two = let P : Option ℕ → Type 0 = λ o. HasMade 1 o c in subst P one two
@@ -42,26 +32,12 @@ all_made made (Some n) b ids (left, is, to) done e small =
     let none : left ≡ 0 = subst MayBeDone to done in
     omega (arith, is, none, e, small)
 
--- as many as there may be
-pub max_made : (a b : Option ℕ) (ids : List ℕ) → HasMade 16 a b → length ids ≡ 15 → AreAll a ids
-max_made None b ids h e = tt
-max_made (Some n) b ids (left, is, to) e = omega (arith, is, e)
-
 pub some_are : (left : Option ℕ) (ids : List ℕ) → AreAll left ids → MayGoOn left
 some_are None ids all = tt
 some_are (Some n) ids all = λ e. omega (arith, all, e)
 
 pub no_first : (left : Option ℕ) → left ≡ Some 0 → MayGoOn left → ⊥
 no_first left e on = let P : Option ℕ → Type 0 = λ o. MayGoOn o in subst P e on refl
-
-pub only_start : (left : Option ℕ) (f : SessionFault) → left ≡ Some 0 → IsMakerFault left f → f ≡ fault.Start
-only_start left fault.Start none why = refl
-only_start left fault.Memory none why = absurd (no_first left none why)
-only_start left fault.Read none why = absurd why
-only_start left fault.Write none why = absurd why
-only_start left (fault.Server f) none why = absurd why
-only_start left (fault.Client f) none why = absurd why
-only_start left fault.Channel none why = absurd why
 
 one_longer : {J : Type 0} (queue : List (Runner J)) (r : Runner J) → length (ids_of (queue ++ r ∷ [])) ≡ length (ids_of queue) + 1
 one_longer [] r = refl

@@ -37,10 +37,6 @@ seat_at (Some a) (Some b) old new stays is to =
     let by_channel = subst (λ t. IsSeatAt t b.pass) is.one_channel by_from in
     subst (λ t. IsSeatAt (sends_on t) b.pass) (sym to) by_channel
 
--- a seat that is new
-pub new_stays : (teller : StopTeller) (seat : StopSeat) → AreNewStops teller seat → StopsStay (Some seat) (Some seat)
-new_stays teller seat new = (refl, subst (λ t. IsSeatAt t seat.pass) (sym new.one_channel) new.seat_at, ([], new.seat_is))
-
 -- THE WORD
 
 pub not_told : (told : Bool) (v : StopHand) → told ≡ false → IsTold told v → v ≡ putter []

@@ -1,24 +1,22 @@
 -- Histories whose ends can't be told apart.
-use Rattle.std.proofs.Common.{◌≡◌, ℕ, zero, suc, ◌+◌, nat_lt, Bool, true, false, not, ◌||◌, Option, Some, None, List, [], ◌∷◌, ◌++◌, length, take, drop, map}
-use Rattle.std.proofs.{Common.{◌∙◌, subst, append-nil, append_assoc, length-append, if◌then◌else◌, arith, refl, sym, ap}, lemmas.Bool.lt-ltb}
-use Rattle.std.proofs.lemmas.List.{append_cancel_left, drop_all, length-map}
-use Rattle.std.specs.{List.{concat, flat_map}, Prelude.All}
+use Rattle.std.proofs.Common.{◌≡◌, ℕ, zero, suc, ◌+◌, nat_lt, Bool, true, false, ◌||◌, Option, Some, None, List, [], ◌∷◌, ◌++◌, length, take, map, ◌∙◌, subst}
+use Rattle.std.proofs.{Common.{append-nil, append_assoc, length-append, if◌then◌else◌, arith, refl, sym, ap}, lemmas.{Bool.lt-ltb, List.{drop_all, length-map}}}
+use Rattle.std.specs.List.{concat, flat_map}
 use Rattle.tn_discipline.specs.{Characters.Characters, Entries.{entries_of, half_of}, Keys.{roles_from, mapped_key, role_or_ignored}}
-use Rattle.tn_discipline.specs.declared.{echo.Symbol.Symbol, termios.Flags.Flags}
+use Rattle.tn_discipline.specs.declared.termios.Flags.{Flags}
 use Rattle.tn_linemode.specs.{Modes.edits, Words.{payload_under, differ}}
-use Rattle.tn_codes.specs.declared.codes.Command.TheVariants.{Ga}
-use Rattle.tn_nvt.specs.declared.items.Item.{Item, TheVariants.{Byte, Newline, Cmd, Neg, Sub}}
-use Rattle.tn_option.specs.Options.{Options, options_after_cause, options_after_wish, options_after_word, known_option, place, with_place, state_of, state_or_no, is_yes}
-use Rattle.tn_option.specs.{QMethod.{cell, side_of, cause_of}, declared.{known.Known.Known, negotiation.Places.Places}}
+use Rattle.tn_nvt.specs.declared.items.Item.{Item, TheVariants.{Byte, Newline, Neg, Sub}}
+use Rattle.tn_option.specs.Options.{Options, options_after_cause, options_after_wish, options_after_word, known_option, place, with_place, state_of}
+use Rattle.tn_option.specs.{Options.{state_or_no, is_yes}, QMethod.{cell, side_of, cause_of}, declared.{known.Known.Known, negotiation.Places.Places}}
 use Rattle.tn_option.specs.declared.q_method.{OptionEvent.OptionEvent, QState.QState, Side.{Side, TheVariants.{Us, Them}}}
-use Rattle.tn_pty.specs.Terminal.{queue_with, output_symbols}
-use Rattle.tn_server.proofs.lemmas.{Courses.parts_say, Histories.gets-push}
-use Rattle.tn_server.specs.{Course.in_parts, Events.{History, next, got, took, wrote, pulled, echo_set, items, gets, limit, opening_settings}, Lines.{roles, role_at}}
-use Rattle.tn_server.specs.{Lines.{role_of_byte, entries, taken_count}, Replies.{items_said, items_at, list_replies, data_of}, Screen.{queue, shows, due, sends_ga}}
-use Rattle.tn_server.specs.{Screen.none_waits, Terms.{Terms, terms, terms_after, terms_by, options, options_after, flags, chars, chars_after, settings, mode, mask_after}}
+use Rattle.tn_pty.specs.Terminal.{queue_with}
+use Rattle.tn_server.proofs.lemmas.Histories.{gets-push}
+use Rattle.tn_server.specs.{Course.in_parts, Events.{History, next, got, took, wrote, pulled, echo_set, items, gets, limit, opening_settings}}
+use Rattle.tn_server.specs.{Lines.{roles, role_at, role_of_byte, entries, taken_count}, Replies.{items_said, items_at, list_replies, data_of}}
+use Rattle.tn_server.specs.{Screen.{queue, shows, due}, declared.wishes.Editing.Editing}
+use Rattle.tn_server.specs.Terms.{Terms, terms, terms_after, terms_by, options, options_after, flags, chars, chars_after, settings, mode, mask_after}
 use Rattle.tn_server.specs.Terms.{asked_mask_of, asks_echo, echoes, linemode, mask_told, options_with_echo, payload_at, wants_echo, wish_after, wish_at}
-use Rattle.tn_server.specs.declared.wishes.Editing.{Editing}
-use Rattle.tn_cores.specs.server.Run.{flushed_history, IsPart}
+use Rattle.tn_cores.specs.server.Run.{flushed_history}
 
 -- THE SAME LINES
 
@@ -194,17 +192,6 @@ pub record Alike (h k : History) : Type 0 where
   pub said : items_said h ≡ items_said k
   pub opened : opening_settings h ≡ opening_settings k
 
-pub alike_self : (h : History) → Alike h h
-alike_self h = record {
-  lines = lines_self h;
-  terms_are = refl;
-  flags_are = refl;
-  taken = refl;
-  queues = refl;
-  dues = refl;
-  items_are = refl;
-  said = refl;
-  opened = refl;
 }
 
 -- the settings of alike histories
@@ -232,65 +219,9 @@ pub alike_gets : (h k : History) (xs : List Item) → Alike h k → Alike (gets 
 alike_gets h k [] a = a
 alike_gets h k (x ∷ xs) a = alike_gets (next h (got x)) (next k (got x)) xs (alike_got h k x a)
 
-none_waits_by : (h k : History) → Alike h k → none_waits h ≡ none_waits k
-none_waits_by h k a = λ i. not (nat_lt (a.taken i) (length (same_entries h k a.lines i)))
-
-both_lines : (h k h' k' : History) → SameLines h k → SameLines h' h → SameLines k' k → SameLines h' k'
-both_lines h k h' k' s one two = record {
-  roles_are = one.roles_are ∙ s.roles_are ∙ sym two.roles_are;
-  limit_is = one.limit_is ∙ s.limit_is ∙ sym two.limit_is;
-  them_are = one.them_are ∙ s.them_are ∙ sym two.them_are;
-  flags_are = one.flags_are ∙ s.flags_are ∙ sym two.flags_are;
-  chars_are = one.chars_are ∙ s.chars_are ∙ sym two.chars_are;
-  mode_is = one.mode_is ∙ s.mode_is ∙ sym two.mode_is;
 }
 
-pub alike_took : (h k : History) → Alike h k → Alike (next h took) (next k took)
-alike_took h k a =
-    let s = a.lines in
-    let es = same_entries h k s in
-    let none = none_waits_by h k a in
-    record {
-      lines = both_lines h k (next h took) (next k took) s (lines_took h h (lines_self h)) (lines_took k k (lines_self k));
-      terms_are = a.terms_are;
-      flags_are = a.flags_are;
-      taken = λ i. if nat_lt (a.taken i) (length (es i)) then a.taken i + 1 else a.taken i;
-      queues = a.queues;
-      dues = λ i. if sends_ga (none i) (a.terms_are i).options (a.dues i) then false else a.dues i;
-      items_are = a.items_are;
-      said = λ i. a.said i ++ (if sends_ga (none i) (a.terms_are i).options (a.dues i) then Cmd Ga ∷ [] else []);
-      opened = a.opened;
-    }
-
--- all symbols are pulled
-pub alike_flushed : (h k : History) → Alike h k → Alike (flushed_history h) (flushed_history k)
-alike_flushed h k a = record {
-  lines = both_lines h k (flushed_history h) (flushed_history k) a.lines (lines_flushed h h (lines_self h)) (lines_flushed k k (lines_self k));
-  terms_are = a.terms_are;
-  flags_are = a.flags_are;
-  taken = a.taken;
-  queues = ap (λ (q : List Symbol). drop (length q) q) a.queues;
-  dues = λ i. a.dues i || nat_lt 0 (length (take (length (a.queues i)) (a.queues i)));
-  items_are = a.items_are;
-  said = λ i. a.said i ++ map data_of (take (length (a.queues i)) (a.queues i));
-  opened = a.opened;
 }
-
--- the echo goes on or off
-pub alike_echo : (h k : History) (on : Bool) → Alike h k → Alike (next h (echo_set on)) (next k (echo_set on))
-alike_echo h k on a =
-    let f : flags (next h (echo_set on)) ≡ flags (next k (echo_set on)) = λ i. record (a.flags_are i) { echo = on } in
-    record {
-      lines = both_lines h k (next h (echo_set on)) (next k (echo_set on)) a.lines (lines_echo h h on (lines_self h)) (lines_echo k k on (lines_self k));
-      terms_are = λ i. terms_after (f i) (a.terms_are i) (echo_set on);
-      flags_are = f;
-      taken = a.taken;
-      queues = a.queues;
-      dues = a.dues;
-      items_are = a.items_are;
-      said = λ i. a.said i ++ items_at (f i) (a.lines.chars_are i) (a.terms_are i) (echo_set on);
-      opened = a.opened;
-    }
 
 pub none_left : (h : History) → queue (flushed_history h) ≡ []
 none_left h = drop_all (length (queue h)) (queue h) (omega arith)
@@ -331,12 +262,6 @@ flat_concat : (parts : List (List ℕ)) → flat_map (λ part. part) parts ≡ c
 flat_concat [] = refl
 flat_concat (part ∷ parts) = ap (λ (bs : List ℕ). part ++ bs) (flat_concat parts)
 
--- what parts of one text send
-parts_sent : (h : History) (parts : List (List ℕ)) (text : List ℕ) → queue h ≡ [] → concat parts ≡ text → All IsPart parts
-    → items_said (in_parts h parts) ≡ items_said h ++ map data_of (output_symbols (settings h).flags text)
-parts_sent h parts text none e few =
-    (parts_say h parts none few).0 ∙ ap (λ (bs : List ℕ). items_said h ++ map data_of (output_symbols (settings h).flags bs)) (flat_concat parts ∙ e)
-
 taken_parts : (h : History) (parts : List (List ℕ)) → taken_count (in_parts h parts) ≡ taken_count h
 taken_parts h [] = refl
 taken_parts h (part ∷ parts) = taken_parts (flushed_history (next h (wrote part))) parts
@@ -352,29 +277,3 @@ flags_parts h (part ∷ parts) = flags_parts (flushed_history (next h (wrote par
 opened_parts : (h : History) (parts : List (List ℕ)) → opening_settings (in_parts h parts) ≡ opening_settings h
 opened_parts h [] = refl
 opened_parts h (part ∷ parts) = opened_parts (flushed_history (next h (wrote part))) parts
-
--- the same text, in whatever parts
-pub alike_parts : (h k : History) (parts others : List (List ℕ)) (text : List ℕ) → queue h ≡ [] → concat parts ≡ text → All IsPart parts → concat others ≡ text
-    → All IsPart others → Alike h k → Alike (in_parts h parts) (in_parts k others)
-alike_parts h k parts others text none e few f fews a =
-    let s = a.lines in
-    let none' : queue k ≡ [] = sym a.queues ∙ none in
-    let one = says_parts h parts in
-    let two = says_parts k others in
-    let sent : Flags → List Item = λ flags. map data_of (output_symbols flags text) in
-    let here = parts_sent h parts text none e few in
-    let there = parts_sent k others text none' f fews in
-    let mine : one.more ≡ sent (flags h) = append_cancel_left (items_said h) one.more (sent (flags h)) (sym one.said ∙ here) in
-    let its : two.more ≡ sent (flags k) = append_cancel_left (items_said k) two.more (sent (flags k)) (sym two.said ∙ there) in
-    let same : one.more ≡ two.more = mine ∙ ap sent a.flags_are ∙ sym its in
-    record {
-      lines = both_lines h k (in_parts h parts) (in_parts k others) s (lines_parts h h parts (lines_self h)) (lines_parts k k others (lines_self k));
-      terms_are = terms_parts h parts ∙ a.terms_are ∙ sym (terms_parts k others);
-      flags_are = flags_parts h parts ∙ a.flags_are ∙ sym (flags_parts k others);
-      taken = taken_parts h parts ∙ a.taken ∙ sym (taken_parts k others);
-      queues = (parts_say h parts none few).1 ∙ sym (parts_say k others none' fews).1;
-      dues = one.dues ∙ (λ i. a.dues i || nat_lt 0 (length (same i))) ∙ sym two.dues;
-      items_are = items_parts h parts ∙ a.items_are ∙ sym (items_parts k others);
-      said = one.said ∙ (λ i. a.said i ++ same i) ∙ sym two.said;
-      opened = opened_parts h parts ∙ a.opened ∙ sym (opened_parts k others);
-    }

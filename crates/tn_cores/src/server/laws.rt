@@ -4,7 +4,7 @@ ghost use Rattle.std.specs.Prelude.{◌≡◌, ℕ, Bool, false, Some, List, map
 ghost use Rattle.tn_discipline.specs.Canon.{Canon};
 ghost use Rattle.tn_jobs.specs.{Jobs.{Jobs, state_at}, declared.verdicts.JobState.TheVariants.Foreground};
 ghost use Rattle.tn_server.specs.declared.wishes.Editing.{Editing};
-ghost use Rattle.tn_cores.specs.{server.Agreeing.Agree, declared.faults.Ended.TheVariants.{HangUp, Fault}};
+ghost use Rattle.tn_cores.specs.declared.faults.Ended.TheVariants.{HangUp, Fault};
 ghost use Rattle.tn_cores.specs.server.{Ending.IsFaultCause, Requests.{AnswersRequests, requests_among}};
 ghost use Rattle.tn_cores.specs.server.{Echoing.{is_echoing, echo_after}, Giving.GivesPrefix};
 ghost use Rattle.tn_cores.specs.server.{Marks.{Turns, Runs, run_after_opening}, Reaching.LeadsTo};
@@ -43,15 +43,6 @@ pub fn all_goes_before_a_hang_up()
 {
     one_job_changes();
 }
-
-/// However its texts are cut into parts, a run of the same messages with the same marks sends the same
-/// and puts the same.
-pub fn runs_agree()
-    ensures { (opens : Bool) (canon : Canon) (editing : Editing) (jobs : Jobs)
-        (marked : List (Message × ServerMark)) (one two : Run) →
-        Runs (run_after_opening opens (start canon editing jobs)) marked one →
-        Runs (run_after_opening opens (start canon editing jobs)) marked two → Agree one two }
-{}
 
 /// A run ends by a fault only where the fault's cause was there: a message that reading failed, or that
 /// memory ran out; a write that failed; or a call of the end that was refused for its cause, too far

@@ -1,8 +1,8 @@
 -- Keys alone never fill the queue of a client's session.
-use Rattle.std.proofs.Common.{arith, ◌≡◌, ℕ, ◌+◌, ◌≤◌, Bool, true, false, ◌⊎◌, inl, inr, refl, sym, ap, subst}
+use Rattle.std.proofs.Common.{arith, ◌≡◌, ℕ, ◌+◌, ◌≤◌, Bool, true, false, ◌⊎◌, inl, inr, sym, ap, subst}
 use Rattle.tn_theorems.specs.progress.{Server.one, Client.{putting, closing, sent_all, piece, State, Sizes, HasPlace, unsent}}
 use Rattle.tn_theorems.specs.progress.ClientSteps.{let_go, NeverWaitsToSend, Own, may_read, handles, Outer, brings, MayWrite, MayGo, gone_on, MayBeLet, let_on}
-use Rattle.tn_theorems.specs.progress.ClientSteps.{behind, Reached, at_start, goes_on}
+use Rattle.tn_theorems.specs.progress.ClientSteps.{Reached, at_start, goes_on}
 use Rattle.tn_theorems.proofs.progress.ClientKeeps.{Holds, holds, in_hand, is_putting, still_closing}
 
 -- the writes that are not sent, and those that keys may still become
@@ -17,11 +17,6 @@ keeps_own : (sizes : Sizes) (own : Own) (s : State) → sizes.answers ≡ false 
 keeps_own sizes (handles true refused piece) s none h b (at, _, some, may) = absurd (subst (λ (a : Bool). MayWrite a piece) none may)
 keeps_own sizes may_read s none h b may = grind arith
 keeps_own sizes own s none h b may = grind arith
-
-behind_shown : (ends is_put : Bool) → is_putting (behind ends is_put) ≡ 0
-behind_shown true true = refl
-behind_shown true false = refl
-behind_shown false is_put = refl
 
 keeps_let : (sizes : Sizes) (outer : Outer) (s : State) → Bounded sizes s → MayBeLet outer s → Bounded sizes (let_on outer s)
 keeps_let sizes brings s b at = grind arith
