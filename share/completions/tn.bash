@@ -15,13 +15,6 @@ _tn() {
         before=${COMP_WORDS[COMP_CWORD - 2]}
     fi
     case $before in
-        --line-cut) mapfile -t COMPREPLY < <(compgen -W 'send end' -- "$word"); return ;;
-        --signals) mapfile -t COMPREPLY < <(compgen -W 'act send' -- "$word"); return ;;
-        --escape) mapfile -t COMPREPLY < <(compgen -W 'none' -- "$word"); return ;;
-        --keys) mapfile -t COMPREPLY < <(compgen -W 'own standard' -- "$word"); return ;;
-        --until|--metrics|--banner|--trace|--log) mapfile -t COMPREPLY < <(compgen -f -- "$word"); return ;;
-        --host|--to) mapfile -t COMPREPLY < <(compgen -A hostname -- "$word"); return ;;
-        -p|--port|--listen-fd|--limit|--per-host|--count|--ticks|--line|--idle|--longest|--drain|--notes|--dial|--width|--height|--mode|--return|-q|-w|--timeout|--again|--bind) return ;;
     esac
     if ((COMP_CWORD == 1)); then
         words='local replay decode world serve connect help -h --help -V --version'
@@ -36,10 +29,10 @@ _tn() {
             world)
                 words='-h --help' ;;
             serve)
-                words='--host -p --port --listen-fd --stdin --limit --per-host --count --forever --until --ticks --line --idle --longest --drain --proxy --local --verbose --notes --metrics --banner --to --dial --crlf --cr --line-cut --signals -h --help' ;;
+                words='-h --help' ;;
             connect)
                 if [[ $word != -* ]]; then mapfile -t COMPREPLY < <(compgen -A hostname -A service -W "$(_tn_hosts)" -- "$word"); return; fi
-                words='-p --port --width --height --line --escape --keys --mode --no-history --return --trace --log --log-times --text -q -w --timeout --again -4 --ipv4 -6 --ipv6 --bind --quiet --plain --lf --cr -h --help' ;;
+                words='-h --help' ;;
             help)
                 words='local replay decode world serve connect help' ;;
             *) return ;;

@@ -68,7 +68,7 @@ def a_port_that_is_named_wins_over_a_socket_of_systemd(world):
     serving.end()
 
 
-@case(each={"of another process": ("export LISTEN_FDS=1 LISTEN_PID=1; ", b"--port <P>, --listen-fd <N> or --stdin"),
+@case(each={"of another process": ("export LISTEN_FDS=1 LISTEN_PID=1; ", b"--port <PORT>, --listen-fd <FD> or --stdin"),
             "more than one": ("export LISTEN_FDS=2 LISTEN_PID=$$; ",
                               b"tn: LISTEN_FDS is '2', and one socket is served: name it by --listen-fd\n")})
 def sockets_of_systemd_are_not_taken(world, shell, printed):
@@ -167,7 +167,7 @@ def what_is_no_socket_is_an_error(world, descriptor, *words):
     expect(printed.startswith(b"tn: network\ntn: cannot listen on descriptor " + named + b": "), f"printed is {printed!r}")
 
 
-@case(each={"none": ("--port <P>, --listen-fd <N> or --stdin",),
+@case(each={"none": ("--port <PORT>, --listen-fd <FD> or --stdin",),
             "a port and a descriptor": ("exclude each other", "--port", "1", "--listen-fd", "3"),
             "a port and standard input": ("exclude each other", "--port", "1", "--stdin"),
             "standard input and a count": ("excludes '--count' and '--forever'", "--stdin", "--count", "2"),

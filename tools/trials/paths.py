@@ -223,7 +223,7 @@ def no_listener_is_at(world, host, why):
 
 
 @case(each={"a path and a port": ("'--port' needs a '--host' that is no path", "--host", "unix:/s", "--port", "7"),
-            "a path, a host and no port": ("--port <P>, --listen-fd <N> or --stdin", "--host", "unix:/s", "--host", "127.0.0.1"),
+            "a path, a host and no port": ("--port <PORT>, --listen-fd <FD> or --stdin", "--host", "unix:/s", "--host", "127.0.0.1"),
             "a service without a path": ("it is neither a host with a port", "--port", "7", "--to", "unix:")})
 def words_of_paths_are_refused(world, printed, *words):
     run = world.run("serve", *words)

@@ -1,8 +1,8 @@
 //! The command line that `tn` takes, as `clap` reads it.
 
-use crate::arguments::choices::{CONNECT_CHOICES, Choice, SERVE_CHOICES};
+use crate::arguments::choices::{CONNECT_GROUPS, Choice, Group, SERVE_GROUPS};
 use crate::arguments::options::{
-    AT_PLACE, CONNECT, DECODE, HOST, LOCAL, PATIENCE, PORT, REPLAY, SERVE, WAIT, WORLD, Whole,
+    AT_PLACE, CONNECT, DECODE, HOST, LOCAL, PORT, REPLAY, SERVE, WORLD, Whole,
 };
 use clap::builder::ValueParser;
 use clap::{Arg, ArgAction, Command, value_parser};
@@ -58,11 +58,11 @@ fn local_command<'a>(alloc: Global) -> Command<'a> {
     described(
         alloc,
         LOCAL,
-        "Reads typed keys, and prints the entries that they give",
-        "Reads keys from standard input, as they are typed at one terminal with standard settings, \
-         and prints the entries that its foreground job would read, one a line: `text` and the \
-         bytes of a line in hexadecimal, `eof`, `signal int`, `signal quit` or `signal tstp`. \
-         A line that no key has closed is not printed.",
+        "Print the entries that typed keys give",
+        "Read keys from standard input, as they are typed at a terminal with standard settings, and print \
+         the entries that its foreground job would read, one a line: `text` and the bytes of a line in \
+         hexadecimal, `eof`, `signal int`, `signal quit` or `signal tstp`. A line that no key has closed is \
+         not printed.",
         "Example:\n  printf 'ab\\177c\\r' | tn local\n  text 61630a",
     )
 }
@@ -71,10 +71,10 @@ fn replay_command<'a>(alloc: Global) -> Command<'a> {
     described(
         alloc,
         REPLAY,
-        "Reads a Telnet client's byte stream, and prints the entries that its keys give",
-        "Reads the byte stream of a Telnet client from standard input. Each byte of data is a key, \
-         and a new line is the line feed key; commands, option words and subnegotiations are passed \
-         over. Prints the entries as `tn local` does.",
+        "Print the entries that the keys in a Telnet client's stream give",
+        "Read the byte stream of a Telnet client from standard input. Each byte of data is a key, and a new \
+         line is the line feed key; commands, WILL, WONT, DO, DONT and subnegotiations are passed over. Print \
+         the entries as `tn local` does.",
         "Example:\n  printf '\\377\\377\\r\\0' | tn replay\n  text ff0a",
     )
 }
@@ -83,10 +83,10 @@ fn decode_command<'a>(alloc: Global) -> Command<'a> {
     described(
         alloc,
         DECODE,
-        "Reads one direction of a Telnet byte stream, and prints its items",
-        "Reads one direction of a Telnet byte stream from standard input, and prints one line for each \
-         item as it comes: data, commands, option words and subnegotiations. What is dropped or left \
-         unread is told at the end, on standard error.",
+        "Print the items of a Telnet stream",
+        "Read one direction of a Telnet byte stream from standard input, and print a line for each item as it \
+         comes: data, commands, WILL, WONT, DO, DONT and subnegotiations. What was dropped or is left unread \
+         is printed at the end, on standard error.",
         "Example:\n  printf 'ls\\377\\373\\042' | tn decode",
     )
 }
@@ -95,18 +95,18 @@ fn world_command<'a>(alloc: Global) -> Command<'a> {
     described(
         alloc,
         WORLD,
-        "Does a script of what happens at a Telnet server, at its client and between them",
-        "Reads a script from standard input, one command a line, and does it in a world of one server, \
-             one client and the bytes on their way between them. Empty lines are passed over. HEX is pairs \
-             of digits in lower case; N is a number up to 1,000,000, and up to 65,535 in `resize`, where \
-             zeros may lead; F is one of `ip`, `abort`, `eof`, `susp`, `ec`, `el`, `forw1` and `forw2`.\n\n\
+        "Run a script of a server, a client and the bytes between them",
+        "Read a script from standard input, one command a line, and run it in a world of one server, one \
+             client and the bytes on their way between them. Empty lines are passed over. HEX is pairs of \
+             digits in lower case; N is a number up to 1,000,000, or up to 65,535 in `resize`, with leading \
+             zeros if you like; F is one of `ip`, `abort`, `eof`, `susp`, `ec`, `el`, `forw1` and `forw2`.\n\n\
              key HEX: the user types these keys\n\
              send brk, send ip, send ayt, send nop: the user sends this command\n\
              to-server N, to-client N: the first N bytes in flight arrive\n\
              settle: all that is in flight arrives, until nothing is in flight, in at most 64 rounds\n\
              write HEX: the job writes this\n\
              pull N: the server sends the first N symbols of the terminal's screen\n\
-             wish local, wish remote: the server asks for editing at one side\n\
+             wish local, wish remote: the server requests editing at the client, or at itself\n\
              echo on, echo off: the server sets its terminal's flag ECHO\n\
              mask HEX, mask off: the server sends a forward mask of at most 32 octets, or drops it\n\
              resize N N: the client's window has this width and height\n\
@@ -124,87 +124,102 @@ fn serve_command<'a>(alloc: Global) -> Result<Command<'a>, AllocError> {
     let command = described(
         alloc,
         SERVE,
-        "Serves Telnet with LINEMODE, and writes each line back",
-        "Listens on a port of 127.0.0.1, or of each address of `--host`, and gives each connection a \
-         terminal with standard settings. Its job writes each line back; the line `exit` and the end of \
-         file (^D on an empty line) end the session with `bye`, an interrupt (^C) writes `int`, a quit \
-         (^\\) `quit`, and a stop (^Z) `tstp`. One connection more than a limit is told `full` and \
-         closed.\n\n\
-         It ends by itself, with status 0, once it has taken as many connections as were asked for and \
-         each of their sessions has ended; with `--forever` it serves until it is stopped, and with `--until` \
-         until a file is there.",
+        "Serve Telnet with LINEMODE",
+        "Listen on a port of 127.0.0.1, or of each --host, and give each connection a terminal with standard \
+         settings. Its job writes each line back, unless --to names a service; the line `exit` and the end of \
+         file (^D on an empty line) end the session with `bye`, an interrupt (^C) writes `int`, a quit (^\\) \
+         `quit`, and a stop (^Z) `tstp`. A connection that exceeds a limit gets `full` and is closed.\n\n\
+         The server ends with status 0 once it has taken --count connections and their sessions have ended; \
+         with --forever after a signal, and with --until once the file is there.",
         "Example:\n  tn serve --port 2323 --count 2\n\nAnd in another terminal, one after the other:\n  \
          tn connect --port 2323\n  telnet 127.0.0.1 2323",
     );
-    with_choices(alloc, command, SERVE_CHOICES)
+    with_groups(alloc, command, SERVE_GROUPS)
 }
 
 fn connect_command<'a>(alloc: Global) -> Result<Command<'a>, AllocError> {
     let command = described(
         alloc,
         CONNECT,
-        "Joins a Telnet server, as a client with LINEMODE",
-        "Connects to HOST, which is a name or an address, IPv4 or IPv6, at port 23 or at another one; \
-         without HOST to a port of this machine. Standard input is the keys, as they are typed, and \
-         standard output the screen. If the server asks for it, and at a terminal also while it takes whole lines, lines are edited here and sent whole. \
-         At the end of its input it sends what is left, tells the server that no more comes, and ends once \
-         the server has closed.\n\n\
-         At a terminal, start it by its launcher (`tn connect` once installed, `./tn connect` in the sources), which sets the terminal so that each key is sent at \
-         once, and sets it back at the end. With `tn serve` at the other end, the line `exit` ends the \
-         session, and so does ^D on an empty line.\n\n\
-         There ^] begins a line to the client itself, which RETURN ends: quit, close or q; again; status or s; suspend or z; \
-         log FILE and log off; mode auto and mode char; send brk, send ip and send ayt, or b, i and a, but with --plain; help or ?. An empty \
-         line goes back, and ^] again sends ^].",
+        "Connect to a Telnet server",
+        "Connect to HOST, at port 23 or PORT; without HOST to a port of this machine. Standard input is the \
+         keys, as they are typed, and standard output the screen. Lines are edited here and sent whole if the \
+         server asks for it, and at a terminal also while the server takes whole lines. At the end of input \
+         the client sends what is left, closes its side of the connection, and ends once the server has \
+         closed the other.\n\n\
+         At a terminal, start it by its launcher (`tn connect` once installed, `./tn connect` in the sources), \
+         which sets the terminal so that each key is sent at once, and sets it back at the end.\n\n\
+         At a terminal ^] begins a line to the client itself, which RETURN ends: quit, close or q; again; \
+         status or s; suspend or z; log FILE and log off; mode auto and mode char; send brk, send ip and send \
+         ayt, or b, i and a, unless --plain is given; help or ?. An empty line goes back, and ^] again sends \
+         ^].",
         "Example, where `tn serve --port 2323` runs in another terminal:\n  \
          printf 'hello\\rexit\\r' | tn connect --port 2323",
     );
-    with_choices(alloc, command, CONNECT_CHOICES)
+    with_groups(alloc, command, CONNECT_GROUPS)
 }
 
-// The command with these choices.
-fn with_choices<'a>(
+// The command with these options.
+fn with_groups<'a>(
     alloc: Global,
     command: Command<'a>,
-    choices: &[Choice],
+    groups: &[Group],
 ) -> Result<Command<'a>, AllocError> {
     let mut command = command;
-    for choice in choices {
-        command = command.arg(choice_arg(alloc, *choice))?;
+    for group in groups {
+        for choice in group.choices {
+            let argument = argument_of(alloc, *choice);
+            command = command.arg(match group.heading {
+                Some(heading) => argument.help_heading(heading),
+                None => argument,
+            })?;
+        }
     }
     Ok(command)
 }
 
 // The argument by which the parser knows a choice.
-fn choice_arg<'a>(alloc: Global, choice: Choice) -> Arg<'a> {
+fn argument_of<'a>(alloc: Global, choice: Choice) -> Arg<'a> {
     match choice {
         Choice::Flag(name, help) => flag_option(alloc, name, help),
         Choice::Letter(name, letter, help) => flag_option(alloc, name, help).short(letter),
-        Choice::Text(name, value_name, help) => text_option(alloc, name, value_name, help),
-        Choice::Number(whole, help) => optional_number(alloc, whole, help),
-        Choice::Default(whole, default, help) => whole_option(alloc, whole, default, help),
-        Choice::Host => host_option(alloc),
-        Choice::ListenPort => port_option(alloc, "The port to listen on"),
-        Choice::HostPlace => host_place(alloc),
-        Choice::PortPlace => port_place(alloc),
-        Choice::Port => port_option(
-            alloc,
-            "The port, in place of the one behind HOST or within it",
-        ),
-        Choice::Wait => wait_option(alloc),
-        Choice::Patience => patience_option(alloc),
+        Choice::Text(name, value, help) => text_option(alloc, name, value, help),
+        Choice::Number(whole, value, help) => number_option(alloc, whole, value, help),
+        Choice::Default(whole, value, default, help) => {
+            number_option(alloc, whole, value, help).default_value(default)
+        },
+        Choice::Hosts(help) => text_option(alloc, HOST, "HOST", help)
+            .default_value("127.0.0.1")
+            .action(ArgAction::Append),
+        Choice::Port(help) => number_option(alloc, PORT, "PORT", help).short('p'),
+        Choice::HostPlace(help) => Arg::new(alloc, HOST).value_name("HOST").help(help),
+        Choice::PortPlace(help) => Arg::new(alloc, AT_PLACE).value_name("PORT").help(help),
+        Choice::Seconds(whole, letter, help) => number_value(alloc, whole, "SECONDS", help)
+            .short(letter)
+            .default_value("0"),
     }
 }
 
 // An argument that takes a whole number.
-fn number_place<'a>(alloc: Global, whole: Whole) -> Arg<'a> {
+fn number_value<'a>(
+    alloc: Global,
+    whole: Whole,
+    value: &'static str,
+    help: &'static str,
+) -> Arg<'a> {
     Arg::new(alloc, whole.name)
-        .value_name("N")
+        .value_name(value)
         .value_parser(reader(whole))
+        .help(help)
 }
 
-// An option that does.
-fn number_option<'a>(alloc: Global, whole: Whole) -> Arg<'a> {
-    number_place(alloc, whole).long(whole.name)
+fn number_option<'a>(
+    alloc: Global,
+    whole: Whole,
+    value: &'static str,
+    help: &'static str,
+) -> Arg<'a> {
+    number_value(alloc, whole, value, help).long(whole.name)
 }
 
 // The parser for the number of such an option.
@@ -212,88 +227,16 @@ fn reader<'a>(whole: Whole) -> ValueParser<'a> {
     value_parser!(u32).range(i64::from(whole.least)..=i64::from(whole.most))
 }
 
-// The same, with a default value.
-fn whole_option<'a>(
-    alloc: Global,
-    whole: Whole,
-    default: &'static str,
-    help: &'static str,
-) -> Arg<'a> {
-    number_option(alloc, whole)
-        .default_value(default)
-        .help(help)
-}
-
-// An option for a port that need not be given.
-fn port_option<'a>(alloc: Global, help: &'static str) -> Arg<'a> {
-    number_option(alloc, PORT)
-        .short('p')
-        .value_name("P")
-        .help(help)
-}
-
-// How long to wait at the end of the keys.
-fn wait_option<'a>(alloc: Global) -> Arg<'a> {
-    number_place(alloc, WAIT)
-        .short('q')
-        .value_name("SECONDS")
-        .default_value("0")
-        .help("At the end of its input, waits so long before the server is told that no more comes")
-}
-
-// How long to wait for more of the server after that.
-fn patience_option<'a>(alloc: Global) -> Arg<'a> {
-    number_place(alloc, PATIENCE)
-        .short('w')
-        .value_name("SECONDS")
-        .default_value("0")
-        .help("After that, leaves once nothing has come for this many seconds; 0 never does")
-}
-
-// An option for a number that need not be given.
-fn optional_number<'a>(alloc: Global, whole: Whole, help: &'static str) -> Arg<'a> {
-    number_option(alloc, whole).help(help)
-}
-
-// An option that takes a text.
 fn text_option<'a>(
     alloc: Global,
     name: &'static str,
-    value_name: &'static str,
+    value: &'static str,
     help: &'static str,
 ) -> Arg<'a> {
     Arg::new(alloc, name)
         .long(name)
-        .value_name(value_name)
+        .value_name(value)
         .help(help)
-}
-
-// The addresses to listen on.
-fn host_option<'a>(alloc: Global) -> Arg<'a> {
-    text_option(
-        alloc,
-        HOST,
-        "H",
-        "The address to listen on, or a name that has one, or unix:PATH; may be given more than once",
-    )
-    .default_value("127.0.0.1")
-    .action(ArgAction::Append)
-}
-
-// The host to connect to, which has no name before it.
-fn host_place<'a>(alloc: Global) -> Arg<'a> {
-    Arg::new(alloc, HOST).value_name("HOST").help(
-        "The host to connect to, a name or an address, HOST:PORT or [ADDRESS]:PORT, or a name that \
-         ~/.config/tn/hosts has; without it this machine",
-    )
-}
-
-// The port behind that host.
-fn port_place<'a>(alloc: Global) -> Arg<'a> {
-    Arg::new(alloc, AT_PLACE).value_name("PORT").help(
-        "The port to connect to, a number or the name of a service, as smtp; 23 where a HOST is given and no \
-         port",
-    )
 }
 
 // An option without a value.

@@ -30,7 +30,7 @@ const NO_LINE_END: &str = "'--lf' and '--cr' exclude each other, and need '--pla
 const NO_TELNET: &str = "'--plain' excludes '--mode', '--return', '--width' and '--height'";
 
 const NO_ESCAPE: &str =
-    "'--escape <C>': it is neither `none` nor a caret and one of A to Z, [, \\, ], ^ and _";
+    "'--escape <KEY>': it is neither `none` nor a caret and one of A to Z, [, \\, ], ^ and _";
 
 const NO_RETURN: &str = "'--return <BYTES>': it is none of `crnul`, `crlf` and `lf`";
 

@@ -1,13 +1,15 @@
 //! Which options take no value.
 
-use crate::arguments::choices::{CONNECT_CHOICES, Choice};
+use crate::arguments::choices::{CONNECT_GROUPS, Choice};
 
 /// Whether an option of `tn connect` that has this name takes no value.
 pub fn is_connect_flag(name: &str) -> bool {
-    for choice in CONNECT_CHOICES {
-        match choice {
-            Choice::Flag(flag, _) | Choice::Letter(flag, _, _) if *flag == name => return true,
-            _ => {},
+    for group in CONNECT_GROUPS {
+        for choice in group.choices {
+            match choice {
+                Choice::Flag(flag, _) | Choice::Letter(flag, _, _) if *flag == name => return true,
+                _ => {},
+            }
         }
     }
     name == "help"

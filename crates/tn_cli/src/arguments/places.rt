@@ -18,7 +18,7 @@ const THIS_MACHINE: &str = "127.0.0.1";
 const TELNET_PORT: u16 = 23;
 
 const NO_PORT: &str =
-    "the following required arguments were not provided:\n  HOST, or --port <P>\n\n\
+    "the following required arguments were not provided:\n  HOST, or --port <PORT>\n\n\
      Usage: tn connect [OPTIONS] [HOST] [PORT]";
 
 const MORE_PORTS: &str = "more than one port is given\n\nUsage: tn connect [OPTIONS] [HOST] [PORT]";

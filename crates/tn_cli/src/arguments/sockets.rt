@@ -17,7 +17,7 @@ use tn_net::network::names_path;
 const STANDARD_INPUT: u16 = 0;
 
 const NO_SOCKET: &str =
-    "the following required arguments were not provided:\n  --port <P>, --listen-fd <N> or --stdin\n\n\
+    "the following required arguments were not provided:\n  --port <PORT>, --listen-fd <FD> or --stdin\n\n\
      Usage: tn serve [OPTIONS]";
 
 const MORE_SOCKETS: &str = "'--port', '--listen-fd' and '--stdin' exclude each other";

@@ -310,8 +310,8 @@ fn words_ask_for_help(rt: HostRuntime) {
 /// Lines that are refused, with what is told of them.
 const TOLD: &[(&str, &str)] = &[
     ("tn local x", "unexpected argument 'x' found"),
-    ("tn connect --port x", "invalid value 'x' for '--port <P>'"),
-    ("tn connect", "HOST, or --port <P>"),
+    ("tn connect --port x", "invalid value 'x' for '--port <PORT>'"),
+    ("tn connect", "HOST, or --port <PORT>"),
     ("tn connect h:7 7", "more than one port is given"),
     ("tn connect h:x", "invalid value 'h:x' for '[HOST]'"),
     ("tn connect h --cr", "need '--plain'"),
@@ -331,9 +331,9 @@ const TOLD: &[(&str, &str)] = &[
     ),
     (
         "tn connect h --escape ^1",
-        "invalid value '^1' for '--escape <C>'",
+        "invalid value '^1' for '--escape <KEY>'",
     ),
-    ("tn serve", "--port <P>, --listen-fd <N> or --stdin"),
+    ("tn serve", "--port <PORT>, --listen-fd <FD> or --stdin"),
     (
         "tn serve --stdin -p 7",
         "'--port', '--listen-fd' and '--stdin' exclude each other",
